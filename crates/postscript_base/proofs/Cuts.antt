@@ -29,14 +29,17 @@ wants (Got value next) = false
 wants (Fault refusal) = is_end refusal
 wants Past = false
 
-wants_after : {A B : Type 0} (o : Outcome A) (f : A → ℕ → Outcome B) → ((value : A) (next : ℕ) → wants (f value next) ≡ false) → wants (after o f) ≡ wants o
+wants_after : {A B : Type 0} (o : Outcome A) (f : A → ℕ → Outcome B) → ((value : A) (next : ℕ) → wants (f value next) ≡ false) →
+    wants (after o f) ≡ wants o
 wants_after o f h = grind arith
 
 wants_number : (size : ℕ) (bytes : List ℕ) (place : ℕ) → wants (unsigned size bytes place) ≡ nat_lt (length (drop place bytes)) size
 unfolding unsigned slice
-wants_number size bytes place = wants_after (slice size bytes place) _ (λ value next. refl) ∙ rw (length-drop place bytes) (grind (arith, nat_tests))
+wants_number size bytes place =
+    wants_after (slice size bytes place) _ (λ value next. refl) ∙ rw (length-drop place bytes) (grind (arith, nat_tests))
 
-wants_ended : (all rest text : List ℕ) (next : ℕ) → drop (prefix_len is_in_text all) all ≡ rest → wants (ended_by rest text next) ≡ is_open all
+wants_ended : (all rest text : List ℕ) (next : ℕ) → drop (prefix_len is_in_text all) all ≡ rest →
+    wants (ended_by rest text next) ≡ is_open all
 wants_ended all rest text next e = by rest (sym (length-drop (prefix_len is_in_text all) all) ∙ ap length e)
   where
     by : (rest : List ℕ) → length all - prefix_len is_in_text all ≡ length rest → wants (ended_by rest text next) ≡ is_open all
@@ -49,15 +52,18 @@ wants_text bytes place = grind (arith, wants_ended)
 wants_valued : (o : Option Real) (bytes : List ℕ) (place : ℕ) → wants (valued o bytes place) ≡ false
 wants_valued o bytes place = grind arith
 
-wants_if : {A : Type 0} (b : Bool) (x y : Reading A) (bytes : List ℕ) (place : ℕ) (s t : Bool) → wants (x bytes place) ≡ s → wants (y bytes place) ≡ t → wants ((if b then x else y) bytes place) ≡ (if b then s else t)
+wants_if : {A : Type 0} (b : Bool) (x y : Reading A) (bytes : List ℕ) (place : ℕ) (s t : Bool) → wants (x bytes place) ≡ s →
+    wants (y bytes place) ≡ t → wants ((if b then x else y) bytes place) ≡ (if b then s else t)
 wants_if b x y bytes place s t h g = grind arith
 
-wants_of : {A : Type 0} (size : ℕ) (f : ℕ → A) (bytes : List ℕ) (place : ℕ) → wants ((unsigned size >>= λ n. pure (f n)) bytes place) ≡ nat_lt (length (drop place bytes)) size
+wants_of : {A : Type 0} (size : ℕ) (f : ℕ → A) (bytes : List ℕ) (place : ℕ) →
+    wants ((unsigned size >>= λ n. pure (f n)) bytes place) ≡ nat_lt (length (drop place bytes)) size
 wants_of size f bytes place = wants_after (unsigned size bytes place) _ (λ value next. refl) ∙ wants_number size bytes place
 
 wants_real : (bytes : List ℕ) (place : ℕ) → wants (real bytes place) ≡ is_open (nibbles (drop place bytes))
 unfolding real
-wants_real bytes place = wants_after (text_of_real bytes place) _ (λ value next. wants_valued (real_of value) bytes next) ∙ wants_text bytes place
+wants_real bytes place =
+    wants_after (text_of_real bytes place) _ (λ value next. wants_valued (real_of value) bytes next) ∙ wants_text bytes place
 
 wants_begun : (first : ℕ) (bytes : List ℕ) (place : ℕ) → wants (begun first bytes place) ≡ is_cut_operand first (drop place bytes)
 wants_begun first bytes place =
@@ -92,16 +98,19 @@ found_operator operands operator next = Got (Some operator, operands) next
 
 -- What stands at a place: where an operand begins, a number, and no operator; else an operator, and no number.
 pub data Stands (bytes : List ℕ) (place : ℕ) : Type 0 where
-  a_number : begins (drop place bytes) ≡ true → ((operands : List Decimal) → step operands bytes place ≡ after (number bytes place) (found_operand operands))
+  a_number : begins (drop place bytes) ≡ true →
+      ((operands : List Decimal) → step operands bytes place ≡ after (number bytes place) (found_operand operands))
       → wants (number bytes place) ≡ is_cut (drop place bytes) → operator bytes place ≡ Fault unknown_operator → Stands bytes place
-  an_operator : (refusal : Refusal) → begins (drop place bytes) ≡ false → ((operands : List Decimal) → step operands bytes place ≡ after (operator bytes place) (found_operator operands))
+  an_operator : (refusal : Refusal) → begins (drop place bytes) ≡ false →
+      ((operands : List Decimal) → step operands bytes place ≡ after (operator bytes place) (found_operator operands))
       → wants (operator bytes place) ≡ is_cut (drop place bytes) → number bytes place ≡ Fault refusal → Stands bytes place
 
 -- where an operand begins only it is cut, and elsewhere only an operator
 cut_operand : (first : ℕ) (rest : List ℕ) → begins_operand first ≡ true → is_cut_operand first rest ≡ is_cut (first ∷ rest)
 cut_operand first rest h = grind (arith, nat_tests)
 
-cut_operator : (first : ℕ) (rest : List ℕ) → begins_operand first ≡ false → ((first == 0x0c) && nat_lt (length rest) 1) ≡ is_cut (first ∷ rest)
+cut_operator : (first : ℕ) (rest : List ℕ) → begins_operand first ≡ false →
+    ((first == 0x0c) && nat_lt (length rest) 1) ≡ is_cut (first ∷ rest)
 cut_operator first rest h = grind (arith, nat_tests)
 
 at_byte : (bytes rest : List ℕ) (place first : ℕ) → first ∷ rest ≡ drop place bytes → Stands bytes place
@@ -122,10 +131,12 @@ at_byte bytes rest place first e = by (begins_operand first) refl
 
     by : (b : Bool) → begins_operand first ≡ b → Stands bytes place
     by true h = a_number (ap begins (sym e) ∙ h) (λ operands. rw (got, h) refl)
-        (ap wants number_is ∙ wants_begun first bytes (place + 1) ∙ ap (is_cut_operand first) there ∙ cut_operand first rest h ∙ ap is_cut e)
+        (ap wants number_is ∙ wants_begun first bytes (place + 1) ∙ ap (is_cut_operand first) there ∙ cut_operand first rest h
+        ∙ ap is_cut e)
         (operator_is ∙ (grind (arith, nat_tests, unknown)))
     by false h = an_operator malformed_number (ap begins (sym e) ∙ h) (λ operands. rw (got, h) refl)
-        (ap wants operator_is ∙ (grind (arith, wants_after, wants_number)) ∙ ap (λ rest. (first == 0x0c) && nat_lt (length rest) 1) there ∙ cut_operator first rest h ∙ ap is_cut e)
+        (ap wants operator_is ∙ (grind (arith, wants_after, wants_number)) ∙ ap (λ rest. (first == 0x0c) && nat_lt (length rest) 1) there
+        ∙ cut_operator first rest h ∙ ap is_cut e)
         (number_is ∙ (grind (arith, nat_tests)))
 
 pub stands : (bytes : List ℕ) (place : ℕ) → Stands bytes place
@@ -133,7 +144,9 @@ unfolding step number
 stands bytes place = by (drop place bytes) refl
   where
     by : (rest : List ℕ) → rest ≡ drop place bytes → Stands bytes place
-    by [] e = let none = byte_none bytes place e in an_operator unexpected_eof (ap begins (sym e)) (λ operands. rw none refl) (rw none (ap is_cut e)) (rw none refl)
+    by [] e =
+        let none = byte_none bytes place e in
+        an_operator unexpected_eof (ap begins (sym e)) (λ operands. rw none refl) (rw none (ap is_cut e)) (rw none refl)
     by (first ∷ rest) e = at_byte bytes rest place first e
 
 -- a step is refused at the end of the input exactly where the end cuts
@@ -150,21 +163,24 @@ pub cut_step : (front : List Decimal) (bytes : List ℕ) (place : ℕ) → is_cu
 cut_step front bytes place cut = is_fault (step front bytes place) (wants_step front bytes place ∙ cut)
 
 -- an operand is a step
-pub operand_step : (front : List Decimal) (bytes : List ℕ) (place : ℕ) (operand : Decimal) (next : ℕ) → number bytes place ≡ Got operand next → step front bytes place ≡ Got (None, front ++ operand ∷ []) next
+pub operand_step : (front : List Decimal) (bytes : List ℕ) (place : ℕ) (operand : Decimal) (next : ℕ) →
+    number bytes place ≡ Got operand next → step front bytes place ≡ Got (None, front ++ operand ∷ []) next
 operand_step front bytes place operand next e = elim (stands bytes place) [
   | a_number b s w n ↦ s front ∙ ap (λ o. after o (found_operand front)) e
   | an_operator refusal b s w n ↦ let never : Fault refusal ≡ Got operand next = sym n ∙ e in absurd (cc)
 ]
 
 -- an operator is a step
-pub operator_step : (front : List Decimal) (bytes : List ℕ) (place : ℕ) (o : Operator) (next : ℕ) → operator bytes place ≡ Got o next → step front bytes place ≡ Got (Some o, front) next
+pub operator_step : (front : List Decimal) (bytes : List ℕ) (place : ℕ) (o : Operator) (next : ℕ) → operator bytes place ≡ Got o next →
+    step front bytes place ≡ Got (Some o, front) next
 operator_step front bytes place o next e = elim (stands bytes place) [
   | a_number b s w n ↦ let never : Fault unknown_operator ≡ Got o next = sym n ∙ e in absurd (cc)
   | an_operator refusal b s w n ↦ s front ∙ ap (λ o. after o (found_operator front)) e
 ]
 
 -- what is refused is a step that is refused
-pub bad_step : (front : List Decimal) (bytes : List ℕ) (place : ℕ) (refusal : Refusal) → BadAt bytes place refusal → step front bytes place ≡ Fault refusal
+pub bad_step : (front : List Decimal) (bytes : List ℕ) (place : ℕ) (refusal : Refusal) → BadAt bytes place refusal →
+    step front bytes place ≡ Fault refusal
 bad_step front bytes place refusal bad = grind (arith, stands)
 
 pub bad_cut : (bytes : List ℕ) (place : ℕ) (refusal : Refusal) → BadAt bytes place refusal → is_cut (drop place bytes) ≡ is_end refusal
@@ -172,7 +188,8 @@ bad_cut bytes place refusal bad = sym (wants_step [] bytes place) ∙ ap wants (
 
 -- what a step has read: an operand, an operator, or what is refused
 abbrev pub IsStep : List Decimal → List ℕ → ℕ → Outcome Found → Type 0
-IsStep front bytes place (Got (None, all) next) = (operand : Decimal) × (all ≡ front ++ operand ∷ []) × (number bytes place ≡ Got operand next)
+IsStep front bytes place (Got (None, all) next) =
+    (operand : Decimal) × (all ≡ front ++ operand ∷ []) × (number bytes place ≡ Got operand next)
 IsStep front bytes place (Got (Some o, all) next) = (all ≡ front) × (operator bytes place ≡ Got o next)
 IsStep front bytes place (Fault refusal) = BadAt bytes place refusal
 IsStep front bytes place Past = ⊥

@@ -36,12 +36,14 @@ operands_hold = refl
 pub quintillion : operand_of (pos (10 ^ 18)) (pos 0) ≡ Some (at (pos 1) (pos 18))
 quintillion =
     let canonical : IsCanonical (pos 1) (pos 18) = record { zero_alone = λ no. absurd cc; no_last_zero = λ no. absurd (omega arith) } in
-    let operand : IsOperand (pos 1) (pos 18) = record { canonical = canonical; few_digits = omega arith; low = omega (arith, ints); high = omega (arith, ints) } in
+    let operand : IsOperand (pos 1)
+    (pos 18) = record { canonical = canonical; few_digits = omega arith; low = omega (arith, ints); high = omega (arith, ints) } in
     sym (finds_operand (Some (at (pos 1) (pos 18))) (pos (10 ^ 18)) (pos 0) (operand, refl) tt)
 
 pub past_quintillion : operand_of (pos (10 ^ 18 + 1)) (pos 0) ≡ None
 past_quintillion =
-    let canonical : IsCanonical (pos (10 ^ 18 + 1)) (pos 0) = record { zero_alone = λ no. refl; no_last_zero = λ no. absurd (omega arith) } in
+    let canonical : IsCanonical (pos (10 ^ 18 + 1))
+    (pos 0) = record { zero_alone = λ no. refl; no_last_zero = λ no. absurd (omega arith) } in
     sym (finds_operand None (pos (10 ^ 18 + 1)) (pos 0) tt (λ n f operand same.
     let is = one_form n f (pos (10 ^ 18 + 1)) (pos 0) operand.canonical canonical same in
     let few = operand.few_digits in
@@ -88,10 +90,13 @@ spelled = refl
 worth : value_of written ≡ at (neg_ℤ (pos 225)) (neg_ℤ (pos 5))
 worth = refl
 
-offsets : map (λ (row : ℕ × List ℕ). offset row.0 row.1 0) ((3, 4 ∷ 5 ∷ 6 ∷ []) ∷ (0, 4 ∷ []) ∷ (5, []) ∷ []) ≡ Got 0x040506 3 ∷ Fault malformed_offset ∷ Fault malformed_offset ∷ []
+offsets : map (λ (row : ℕ × List ℕ). offset row.0 row.1 0)
+    ((3, 4 ∷ 5 ∷ 6 ∷ []) ∷ (0, 4 ∷ []) ∷ (5, []) ∷ []) ≡ Got 0x040506 3 ∷ Fault malformed_offset ∷ Fault malformed_offset ∷ []
 unfolding offset unsigned slice
 offsets = refl
 
-headers : map (λ (bytes : List ℕ). header bytes 0) ((1 ∷ 0 ∷ 4 ∷ 2 ∷ []) ∷ (1 ∷ 0 ∷ 4 ∷ []) ∷ []) ≡ Got (record { major = 1; minor = 0; header_size = 4; offset_size = 2 }) 4 ∷ Fault unexpected_eof ∷ []
+headers : map (λ (bytes : List ℕ). header bytes 0)
+    ((1 ∷ 0 ∷ 4 ∷ 2 ∷ []) ∷ (1 ∷ 0 ∷ 4 ∷ []) ∷ []) ≡ Got
+    (record { major = 1; minor = 0; header_size = 4; offset_size = 2 }) 4 ∷ Fault unexpected_eof ∷ []
 unfolding header unsigned slice
 headers = refl

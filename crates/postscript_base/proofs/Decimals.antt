@@ -51,11 +51,16 @@ pub record Meets (m e m' e' : ℤ) (i j : ℕ) : Type 0 where
   pub place : e +ℤ pos j ≡ e' +ℤ pos i
   pub value : scaled m i ≡ scaled m' j
 
-pub IsSameValue-meets : (m e m' e' : ℤ) → IsSameValue m e m' e' → Meets m e m' e' (unsigned_abs (e -ℤ int_min e e')) (unsigned_abs (e' -ℤ int_min e e'))
+pub IsSameValue-meets : (m e m' e' : ℤ) → IsSameValue m e m' e' → Meets m e m' e' (unsigned_abs (e -ℤ int_min e e'))
+    (unsigned_abs (e' -ℤ int_min e e'))
 IsSameValue-meets m e m' e' h = record { place = omega (arith, ints, clamps); value = h }
 
 above : (m e m' e' : ℤ) (i j t : ℕ) → Meets m e m' e' (i + t) (j + t) → Meets m e m' e' i j
-above m e m' e' i j t h = record { place = let p = h.place in omega (arith, ints); value = scaled_cancel (scaled m i) (scaled m' j) t (scaled-scaled m i t ∙ h.value ∙ sym (scaled-scaled m' j t)) }
+above m e m' e' i j t h =
+    record {
+      place = let p = h.place in omega (arith, ints);
+      value = scaled_cancel (scaled m i) (scaled m' j) t (scaled-scaled m i t ∙ h.value ∙ sym (scaled-scaled m' j t));
+    }
 
 pub meets-IsSameValue : (m e m' e' : ℤ) (i j : ℕ) → Meets m e m' e' i j → IsSameValue m e m' e'
 meets-IsSameValue m e m' e' i j h =
@@ -108,10 +113,12 @@ one_form m e m' e' c d h = go (unsigned_abs (e -ℤ int_min e e')) (unsigned_abs
           let place = p.place in
           (scaled_cancel m m' i v, omega (arith, ints))
       | inr (inl lt) ↦
-          let v : scaled m i ≡ scaled (scaled m' (suc (j - i - 1))) i = p.value ∙ ap (scaled m') (omega arith) ∙ sym (scaled-scaled m' (suc (j - i - 1)) i) in
+          let v : scaled m i ≡ scaled (scaled m' (suc (j - i - 1))) i = p.value ∙ ap (scaled m') (omega arith)
+          ∙ sym (scaled-scaled m' (suc (j - i - 1)) i) in
           both_zero m e m' e' i (j - i - 1) c d (scaled_cancel m _ i v)
       | inr (inr lt) ↦
-          let v : scaled m' j ≡ scaled (scaled m (suc (i - j - 1))) j = sym p.value ∙ ap (scaled m) (omega arith) ∙ sym (scaled-scaled m (suc (i - j - 1)) j) in
+          let v : scaled m' j ≡ scaled (scaled m (suc (i - j - 1))) j = sym p.value ∙ ap (scaled m) (omega arith)
+          ∙ sym (scaled-scaled m (suc (i - j - 1)) j) in
           let r = both_zero m' e' m e j (i - j - 1) d c (scaled_cancel m' _ j v) in
           (sym r.0, sym r.1)
     ]
@@ -123,16 +130,20 @@ ten_more r z h = grind (arith, nat_tests, common_steps, mul_assoc, mul_comm, pow
 scaled_sign : (m : ℤ) (d z : ℕ) → unsigned_abs m ≡ d * 10 ^ z → scaled (signed (lt_z m (pos 0)) d) z ≡ scaled m 0
 scaled_sign m d z e = grind arith
 
-pub stripped_same : (m e : ℤ) (b : Bool) (n d z : ℕ) (x : ℤ) → b ≡ lt_z m (pos 0) → n ≡ unsigned_abs m → n ≡ d * 10 ^ z → x ≡ e +ℤ pos z → IsSameValue (signed b d) x m e
-stripped_same m e b n d z x sign size whole place = rw (sign, place) (meets-IsSameValue _ _ m e z 0 (record { place = omega (arith, ints); value = scaled_sign m d z (sym size ∙ whole) }))
+pub stripped_same : (m e : ℤ) (b : Bool) (n d z : ℕ) (x : ℤ) → b ≡ lt_z m (pos 0) → n ≡ unsigned_abs m → n ≡ d * 10 ^ z → x ≡ e +ℤ pos z →
+    IsSameValue (signed b d) x m e
+stripped_same m e b n d z x sign size whole place =
+    rw (sign, place) (meets-IsSameValue _ _ m e z 0 (record { place = omega (arith, ints); value = scaled_sign m d z (sym size ∙ whole) }))
 
 pub stripped_canonical : (m : ℤ) (b : Bool) (n d z : ℕ) (x : ℤ) → n ≡ d * 10 ^ z → d % 10 ≢ 0 → IsCanonical (signed b d) x
 stripped_canonical m b n d z x whole last = grind arith
 
-pub some_same : (r : Option Decimal) (s x m e : ℤ) → IfSome r (λ o. (o.mantissa ≡ s) × (o.exponent ≡ x)) → IfSome r HasOperand → IsSameValue s x m e → IfSome r (λ o. HasOperand o × IsSameValue o.mantissa o.exponent m e)
+pub some_same : (r : Option Decimal) (s x m e : ℤ) → IfSome r (λ o. (o.mantissa ≡ s) × (o.exponent ≡ x)) → IfSome r HasOperand →
+    IsSameValue s x m e → IfSome r (λ o. HasOperand o × IsSameValue o.mantissa o.exponent m e)
 some_same r s x m e p operand h = grind arith
 
-pub none_same : (r : Option Decimal) (s x m e : ℤ) → IfNone r (IsOperand s x → ⊥) → IsCanonical s x → IsSameValue s x m e → IfNone r ((n f : ℤ) → IsOperand n f → IsSameValue n f m e → ⊥)
+pub none_same : (r : Option Decimal) (s x m e : ℤ) → IfNone r (IsOperand s x → ⊥) → IsCanonical s x → IsSameValue s x m e →
+    IfNone r ((n f : ℤ) → IsOperand n f → IsSameValue n f m e → ⊥)
 none_same None s x m e p c h = λ n f operand same.
     let one = one_form n f s x operand.canonical c (IsSameValue-trans n f m e s x same (IsSameValue-sym s x m e h)) in
     p (rw (← one.0, ← one.1) operand)

@@ -61,31 +61,45 @@ same_place a b = by (eq-value.it a b) refl (is_eq (operator_cmp a b)) refl
 choose : (b : Bool) (v : Vec Decimal Global) (x : Option (Vec Decimal Global)) → cond b (Some v.items) (items x) ≡ items (cond b (Some v) x)
 choose b v x = grind arith
 
-find_listed : (es : List (Operator × Vec Decimal Global)) (q : Operator) → find operator_cmp q (listed es) ≡ items (lookup (eq-value.it q) es)
+find_listed : (es : List (Operator × Vec Decimal Global)) (q : Operator) →
+    find operator_cmp q (listed es) ≡ items (lookup (eq-value.it q) es)
 find_listed [] q = refl
-find_listed (e ∷ es) q = ap (cond (is_eq (operator_cmp q e.0)) (Some e.1.items)) (find_listed es q) ∙ ap (λ b. cond b (Some e.1.items) (items (lookup (eq-value.it q) es))) (sym (same_place q e.0)) ∙ choose (eq-value.it q e.0) e.1 (lookup (eq-value.it q) es)
+find_listed (e ∷ es) q =
+    ap (cond (is_eq (operator_cmp q e.0)) (Some e.1.items)) (find_listed es q)
+    ∙ ap (λ b. cond b (Some e.1.items) (items (lookup (eq-value.it q) es))) (sym (same_place q e.0))
+    ∙ choose (eq-value.it q e.0) e.1 (lookup (eq-value.it q) es)
 
 -- what the finite map has at an operator
-pub get_listed : (es : List (Operator × Vec Decimal Global)) (q : Operator) → get (from_entries {R = operator_cmp} (listed es)) q ≡ items (lookup (eq-value.it q) es)
+pub get_listed : (es : List (Operator × Vec Decimal Global)) (q : Operator) →
+    get (from_entries {R = operator_cmp} (listed es)) q ≡ items (lookup (eq-value.it q) es)
 get_listed es q = get-from_entries operators_total (listed es) q ∙ find_listed es q
 
 -- one operator's operands set
-pub put_listed : (es fs : List (Operator × Vec Decimal Global)) (k : Operator) (v : Vec Decimal Global) → ((q : Operator) → lookup (eq-value.it q) fs ≡ cond (eq-value.it k q) (Some v) (lookup (eq-value.it q) es)) → from_entries {R = operator_cmp} (listed fs) ≡ insert (from_entries (listed es)) k v.items
+pub put_listed : (es fs : List (Operator × Vec Decimal Global)) (k : Operator) (v : Vec Decimal Global) →
+    ((q : Operator) → lookup (eq-value.it q) fs ≡ cond (eq-value.it k q) (Some v) (lookup (eq-value.it q) es)) →
+    from_entries {R = operator_cmp} (listed fs) ≡ insert (from_entries (listed es)) k v.items
 put_listed es fs k v h = same_map operators_total exact _ _ (λ q.
-    get_listed fs q ∙ ap items (h q) ∙ sym (choose (eq-value.it k q) v (lookup (eq-value.it q) es)) ∙ ap (λ x. cond (eq-value.it k q) (Some v.items) x) (sym (get_listed es q))
-    ∙ ap (λ b. cond b (Some v.items) (get (from_entries {R = operator_cmp} (listed es)) q)) (same_place k q ∙ (eq_by_cmp_equiv operators_total).symm k q)
+    get_listed fs q ∙ ap items (h q) ∙ sym (choose (eq-value.it k q) v (lookup (eq-value.it q) es))
+    ∙ ap (λ x. cond (eq-value.it k q) (Some v.items) x) (sym (get_listed es q))
+    ∙ ap (λ b. cond b (Some v.items) (get (from_entries {R = operator_cmp} (listed es)) q))
+    (same_place k q ∙ (eq_by_cmp_equiv operators_total).symm k q)
     ∙ sym (get-insert operators_total (from_entries (listed es)) k v.items q))
 
 abbrev pub Map : Type 0
 Map = HashMap Operator (Vec Decimal Global) (BuildHasherDefault FoldHasher)
 
 -- a clone's operands
-pub clone_listed : (C : Operator → Operator → Type 0) (is : Decimal → Decimal → Type 0) (m n : Map) → ((x y : Operator) → C x y → y ≡ x) → ((x y : Decimal) → is x y → y ≡ x)
-    → IsClone C (λ v w. AllZip is v.items w.items × (vec_len w ≡ vec_len v)) m n → from_entries {R = operator_cmp} (listed n.entries) ≡ from_entries (listed m.entries)
+pub clone_listed : (C : Operator → Operator → Type 0) (is : Decimal → Decimal → Type 0) (m n : Map) → ((x y : Operator) → C x y → y ≡ x) →
+    ((x y : Decimal) → is x y → y ≡ x)
+    → IsClone C (λ v w. AllZip is v.items w.items × (vec_len w ≡ vec_len v)) m n → from_entries {R = operator_cmp}
+    (listed n.entries) ≡ from_entries (listed m.entries)
 clone_listed C is m n same each h = same_map operators_total exact _ _ (λ q.
     get_listed n.entries q
-    ∙ go (lookup (eq-value.it q) m.entries) (lookup (eq-value.it q) n.entries) (lookup_clone C (λ v w. AllZip is v.items w.items × (vec_len w ≡ vec_len v)) (eq-value.it q) (λ x y c. ap (eq-value.it q) (same x y c)) m.entries n.entries h)
+    ∙ go (lookup (eq-value.it q) m.entries) (lookup (eq-value.it q) n.entries)
+    (lookup_clone C (λ v w. AllZip is v.items w.items × (vec_len w ≡ vec_len v)) (eq-value.it q)
+    (λ x y c. ap (eq-value.it q) (same x y c)) m.entries n.entries h)
     ∙ sym (get_listed m.entries q))
   where
-    go : (x y : Option (Vec Decimal Global)) → MatchOption x (y ≡ None) (λ v. IsSomeAnd y (λ w. AllZip is v.items w.items × (vec_len w ≡ vec_len v))) → items y ≡ items x
+    go : (x y : Option (Vec Decimal Global)) → MatchOption x (y ≡ None)
+        (λ v. IsSomeAnd y (λ w. AllZip is v.items w.items × (vec_len w ≡ vec_len v))) → items y ≡ items x
     go x y p = grind (arith, same_from_all_zip)

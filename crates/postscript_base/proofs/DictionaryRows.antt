@@ -51,7 +51,8 @@ rows =
     []
 
 all_hold : AllTell rows
-unfolding dictionary to_end to_end_from operation operation_from step number unsigned slice canonical without_zeros operator_of real text_of_real
+unfolding dictionary to_end to_end_from operation operation_from step number unsigned slice canonical without_zeros operator_of real
+    text_of_real
 all_hold = all_tell rows refl
 
 -- of two operations of an operator the last counts

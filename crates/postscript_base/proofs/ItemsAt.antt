@@ -15,17 +15,22 @@ pub length_items : (bytes : List ℕ) (start size count : ℕ) → length (items
 unfolding items_at
 length_items bytes start size count = length-map-range_with_len (item_at bytes start size count) 0 count
 
-pub item_at_place : (bytes : List ℕ) (start size count i : ℕ) → i < count → slice_get (items_at bytes start size count) i ≡ Some (item_at bytes start size count i)
+pub item_at_place : (bytes : List ℕ) (start size count i : ℕ) → i < count →
+    slice_get (items_at bytes start size count) i ≡ Some (item_at bytes start size count i)
 unfolding items_at
 item_at_place bytes start size count i h =
     slice_get-get_or (items_at bytes start size count) i [] (subst (λ n. i < n) (sym (length_items bytes start size count)) h)
     ∙ ap (λ item. Some item) (get_or-map-range_with_len (item_at bytes start size count) 0 count i i [] h (omega arith))
 
 pub item_past : (bytes : List ℕ) (start size count i : ℕ) → count ≤ i → slice_get (items_at bytes start size count) i ≡ None
-item_past bytes start size count i h = slice_get_past (items_at bytes start size count) i (subst (λ n. n ≤ i) (sym (length_items bytes start size count)) h)
+item_past bytes start size count i h =
+    slice_get_past (items_at bytes start size count) i (subst (λ n. n ≤ i) (sym (length_items bytes start size count)) h)
 
-pub item_read : (bytes : List ℕ) (start size count i : ℕ) → i < count → item_at bytes start size count i ≡ get_or (items_at bytes start size count) i (item_at bytes start size count i)
-item_read bytes start size count i h = sym (get_or_from_slice_get (items_at bytes start size count) i (item_at bytes start size count i) (item_at bytes start size count i) (item_at_place bytes start size count i h))
+pub item_read : (bytes : List ℕ) (start size count i : ℕ) → i < count →
+    item_at bytes start size count i ≡ get_or (items_at bytes start size count) i (item_at bytes start size count i)
+item_read bytes start size count i h =
+    sym (get_or_from_slice_get (items_at bytes start size count) i (item_at bytes start size count i) (item_at bytes start size count i)
+    (item_at_place bytes start size count i h))
 
 pub within : (bytes : List ℕ) (start size count i : ℕ) → i < length (items_at bytes start size count) → i < count
 within bytes start size count i h = subst (λ n. i < n) (length_items bytes start size count) h
@@ -34,7 +39,8 @@ drop-next : (items : List (List ℕ)) (i : ℕ) (item : List ℕ) → i < length
 drop-next items i item h = drop-cons items i item h ∙ ap (λ k. get_or items i item ∷ drop k items) (sym (add-one i))
 
 -- what is left from a place on: the item there, and what is left behind it
-pub rest_from : (items : List (List ℕ)) (i : ℕ) (item : List ℕ) → i < length items → item ≡ get_or items i item → drop i items ≡ item ∷ drop (i + 1) items
+pub rest_from : (items : List (List ℕ)) (i : ℕ) (item : List ℕ) → i < length items → item ≡ get_or items i item →
+    drop i items ≡ item ∷ drop (i + 1) items
 rest_from items i item h is = drop-next items i item h ∙ ap (λ x. x ∷ drop (i + 1) items) (sym is)
 
 pub rest_past : (items : List (List ℕ)) (i : ℕ) → length items ≤ i → drop i items ≡ []

@@ -31,7 +31,9 @@ finished text all place =
 
 pub byte_at : (bytes xs : List ℕ) (place b : ℕ) → b ∷ xs ≡ drop place bytes → number 1 bytes place ≡ Got b (place + 1)
 unfolding number slice
-byte_at bytes xs place b e = let long : length bytes - place ≡ suc (length xs) = sym (length-drop place bytes) ∙ ap length (sym e) in rw (← e, long) (grind (arith, common_steps, nat_tests))
+byte_at bytes xs place b e =
+    let long : length bytes - place ≡ suc (length xs) = sym (length-drop place bytes)
+    ∙ ap length (sym e) in rw (← e, long) (grind (arith, common_steps, nat_tests))
 
 pub byte_none : (bytes : List ℕ) (place : ℕ) → [] ≡ drop place bytes → number 1 bytes place ≡ Fault unexpected_eof
 unfolding number slice
@@ -40,7 +42,8 @@ byte_none bytes place e = let long : length bytes - place ≡ 0 = sym (length-dr
 abbrev go_on : List ℕ → Bool × List ℕ → ℕ → Outcome (List ℕ)
 go_on bytes r next = if r.0 then Got r.1 next else text_behind r.1 (drop next bytes) next
 
-steps_by : (text bytes xs : List ℕ) (place : ℕ) → xs ≡ drop place bytes → text_behind text xs place ≡ after (step text bytes place) (go_on bytes)
+steps_by : (text bytes xs : List ℕ) (place : ℕ) → xs ≡ drop place bytes → text_behind text xs place ≡ after (step text bytes place)
+    (go_on bytes)
 unfolding step text_behind
 steps_by text bytes [] place e = rw (byte_none bytes place e) refl
 steps_by text bytes (b ∷ xs) place e =
@@ -57,7 +60,8 @@ at_once text high low rest place more stops = grind (arith, append-nil, nat_test
 within : (high : ℕ) → is_in_text high ≡ true → ((high == 15) ≡ false) × ((high == 13) ≡ false)
 within high stays = (grind (arith, nat_tests), grind (arith, nat_tests))
 
-in_low : (text : List ℕ) (high low : ℕ) (rest : List ℕ) (place : ℕ) (more : List ℕ → Outcome (List ℕ)) → is_in_text high ≡ true → is_in_text low ≡ false →
+in_low : (text : List ℕ) (high low : ℕ) (rest : List ℕ) (place : ℕ) (more : List ℕ → Outcome (List ℕ)) → is_in_text high ≡ true →
+    is_in_text low ≡ false →
     stepped (then_low (one_nibble text high) low) (place + 1) more ≡ finished text (high ∷ low ∷ rest) place
 in_low text high low rest place more stays stops = grind (arith, within, append-nil, nat_tests)
 
@@ -77,24 +81,29 @@ unfolding text_behind
 text_by text [] place = refl
 text_by text (b ∷ xs) place = by (is_in_text (b / 16)) refl (is_in_text (b % 16)) refl (λ more. text_by more xs (place + 1))
   where
-    by : (h : Bool) → is_in_text (b / 16) ≡ h → (l : Bool) → is_in_text (b % 16) ≡ l → ((more : List ℕ) → text_behind more xs (place + 1) ≡ finished more (nibbles xs) (place + 1)) →
+    by : (h : Bool) → is_in_text (b / 16) ≡ h → (l : Bool) → is_in_text (b % 16) ≡ l →
+        ((more : List ℕ) → text_behind more xs (place + 1) ≡ finished more (nibbles xs) (place + 1)) →
         stepped (one_byte text b) (place + 1) (λ more. text_behind more xs (place + 1)) ≡ finished text (b / 16 ∷ b % 16 ∷ nibbles xs) place
     by h stops l e rest = grind (arith, at_once, in_low, within, later)
 
 pub text_is : (text bytes : List ℕ) (place : ℕ) → text ≡ [] → text_of_real bytes place ≡ text_behind text (drop place bytes) place
 unfolding text_of_real
-text_is text bytes place none = sym (text_by [] (drop place bytes) place) ∙ ap (λ empty. text_behind empty (drop place bytes) place) (sym none)
+text_is text bytes place none =
+    sym (text_by [] (drop place bytes) place) ∙ ap (λ empty. text_behind empty (drop place bytes) place) (sym none)
 
 -- what a loop over the bytes of a text has read so far, by the outcome of the whole text
-pub goes_on : (whole : Outcome (List ℕ)) (text here bytes : List ℕ) (place : ℕ) (ended : Bool) (more : List ℕ) (next : ℕ) → whole ≡ text_behind text (drop place bytes) place → here ≡ bytes →
+pub goes_on : (whole : Outcome (List ℕ)) (text here bytes : List ℕ) (place : ℕ) (ended : Bool) (more : List ℕ) (next : ℕ) →
+    whole ≡ text_behind text (drop place bytes) place → here ≡ bytes →
     ended ≡ false → step text here place ≡ Got (ended, more) next → whole ≡ text_behind more (drop next bytes) next
 goes_on whole text here bytes place ended more next so_far same test e = grind (arith, text_steps)
 
-pub ends : (whole : Outcome (List ℕ)) (text here bytes : List ℕ) (place : ℕ) (ended : Bool) (more : List ℕ) (next : ℕ) → whole ≡ text_behind text (drop place bytes) place → here ≡ bytes →
+pub ends : (whole : Outcome (List ℕ)) (text here bytes : List ℕ) (place : ℕ) (ended : Bool) (more : List ℕ) (next : ℕ) →
+    whole ≡ text_behind text (drop place bytes) place → here ≡ bytes →
     ended ≡ true → step text here place ≡ Got (ended, more) next → whole ≡ Got more next
 ends whole text here bytes place ended more next so_far same test e = grind (arith, text_steps)
 
-pub refused : (whole : Outcome (List ℕ)) (text here bytes : List ℕ) (place : ℕ) (e : Error) → whole ≡ text_behind text (drop place bytes) place → here ≡ bytes →
+pub refused : (whole : Outcome (List ℕ)) (text here bytes : List ℕ) (place : ℕ) (e : Error) →
+    whole ≡ text_behind text (drop place bytes) place → here ≡ bytes →
     (e ≢ Memory → RefusedAs e (step text here place)) → e ≢ Memory → RefusedAs e whole
 refused whole text here bytes place e so_far same h other = grind (arith, text_steps, refused_after)
 

@@ -11,7 +11,8 @@ drop-next bytes place h = drop-cons bytes place 0 h ∙ ap (λ k. get_or bytes p
 one-at : (bytes : List ℕ) (place : ℕ) → place + 1 ≤ length bytes → take 1 (drop place bytes) ≡ get_or bytes place 0 ∷ []
 one-at bytes place h = ap (take 1) (drop-cons bytes place 0 (omega arith))
 
-two-at : (bytes : List ℕ) (place : ℕ) → place + 2 ≤ length bytes → take 2 (drop place bytes) ≡ get_or bytes place 0 ∷ get_or bytes (place + 1) 0 ∷ []
+two-at : (bytes : List ℕ) (place : ℕ) → place + 2 ≤ length bytes →
+    take 2 (drop place bytes) ≡ get_or bytes place 0 ∷ get_or bytes (place + 1) 0 ∷ []
 two-at bytes place h =
     ap (take 2) (drop-next bytes place (omega arith)) ∙ ap (λ xs. get_or bytes place 0 ∷ xs) (one-at bytes (place + 1) (omega arith))
 
@@ -20,10 +21,12 @@ three-at : (bytes : List ℕ) (place : ℕ) → place + 3 ≤ length bytes →
 three-at bytes place h =
     let on : place + 1 + 1 ≡ place + 2 = omega arith in
     ap (take 3) (drop-next bytes place (omega arith))
-    ∙ ap (λ xs. get_or bytes place 0 ∷ xs) (two-at bytes (place + 1) (omega arith) ∙ ap (λ k. get_or bytes (place + 1) 0 ∷ get_or bytes k 0 ∷ []) on)
+    ∙ ap (λ xs. get_or bytes place 0 ∷ xs)
+    (two-at bytes (place + 1) (omega arith) ∙ ap (λ k. get_or bytes (place + 1) 0 ∷ get_or bytes k 0 ∷ []) on)
 
 four-at : (bytes : List ℕ) (place : ℕ) → place + 4 ≤ length bytes →
-    take 4 (drop place bytes) ≡ get_or bytes place 0 ∷ get_or bytes (place + 1) 0 ∷ get_or bytes (place + 2) 0 ∷ get_or bytes (place + 3) 0 ∷ []
+    take 4 (drop place bytes) ≡ get_or bytes place 0 ∷ get_or bytes (place + 1) 0 ∷ get_or bytes (place + 2) 0 ∷ get_or bytes
+    (place + 3) 0 ∷ []
 four-at bytes place h =
     let two_on : place + 1 + 1 ≡ place + 2 = omega arith in
     let three_on : place + 1 + 2 ≡ place + 3 = omega arith in
@@ -42,22 +45,28 @@ of_one bytes place h =
     let value : big_endian (get_or bytes place 0 ∷ []) ≡ get_or bytes place 0 = omega arith in
     ap big_endian (one-at bytes place h) ∙ value
 
-pub of_two : (bytes : List ℕ) (place : ℕ) → place + 2 ≤ length bytes → number_at bytes place 2 ≡ get_or bytes place 0 * 256 + get_or bytes (place + 1) 0
+pub of_two : (bytes : List ℕ) (place : ℕ) → place + 2 ≤ length bytes →
+    number_at bytes place 2 ≡ get_or bytes place 0 * 256 + get_or bytes (place + 1) 0
 unfolding number_at
 of_two bytes place h =
-    let value : big_endian (get_or bytes place 0 ∷ get_or bytes (place + 1) 0 ∷ []) ≡ get_or bytes place 0 * 256 + get_or bytes (place + 1) 0 = omega arith in
+    let value : big_endian (get_or bytes place 0 ∷ get_or bytes (place + 1) 0 ∷ []) ≡ get_or bytes place 0 * 256 + get_or bytes
+    (place + 1) 0 = omega arith in
     ap big_endian (two-at bytes place h) ∙ value
 
 pub of_three : (bytes : List ℕ) (place : ℕ) → place + 3 ≤ length bytes →
     number_at bytes place 3 ≡ get_or bytes place 0 * 65536 + get_or bytes (place + 1) 0 * 256 + get_or bytes (place + 2) 0
 unfolding number_at
 of_three bytes place h =
-    let value : big_endian (get_or bytes place 0 ∷ get_or bytes (place + 1) 0 ∷ get_or bytes (place + 2) 0 ∷ []) ≡ get_or bytes place 0 * 65536 + get_or bytes (place + 1) 0 * 256 + get_or bytes (place + 2) 0 = omega arith in
+    let value : big_endian (get_or bytes place 0 ∷ get_or bytes (place + 1) 0 ∷ get_or bytes (place + 2) 0 ∷ []) ≡ get_or bytes place
+    0 * 65536 + get_or bytes (place + 1) 0 * 256 + get_or bytes (place + 2) 0 = omega arith in
     ap big_endian (three-at bytes place h) ∙ value
 
 pub of_four : (bytes : List ℕ) (place : ℕ) → place + 4 ≤ length bytes →
-    number_at bytes place 4 ≡ get_or bytes place 0 * 16777216 + get_or bytes (place + 1) 0 * 65536 + get_or bytes (place + 2) 0 * 256 + get_or bytes (place + 3) 0
+    number_at bytes place 4 ≡ get_or bytes place 0 * 16777216 + get_or bytes (place + 1) 0 * 65536 + get_or bytes
+    (place + 2) 0 * 256 + get_or bytes (place + 3) 0
 unfolding number_at
 of_four bytes place h =
-    let value : big_endian (get_or bytes place 0 ∷ get_or bytes (place + 1) 0 ∷ get_or bytes (place + 2) 0 ∷ get_or bytes (place + 3) 0 ∷ []) ≡ get_or bytes place 0 * 16777216 + get_or bytes (place + 1) 0 * 65536 + get_or bytes (place + 2) 0 * 256 + get_or bytes (place + 3) 0 = omega arith in
+    let value : big_endian (get_or bytes place 0 ∷ get_or bytes (place + 1) 0 ∷ get_or bytes (place + 2) 0 ∷ get_or bytes
+    (place + 3) 0 ∷ []) ≡ get_or bytes place 0 * 16777216 + get_or bytes (place + 1) 0 * 65536 + get_or bytes
+    (place + 2) 0 * 256 + get_or bytes (place + 3) 0 = omega arith in
     ap big_endian (four-at bytes place h) ∙ value

@@ -29,15 +29,19 @@ goes_moves o place size h = grind arith
 pub goes_later : {A : Type 0} (o : Outcome A) (least next size : ℕ) → least ≤ next → Goes next size o → Goes least size o
 goes_later o least next size h g = grind arith
 
-pub goes_after : {A B : Type 0} (o : Outcome A) (f : A → ℕ → Outcome B) (least size : ℕ) → Goes least size o → ((value : A) (next : ℕ) → next ≤ size → Goes next size (f value next)) → Goes least size (after o f)
+pub goes_after : {A B : Type 0} (o : Outcome A) (f : A → ℕ → Outcome B) (least size : ℕ) → Goes least size o →
+    ((value : A) (next : ℕ) → next ≤ size → Goes next size (f value next)) → Goes least size (after o f)
 goes_after o f least size h each = grind arith
 
 pub number_goes : (size : ℕ) (bytes : List ℕ) (place : ℕ) → 0 < size → Goes (place + size) (length bytes) (number size bytes place)
 unfolding number slice
-number_goes size bytes place some = goes_after (slice size bytes place) _ (place + size) (length bytes) (grind arith) (λ value next within. (omega arith, within))
+number_goes size bytes place some =
+    goes_after (slice size bytes place) _ (place + size) (length bytes) (grind arith) (λ value next within. (omega arith, within))
 
 pub number_takes : (size : ℕ) → 0 < size → TakesBytes (number size)
-number_takes size some bytes place = goes_moves (number size bytes place) place (length bytes) (goes_later (number size bytes place) (place + 1) (place + size) (length bytes) (omega arith) (number_goes size bytes place some))
+number_takes size some bytes place =
+    goes_moves (number size bytes place) place (length bytes)
+    (goes_later (number size bytes place) (place + 1) (place + size) (length bytes) (omega arith) (number_goes size bytes place some))
 
 length-nibbles : (bytes : List ℕ) → length (nibbles bytes) ≡ 2 * length bytes
 length-nibbles [] = refl
@@ -52,12 +56,19 @@ valued_goes o bytes place h = grind arith
 
 real_goes : (bytes : List ℕ) (place : ℕ) → Goes place (length bytes) (real bytes place)
 unfolding real
-real_goes bytes place = goes_after (text_of_real bytes place) _ place (length bytes) (text_goes bytes place) (λ value next within. valued_goes (real_of value) bytes next within)
+real_goes bytes place =
+    goes_after (text_of_real bytes place) _ place (length bytes) (text_goes bytes place)
+    (λ value next within. valued_goes (real_of value) bytes next within)
 
-of_goes : (size : ℕ) (f : ℕ → Decimal) (bytes : List ℕ) (place : ℕ) → 0 < size → Goes place (length bytes) ((number size >>= λ n. pure (f n)) bytes place)
-of_goes size f bytes place some = goes_after (number size bytes place) _ place (length bytes) (goes_later (number size bytes place) place (place + size) (length bytes) (omega arith) (number_goes size bytes place some)) (λ value next within. (omega arith, within))
+of_goes : (size : ℕ) (f : ℕ → Decimal) (bytes : List ℕ) (place : ℕ) → 0 < size → Goes place (length bytes)
+    ((number size >>= λ n. pure (f n)) bytes place)
+of_goes size f bytes place some =
+    goes_after (number size bytes place) _ place (length bytes)
+    (goes_later (number size bytes place) place (place + size) (length bytes) (omega arith) (number_goes size bytes place some))
+    (λ value next within. (omega arith, within))
 
-pub if_goes : {A : Type 0} (b : Bool) (x y : Reading A) (bytes : List ℕ) (place least : ℕ) → Goes least (length bytes) (x bytes place) → Goes least (length bytes) (y bytes place) → Goes least (length bytes) ((if b then x else y) bytes place)
+pub if_goes : {A : Type 0} (b : Bool) (x y : Reading A) (bytes : List ℕ) (place least : ℕ) → Goes least (length bytes) (x bytes place) →
+    Goes least (length bytes) (y bytes place) → Goes least (length bytes) ((if b then x else y) bytes place)
 if_goes b x y bytes place least h g = grind arith
 
 pub begun_goes : (first : ℕ) (bytes : List ℕ) (place : ℕ) → place ≤ length bytes → Goes place (length bytes) (begun first bytes place)
@@ -68,11 +79,16 @@ begun_goes first bytes place h =
     (if_goes (nat_lt first 0x20) _ _ bytes place place (inr (inl refl))
     (if_goes (nat_lt first 0xf7) _ _ bytes place place (omega arith, h)
     (if_goes (nat_lt first 0xfb) _ _ bytes place place (of_goes 1 (λ n. whole (above first n)) bytes place (omega arith))
-    (if_goes (nat_lt first 0xff) _ _ bytes place place (of_goes 1 (λ n. whole (below first n)) bytes place (omega arith)) (inr (inl refl))))))))
+    (if_goes (nat_lt first 0xff) _ _ bytes place place (of_goes 1 (λ n. whole (below first n)) bytes place (omega arith))
+    (inr (inl refl))))))))
 
 -- a byte, and what goes on from behind it
-pub byte_then_goes : {A : Type 0} (f : ℕ → Reading A) → ((first : ℕ) (bytes : List ℕ) (place : ℕ) → place ≤ length bytes → Goes place (length bytes) (f first bytes place)) → (bytes : List ℕ) (place : ℕ) → Goes (place + 1) (length bytes) ((number 1 >>= f) bytes place)
-byte_then_goes f each bytes place = goes_after (number 1 bytes place) _ (place + 1) (length bytes) (number_goes 1 bytes place (omega arith)) (λ first next within. each first bytes next within)
+pub byte_then_goes : {A : Type 0} (f : ℕ → Reading A) →
+    ((first : ℕ) (bytes : List ℕ) (place : ℕ) → place ≤ length bytes → Goes place (length bytes) (f first bytes place)) → (bytes : List ℕ)
+    (place : ℕ) → Goes (place + 1) (length bytes) ((number 1 >>= f) bytes place)
+byte_then_goes f each bytes place =
+    goes_after (number 1 bytes place) _ (place + 1) (length bytes) (number_goes 1 bytes place (omega arith))
+    (λ first next within. each first bytes next within)
 
 pub dict_number_takes : TakesBytes dict_number
 unfolding dict_number
@@ -81,7 +97,8 @@ dict_number_takes bytes place = goes_moves (dict_number bytes place) place (leng
 -- past the end the input ends early
 pub slice_needs : (size : ℕ) → 0 < size → NeedsBytes (slice size)
 unfolding slice
-slice_needs size some bytes place past = let wanting : nat_lt (length bytes - place) size ≡ true = grind (arith, nat_tests) in rw wanting refl
+slice_needs size some bytes place past =
+    let wanting : nat_lt (length bytes - place) size ≡ true = grind (arith, nat_tests) in rw wanting refl
 
 pub needs_after : {A B : Type 0} (one : Reading A) (f : A → Reading B) → NeedsBytes one → NeedsBytes (one >>= f)
 needs_after one f needs bytes place past = ap (λ o. after o (λ value next. f value bytes next)) (needs bytes place past)
@@ -92,4 +109,6 @@ number_needs size some = grind (arith, needs_after, nat_tests)
 
 pub slice_takes : (size : ℕ) → 0 < size → TakesBytes (slice size)
 unfolding slice
-slice_takes size some bytes place = goes_moves (slice size bytes place) place (length bytes) (goes_later (slice size bytes place) (place + 1) (place + size) (length bytes) (omega arith) (grind arith))
+slice_takes size some bytes place =
+    goes_moves (slice size bytes place) place (length bytes)
+    (goes_later (slice size bytes place) (place + 1) (place + size) (length bytes) (omega arith) (grind arith))

@@ -19,13 +19,18 @@ unfolding without_zeros
 strips zero n p h = absurd (omega arith)
 strips (suc digits) n p h = strips_by (n % 10 == 0) refl (λ last. strips digits (n / 10) (omega arith) (omega arith))
   where
-    strips_by : (t : Bool) → (n % 10 == 0) ≡ t → (n % 10 ≡ 0 → Strips (n / 10) (without_zeros digits (n / 10))) → Strips n (if t then one_zero_more (without_zeros digits (n / 10)) else (n, 0))
+    strips_by : (t : Bool) → (n % 10 == 0) ≡ t → (n % 10 ≡ 0 → Strips (n / 10) (without_zeros digits (n / 10))) →
+        Strips n (if t then one_zero_more (without_zeros digits (n / 10)) else (n, 0))
     strips_by true t more =
         let zero_last : n % 10 ≡ 0 = eqb-true _ _ t in
         let r = more zero_last in
         let found = without_zeros digits (n / 10) in
         let tens : n ≡ n / 10 * 10 = omega arith in
-        record { whole = tens ∙ ap (λ k. k * 10) r.whole ∙ mul_assoc found.0 (10 ^ found.1) 10 ∙ ap (λ k. found.0 * k) (sym (pow-suc 10 found.1)); last = r.last }
+        record {
+          whole =
+              tens ∙ ap (λ k. k * 10) r.whole ∙ mul_assoc found.0 (10 ^ found.1) 10 ∙ ap (λ k. found.0 * k) (sym (pow-suc 10 found.1));
+          last = r.last;
+        }
     strips_by false t more = record { whole = omega arith; last = eqb-false _ _ t }
 
 -- what is left to find: an operand of the value, or that there is none
@@ -37,7 +42,8 @@ pub found_once : (r s : Option Decimal) (m e : ℤ) → Finds r m e → Finds s 
 found_once (Some a) (Some b) m e p q =
     let f = p.some in
     let g = q.some in
-    let one = one_form a.mantissa a.exponent b.mantissa b.exponent f.0.canonical g.0.canonical (IsSameValue-trans a.mantissa a.exponent m e b.mantissa b.exponent f.1 (IsSameValue-sym b.mantissa b.exponent m e g.1)) in
+    let one = one_form a.mantissa a.exponent b.mantissa b.exponent f.0.canonical g.0.canonical
+    (IsSameValue-trans a.mantissa a.exponent m e b.mantissa b.exponent f.1 (IsSameValue-sym b.mantissa b.exponent m e g.1)) in
     ap Some (same_decimal a b one.0 one.1)
 found_once (Some a) None m e p q = let f = p.some in absurd (q.none a.mantissa a.exponent f.0 f.1)
 found_once None (Some b) m e p q = let g = q.some in absurd (p.none b.mantissa b.exponent g.0 g.1)
@@ -59,13 +65,18 @@ canonical_form m e = elim (eqb_tells (unsigned_abs m) 0) [
       let not_zero = t.1 in
       let found = without_zeros n n in
       let r = strips n n (⊎_elim (λ l. l) (λ l. absurd (not_zero l)) (above n)) (omega arith) in
-      rw t.0 (record { form = stripped_canonical m (int_lt m (pos 0)) n found.0 found.1 _ r.whole r.last; value = stripped_same m e (int_lt m (pos 0)) n found.0 found.1 _ refl refl r.whole refl })
+      rw t.0 (record {
+        form = stripped_canonical m (int_lt m (pos 0)) n found.0 found.1 _ r.whole r.last;
+        value = stripped_same m e (int_lt m (pos 0)) n found.0 found.1 _ refl refl r.whole refl;
+      })
 ]
   where
     above : (n : ℕ) → (0 < n) ⊎ (n ≡ 0)
     above n = grind arith
 
-range_tells : (d : Decimal) → ((is_in_range d ≡ true) × (unsigned_abs d.mantissa < 10 ^ 18) × (negsuc 999 ≤ℤ d.exponent) × (d.exponent ≤ℤ pos 1000)) ⊎ ((is_in_range d ≡ false) × (HasOperand d → ⊥))
+range_tells : (d : Decimal) →
+    ((is_in_range d ≡ true) × (unsigned_abs d.mantissa < 10 ^ 18) × (negsuc 999 ≤ℤ d.exponent) × (d.exponent ≤ℤ pos 1000)) ⊎ ((is_in_range
+    d ≡ false) × (HasOperand d → ⊥))
 range_tells d = grind arith
 
 pub operand_found : (m e : ℤ) → Finds (operand_of m e) m e
@@ -78,12 +89,14 @@ operand_found m e =
       | inr t ↦ rw t.0 (record {
         some = tt;
         none = λ n f operand same.
-            let one = one_form n f d.mantissa d.exponent operand.canonical is.form (IsSameValue-trans n f m e d.mantissa d.exponent same (IsSameValue-sym d.mantissa d.exponent m e is.value)) in
+            let one = one_form n f d.mantissa d.exponent operand.canonical is.form
+            (IsSameValue-trans n f m e d.mantissa d.exponent same (IsSameValue-sym d.mantissa d.exponent m e is.value)) in
             t.1 (rw (← one.0, ← one.1) operand);
       })
     ]
 
-pub finds_operand : (r : Option Decimal) (m e : ℤ) → IfSome r (λ o. HasOperand o × IsSameValue o.mantissa o.exponent m e) → IfNone r ((n f : ℤ) → IsOperand n f → IsSameValue n f m e → ⊥) → r ≡ operand_of m e
+pub finds_operand : (r : Option Decimal) (m e : ℤ) → IfSome r (λ o. HasOperand o × IsSameValue o.mantissa o.exponent m e) →
+    IfNone r ((n f : ℤ) → IsOperand n f → IsSameValue n f m e → ⊥) → r ≡ operand_of m e
 finds_operand r m e p q = found_once r (operand_of m e) m e (record { some = p; none = q }) (operand_found m e)
 
 pub zero_operand : (o : Decimal) (m e : ℤ) → o.mantissa ≡ pos 0 → o.exponent ≡ pos 0 → m ≡ pos 0 → Some o ≡ operand_of m e
@@ -91,12 +104,20 @@ zero_operand o m e p q h =
     let zero_pair : Decimal = record { mantissa = pos 0; exponent = pos 0 } in
     let form = zero_form m e h in
     ap Some (same_decimal o zero_pair p q) ∙ found_once (Some zero_pair) (operand_of m e) m e
-    (record { some = (record { canonical = form.form; few_digits = omega arith; low = omega (arith, ints); high = omega (arith, ints) }, form.value); none = tt }) (operand_found m e)
+    (record {
+      some = (
+        record { canonical = form.form; few_digits = omega arith; low = omega (arith, ints); high = omega (arith, ints) },
+        form.value,
+      );
+      none = tt;
+    }) (operand_found m e)
 
 abbrev raised : Decimal → ℤ
 raised d = scaled d.mantissa (unsigned_abs d.exponent)
 
-i32_tells : (d : Decimal) → ((to_i32 d ≡ Some (raised d)) × (pos 0 ≤ℤ d.exponent) × IsOf32Bits (raised d)) ⊎ ((to_i32 d ≡ None) × (pos 0 ≤ℤ d.exponent → IsOf32Bits (raised d) → ⊥))
+i32_tells : (d : Decimal) →
+    ((to_i32 d ≡ Some (raised d)) × (pos 0 ≤ℤ d.exponent) × IsOf32Bits
+    (raised d)) ⊎ ((to_i32 d ≡ None) × (pos 0 ≤ℤ d.exponent → IsOf32Bits (raised d) → ⊥))
 unfolding to_i32
 i32_tells d = grind arith
 
@@ -136,7 +157,8 @@ no_whole : (d : Decimal) (v : ℤ) → HasOperand d → d.exponent <ℤ pos 0 �
 no_whole d v operand low h =
     let i_is : unsigned_abs (d.exponent -ℤ int_min d.exponent (pos 0)) ≡ 0 = omega (arith, ints, clamps) in
     let j_is : unsigned_abs (pos 0 -ℤ int_min d.exponent (pos 0)) ≡ suc (unsigned_abs d.exponent - 1) = omega (arith, ints, clamps) in
-    let whole : d.mantissa ≡ scaled v (suc (unsigned_abs d.exponent - 1)) = sym (scaled_none d.mantissa) ∙ ap (scaled d.mantissa) (sym i_is) ∙ h ∙ ap (scaled v) j_is in
+    let whole : d.mantissa ≡ scaled v (suc (unsigned_abs d.exponent - 1)) = sym (scaled_none d.mantissa)
+    ∙ ap (scaled d.mantissa) (sym i_is) ∙ h ∙ ap (scaled v) j_is in
     let size = ap unsigned_abs whole ∙ abs-scaled v (suc (unsigned_abs d.exponent - 1)) in
     let zero_mantissa = operand.canonical.no_last_zero (rw size (last_zero (unsigned_abs v) (unsigned_abs d.exponent - 1))) in
     let zero_exponent = operand.canonical.zero_alone zero_mantissa in
@@ -179,13 +201,15 @@ whole_operand n small =
     sym (finds_operand (Some (canonical n (pos 0))) n (pos 0) (operand_in_32 n small, form.value) tt)
 
 -- what a test of the exponent and of the value finds
-pub finds_whole : (r : Option ℤ) (d : Decimal) → HasOperand d → pos 0 ≤ℤ d.exponent → IfSome r (λ v. (v ≡ raised d) × IsOf32Bits v) → IfNone r (IsOf32Bits (raised d) → ⊥) → r ≡ to_i32 d
+pub finds_whole : (r : Option ℤ) (d : Decimal) → HasOperand d → pos 0 ≤ℤ d.exponent → IfSome r (λ v. (v ≡ raised d) × IsOf32Bits v) →
+    IfNone r (IsOf32Bits (raised d) → ⊥) → r ≡ to_i32 d
 finds_whole r d operand low p q = grind (arith, i32_some, i32_tells)
 
 pub whole_if_some : (r : Option ℤ) (d : Decimal) → r ≡ to_i32 d → IfSome r (λ v. IsSameValue d.mantissa d.exponent v (pos 0))
 whole_if_some r d e = grind (arith, i32_tells, meets-IsSameValue, ints, scaled_none)
 
-pub none_if_none : (r : Option ℤ) (d : Decimal) → HasOperand d → r ≡ to_i32 d → IfNone r ((v : ℤ) → negsuc (2 ^ 31 - 1) ≤ℤ v → v ≤ℤ pos (2 ^ 31 - 1) → IsSameValue d.mantissa d.exponent v (pos 0) → ⊥)
+pub none_if_none : (r : Option ℤ) (d : Decimal) → HasOperand d → r ≡ to_i32 d →
+    IfNone r ((v : ℤ) → negsuc (2 ^ 31 - 1) ≤ℤ v → v ≤ℤ pos (2 ^ 31 - 1) → IsSameValue d.mantissa d.exponent v (pos 0) → ⊥)
 none_if_none r d operand e = grind (arith, by_lt_z, no_whole, i32_some, same_whole)
 
 -- the operand of a value is found exactly where there is one
@@ -193,7 +217,11 @@ pub finds_operands : FindsOperands
 finds_operands = record { found = λ value operand. (there value operand, back value operand) }
   where
     there : (value operand : Decimal) → operand_of value.mantissa value.exponent ≡ Some operand → IsOperandOf operand value
-    there value operand e = let found = subst (λ r. Finds r value.mantissa value.exponent) e (operand_found value.mantissa value.exponent) in record { in_form = found.some.0; equal = found.some.1 }
+    there value operand e =
+        let found = subst (λ r. Finds r value.mantissa value.exponent) e (operand_found value.mantissa value.exponent) in
+        record { in_form = found.some.0; equal = found.some.1 }
 
     back : (value operand : Decimal) → IsOperandOf operand value → operand_of value.mantissa value.exponent ≡ Some operand
-    back value operand h = found_once (operand_of value.mantissa value.exponent) (Some operand) value.mantissa value.exponent (operand_found value.mantissa value.exponent) (record { some = (h.in_form, h.equal); none = tt })
+    back value operand h =
+        found_once (operand_of value.mantissa value.exponent) (Some operand) value.mantissa value.exponent
+        (operand_found value.mantissa value.exponent) (record { some = (h.in_form, h.equal); none = tt })

@@ -29,7 +29,8 @@ pub record FoundPower (text : List ℕ) (down : Bool) (digits : List ℕ) : Type
   pub down_is : down ≡ is_exponent_negative exponent
   pub digits_is : digits ≡ exponent_digits exponent
 
-pub exponent_found : (text : List ℕ) (n : ℕ) (ns : List ℕ) (down : Bool) (digits : List ℕ) → text ≡ n ∷ ns → n ≡ 11 → down ≡ (after_sign ns).0 → digits ≡ (after_sign ns).1 →
+pub exponent_found : (text : List ℕ) (n : ℕ) (ns : List ℕ) (down : Bool) (digits : List ℕ) → text ≡ n ∷ ns → n ≡ 11 →
+    down ≡ (after_sign ns).0 → digits ≡ (after_sign ns).1 →
     0 < length digits → length digits ≤ prefix_len is_digit digits → FoundPower text down digits
 exponent_found text n ns down digits text_is mark down_is digits_is some all = record {
   exponent = Some (after_sign ns);

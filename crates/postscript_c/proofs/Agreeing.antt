@@ -24,17 +24,20 @@ use Rattle.postscript_base.specs.declared.compact1.operator.Operator.TheVariants
 use Rattle.postscript_compact1.specs.FontSet.Operands.{place_at, type_two}
 
 -- two chains that begin with the same reading, and have a value each
-both : {A B C : Type 0} (o : Outcome A) (f : A → ℕ → Outcome B) (g : A → ℕ → Outcome C) (b : B) (n : ℕ) (c : C) (m : ℕ) → after o f ≡ Got b n → after o g ≡ Got c m
+both : {A B C : Type 0} (o : Outcome A) (f : A → ℕ → Outcome B) (g : A → ℕ → Outcome C) (b : B) (n : ℕ) (c : C) (m : ℕ) →
+    after o f ≡ Got b n → after o g ≡ Got c m
     → (v : A) × (at : ℕ) × (o ≡ Got v at) × (f v at ≡ Got b n) × (g v at ≡ Got c m)
 both (Got v at) f g b n c m e h = (v, at, refl, e, h)
 both (Fault r) f g b n c m e h = let is : Fault r ≡ Got b n = e in absurd (cc)
 both Past f g b n c m e h = let is : Past ≡ Got b n = e in absurd (cc)
 
 -- a chain that has a value: so has its first reading
-pub one : {A B : Type 0} (o : Outcome A) (f : A → ℕ → Outcome B) (b : B) (n : ℕ) → after o f ≡ Got b n → (v : A) × (at : ℕ) × (o ≡ Got v at) × (f v at ≡ Got b n)
+pub one : {A B : Type 0} (o : Outcome A) (f : A → ℕ → Outcome B) (b : B) (n : ℕ) → after o f ≡ Got b n →
+    (v : A) × (at : ℕ) × (o ≡ Got v at) × (f v at ≡ Got b n)
 one o f b n e = let d = both o f f b n b n e e in (d.0, d.1, d.2, d.3)
 
-tables_same : (bytes : List ℕ) (place : ℕ) (t : Tables) (n : ℕ) (u : Dictionary × ℕ) (m : ℕ) → tables 0 bytes place ≡ Got t n → told.tables bytes place ≡ Got u m
+tables_same : (bytes : List ℕ) (place : ℕ) (t : Tables) (n : ℕ) (u : Dictionary × ℕ) (m : ℕ) → tables 0 bytes place ≡ Got t n →
+    told.tables bytes place ≡ Got u m
     → (u.0 ≡ t.dictionary) × ((next : ℕ) × (opened bytes u.1 ≡ Got t.subroutines next))
 unfolding tables told.tables
 tables_same bytes place t n u m e h =
@@ -53,7 +56,8 @@ tables_same bytes place t n u m e h =
     let Q : List (List ℕ) → Type 0 = λ s. opened bytes c.1 ≡ Got s d.1 in
     (sym map ∙ same, (d.1, subst P there (subst Q subs d.2)))
 
-codes_same : (bytes : List ℕ) (map : Dictionary) (place : ℕ) (items : List (List ℕ)) (n : ℕ) (r : ℕ × ℕ) (m : ℕ) → char_strings map bytes place ≡ Got items n → codes map bytes place ≡ Got r m
+codes_same : (bytes : List ℕ) (map : Dictionary) (place : ℕ) (items : List (List ℕ)) (n : ℕ) (r : ℕ × ℕ) (m : ℕ) →
+    char_strings map bytes place ≡ Got items n → codes map bytes place ≡ Got r m
     → ((next : ℕ) × (opened bytes r.0 ≡ Got items next)) × (r.1 ≡ length items)
 unfolding char_strings codes
 codes_same bytes map place items n r m e h =
@@ -110,7 +114,8 @@ agrees bytes v n p m e h =
     }
 
 -- the dictionary of which C is told is that of the view
-pub dictionary_same : (bytes : List ℕ) (v : View) (n size : ℕ) (map : Dictionary) (global : ℕ) → view bytes 0 ≡ Got v n → header_size bytes 0 ≡ Got size 0 → aside size told.tables bytes 0 ≡ Got (map, global) 0 → map ≡ v.tables.dictionary
+pub dictionary_same : (bytes : List ℕ) (v : View) (n size : ℕ) (map : Dictionary) (global : ℕ) → view bytes 0 ≡ Got v n →
+    header_size bytes 0 ≡ Got size 0 → aside size told.tables bytes 0 ≡ Got (map, global) 0 → map ≡ v.tables.dictionary
 unfolding view_of
 dictionary_same bytes v n size map global e header stands =
     let a = one (header_size bytes 0) _ v n e in
@@ -128,14 +133,17 @@ dictionary_same bytes v n size map global e header stands =
     ap (λ (u : Dictionary × ℕ). u.0) (sym D.0) ∙ t.0 ∙ ap (λ (t : Tables). t.dictionary) C.0 ∙ ap (λ (v : View). v.tables.dictionary) V.0
 
 -- an operator that names a place names it as an offset
-offset_named : (map : Dictionary) (operator : Operator) (place : ℕ) → place_at 0 0 map operator [] 0 ≡ Got place 0 → offset_of map operator ≡ Some place
+offset_named : (map : Dictionary) (operator : Operator) (place : ℕ) → place_at 0 0 map operator [] 0 ≡ Got place 0 →
+    offset_of map operator ≡ Some place
 unfolding offset_of
 offset_named map operator place e =
     let p = placed_has 0 0 map operator place [] 0 0 e in
     let on : p.1 ≡ place = omega (arith, p.4) in
-    ap (λ (o : Option Decimal). offset_from (option_and_then to_i32 o)) p.2.1 ∙ ap offset_from p.2.2 ∙ ap (λ (z : ℤ). offset_from (Some z)) (whole_offset p.0 p.1 p.3) ∙ ap (λ (n : ℕ). Some n) on
+    ap (λ (o : Option Decimal). offset_from (option_and_then to_i32 o)) p.2.1 ∙ ap offset_from p.2.2
+    ∙ ap (λ (z : ℤ). offset_from (Some z)) (whole_offset p.0 p.1 p.3) ∙ ap (λ (n : ℕ). Some n) on
 
-selection_named : (map : Dictionary) (font : PsfFont) → IsKeyedBy map font → font.is_cid ≢ 0 → font.fd_select ≢ 0 → offset_of map operators.FDSelect ≡ Some font.fd_select
+selection_named : (map : Dictionary) (font : PsfFont) → IsKeyedBy map font → font.is_cid ≢ 0 → font.fd_select ≢ 0 →
+    offset_of map operators.FDSelect ≡ Some font.fd_select
 selection_named map font (inl plain) cid there = absurd (cid plain.1)
 selection_named map font (inr keyed) cid there = elim keyed.3 [
   | inl named ↦ offset_named map operators.FDSelect font.fd_select named
@@ -144,9 +152,11 @@ selection_named map font (inr keyed) cid there = elim keyed.3 [
 
 selected : (bytes : List ℕ) (v : View) (n : ℕ) (font : PsfFont) → TellsWidths bytes font → view bytes 0 ≡ Got v n → NamesSelection font v
 selected bytes v n font w e cid there =
-    ap (λ (map : Dictionary). offset_of map operators.FDSelect) (sym (dictionary_same bytes v n w.size w.map w.global e w.header w.stands)) ∙ selection_named w.map font w.keyed cid there
+    ap (λ (map : Dictionary). offset_of map operators.FDSelect)
+    (sym (dictionary_same bytes v n w.size w.map w.global e w.header w.stands)) ∙ selection_named w.map font w.keyed cid there
 
-pub font_of : (answer : Result PsfFont Error) (bytes : List ℕ) → Answers placed answer 0 (places bytes 0) → IfOk answer (λ font. TellsWidths bytes font) → IfOk answer (λ font. font.limit ≡ 20000000) →
+pub font_of : (answer : Result PsfFont Error) (bytes : List ℕ) → Answers placed answer 0 (places bytes 0) →
+    IfOk answer (λ font. TellsWidths bytes font) → IfOk answer (λ font. font.limit ≡ 20000000) →
     IsFontOf bytes answer
 font_of (Ok font) bytes e w limit = record {
   reads = e;

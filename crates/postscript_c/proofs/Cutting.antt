@@ -42,7 +42,8 @@ power_some k power is = elim (cases_lt (10 ^ k) (2 ^ 128 - 1)) [
   | inr more ↦ let same = min-eq_right {n = 2 ^ 128 - 1} {m = 10 ^ k} more in omega (arith, is, same)
 ]
 
-pub below : (m : ℕ) (e : ℤ) (power : ℕ) → m < 2 ^ 64 → int_lt e (pos 0) ≡ true → power ≡ min (10 ^ unsigned_abs e) (2 ^ 128 - 1) → (bits : ℕ) × AreIn m e bits × (m * 65536 / power ≡ min bits (2 ^ 128 - 1))
+pub below : (m : ℕ) (e : ℤ) (power : ℕ) → m < 2 ^ 64 → int_lt e (pos 0) ≡ true → power ≡ min (10 ^ unsigned_abs e) (2 ^ 128 - 1) →
+    (bits : ℕ) × AreIn m e bits × (m * 65536 / power ≡ min bits (2 ^ 128 - 1))
 below m (pos n) power small negative is = absurd (grind (arith, nat_tests, negative))
 below m (negsuc n) power small negative is =
     let a = m * 65536 in
@@ -50,17 +51,25 @@ below m (negsuc n) power small negative is =
     let less : a < 2 ^ 128 - 1 = omega (arith, small) in
     let self = div-le_self a t in
     let at_least : a / t * t ≤ a * 1 = omega (arith, div-mul-le_self a t) in
-    let less_than : a * 1 < (a / t + 1) * t = omega (arith, within a t (tens (suc n))) in
-    (a / t, record { at_least = at_least; less_than = less_than }, ap (λ d. a / d) is ∙ quotient a t (2 ^ 128 - 1) (tens (suc n)) less ∙ sym (min-eq_left (omega (arith, self, less))))
+    let less_than : a * 1 < (a / t + 1) * t = omega (arith, within a t (tens (suc n))) in (
+      a / t,
+      record { at_least = at_least; less_than = less_than },
+      ap (λ d. a / d) is ∙ quotient a t (2 ^ 128 - 1) (tens (suc n)) less ∙ sym (min-eq_left (omega (arith, self, less))),
+    )
 
-pub above : (m : ℕ) (e : ℤ) (power : ℕ) → int_lt e (pos 0) ≡ false → power ≡ min (10 ^ unsigned_abs e) (2 ^ 128 - 1) → (bits : ℕ) × AreIn m e bits × (min (m * 65536 * power) (2 ^ 128 - 1) ≡ min bits (2 ^ 128 - 1))
+pub above : (m : ℕ) (e : ℤ) (power : ℕ) → int_lt e (pos 0) ≡ false → power ≡ min (10 ^ unsigned_abs e) (2 ^ 128 - 1) →
+    (bits : ℕ) × AreIn m e bits × (min (m * 65536 * power) (2 ^ 128 - 1) ≡ min bits (2 ^ 128 - 1))
 above m (negsuc n) power from is = absurd (cc)
 above m (pos n) power from is =
-    let a = m * 65536 in
-    (a * 10 ^ n, record { at_least = omega arith; less_than = omega arith }, ap (λ d. min (a * d) (2 ^ 128 - 1)) is ∙ product a (10 ^ n) (2 ^ 128 - 1))
+    let a = m * 65536 in (
+      a * 10 ^ n,
+      record { at_least = omega arith; less_than = omega arith },
+      ap (λ d. min (a * d) (2 ^ 128 - 1)) is ∙ product a (10 ^ n) (2 ^ 128 - 1),
+    )
 
 -- far above 64 bits it does not matter where a number is cut before it is cut to these
-beyond : (negative : Bool) (n : ℕ) → 2 ^ 128 - 1 ≤ n → saturate_signed w64 (signed negative (2 ^ 128 - 1)) ≡ saturate_signed w64 (signed negative n)
+beyond : (negative : Bool) (n : ℕ) → 2 ^ 128 - 1 ≤ n →
+    saturate_signed w64 (signed negative (2 ^ 128 - 1)) ≡ saturate_signed w64 (signed negative n)
 beyond true zero more = absurd (omega (arith, more))
 beyond true (suc n) more = ap negsuc (sym (min-eq_right (omega (arith, more))))
 beyond false n more = ap pos (sym (min-eq_right (omega (arith, more))))
@@ -71,14 +80,21 @@ capped negative n = elim (cases_lt n (2 ^ 128 - 1)) [
   | inr more ↦ ap (λ n. saturate_signed w64 (signed negative n)) (min-eq_right more) ∙ beyond negative n more
 ]
 
-pub cut : (width : Option Decimal) (w : Decimal) (m e : ℤ) (n told : ℕ) (bits : ℤ) → width ≡ Some w → m ≡ w.mantissa → e ≡ w.exponent → n ≡ unsigned_abs m
-    → (x : ℕ) × AreIn n e x × (told ≡ min x (2 ^ 128 - 1)) → bits ≡ saturate_signed w64 (signed (int_lt m (pos 0)) told) → IsWidth width bits
+pub cut : (width : Option Decimal) (w : Decimal) (m e : ℤ) (n told : ℕ) (bits : ℤ) → width ≡ Some w → m ≡ w.mantissa → e ≡ w.exponent →
+    n ≡ unsigned_abs m
+    → (x : ℕ) × AreIn n e x × (told ≡ min x (2 ^ 128 - 1)) → bits ≡ saturate_signed w64
+    (signed (int_lt m (pos 0)) told) → IsWidth width bits
 cut width w m e n told bits is m-is e-is n-is found told-is =
     let negative = int_lt w.mantissa (pos 0) in
-    let in-it = subst (λ (n : ℕ). AreIn n w.exponent found.0) (n-is ∙ ap unsigned_abs m-is) (subst (λ (e : ℤ). AreIn n e found.0) e-is found.1) in
-    let bits-are : bits ≡ saturate_signed w64 (signed negative told) = told-is ∙ ap (λ (m : ℤ). saturate_signed w64 (signed (int_lt m (pos 0)) told)) m-is in
-    let all : IsWidth (Some w) bits =
-    (signed negative found.0, record { magnitude = found.0; are_in = in-it; has_sign = refl }, bits-are ∙ ap (λ n. saturate_signed w64 (signed negative n)) found.2 ∙ capped negative found.0) in
+    let in-it = subst (λ (n : ℕ). AreIn n w.exponent found.0) (n-is ∙ ap unsigned_abs m-is)
+    (subst (λ (e : ℤ). AreIn n e found.0) e-is found.1) in
+    let bits-are : bits ≡ saturate_signed w64 (signed negative told) = told-is
+    ∙ ap (λ (m : ℤ). saturate_signed w64 (signed (int_lt m (pos 0)) told)) m-is in
+    let all : IsWidth (Some w) bits = (
+      signed negative found.0,
+      record { magnitude = found.0; are_in = in-it; has_sign = refl },
+      bits-are ∙ ap (λ n. saturate_signed w64 (signed negative n)) found.2 ∙ capped negative found.0,
+    ) in
     subst (λ (width : Option Decimal). IsWidth width bits) (sym is) all
 
 -- each width has so many 65536ths

@@ -9,7 +9,8 @@ use Rattle.postscript_variation.specs.declared.axes.Axes.{Axes}
 pub no_axes : (axes : Axes) (i : ℕ) → AreCoordinatesOf axes i 0 []
 no_axes axes i = record { counted = refl; each = λ axis h. absurd (omega (arith, h)) }
 
-pub one_axis : (axes : Axes) (i n : ℕ) (xs : List ℤ) (x : ℤ) → AreCoordinatesOf axes i n xs → x ≡ fixed_at (bytes_of axes) (instance_place axes i + 4 + n * 4) →
+pub one_axis : (axes : Axes) (i n : ℕ) (xs : List ℤ) (x : ℤ) → AreCoordinatesOf axes i n xs → x ≡ fixed_at (bytes_of axes)
+    (instance_place axes i + 4 + n * 4) →
     AreCoordinatesOf axes i (n + 1) (xs ++ x ∷ [])
 one_axis axes i n xs x are is =
     let both = added (λ axis. fixed_at (bytes_of axes) (instance_place axes i + 4 + axis * 4)) n xs x are.counted are.each is in

@@ -15,5 +15,6 @@ three (inr (inr (inr never))) = never
 not-memory : (e : Error) → IsOneOf (13 ∷ 14 ∷ 15 ∷ []) (code e) → e ≢ Memory
 not-memory e listed is = three (subst (λ e. IsOneOf (13 ∷ 14 ∷ 15 ∷ []) (code e)) is listed)
 
-pub no-place : (e : Error) (outcome : Outcome ℕ) → IsOneOf (13 ∷ 14 ∷ 15 ∷ []) (code e) → Answers same (Err e) 0 outcome → (there next : ℕ) → outcome ≡ Got there next → ⊥
+pub no-place : (e : Error) (outcome : Outcome ℕ) → IsOneOf (13 ∷ 14 ∷ 15 ∷ []) (code e) → Answers same (Err e) 0 outcome →
+    (there next : ℕ) → outcome ≡ Got there next → ⊥
 no-place e outcome listed answers there next is = subst (λ (o : Outcome ℕ). RefusedAs e o) is (answers (not-memory e listed))

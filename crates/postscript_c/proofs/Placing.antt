@@ -17,7 +17,8 @@ pub either : (i n : ℕ) → i < n + 1 → (i < n) ⊎ (i ≡ n)
 either i n h = grind (arith)
 
 -- A list that tells what a function tells of each number below a bound, and one more.
-pub added : {X : Type 0} (f : ℕ → X) (n : ℕ) (xs : List X) (x : X) → length xs ≡ n → ((i : ℕ) → i < n → slice_get xs i ≡ Some (f i)) → x ≡ f n →
+pub added : {X : Type 0} (f : ℕ → X) (n : ℕ) (xs : List X) (x : X) → length xs ≡ n → ((i : ℕ) → i < n → slice_get xs i ≡ Some (f i)) →
+    x ≡ f n →
     (length (xs ++ x ∷ []) ≡ n + 1) × ((i : ℕ) → i < n + 1 → slice_get (xs ++ x ∷ []) i ≡ Some (f i))
 added f n xs x many each is =
     let long = length-append xs (x ∷ []) in
@@ -32,7 +33,8 @@ added f n xs x many each is =
 pub no_axes : (axes : Axes) (maps : Option Maps) (values : List ℤ) → AreAlong axes maps values 0 []
 no_axes axes maps values = record { counted = refl; each = λ i h. absurd (omega (arith, h)) }
 
-pub one_axis : (axes : Axes) (maps : Option Maps) (values : List ℤ) (n : ℕ) (xs : List ℤ) (x : ℤ) → AreAlong axes maps values n xs → x ≡ coordinate_of axes maps values n →
+pub one_axis : (axes : Axes) (maps : Option Maps) (values : List ℤ) (n : ℕ) (xs : List ℤ) (x : ℤ) → AreAlong axes maps values n xs →
+    x ≡ coordinate_of axes maps values n →
     AreAlong axes maps values (n + 1) (xs ++ x ∷ [])
 one_axis axes maps values n xs x are is =
     let both = added (coordinate_of axes maps values) n xs x are.counted are.each is in

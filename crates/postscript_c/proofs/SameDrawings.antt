@@ -57,7 +57,8 @@ alike bytes u v f g =
     }
 
 count_alike : (u v : FontView) → Alike u v → length u.parts.items ≡ length v.parts.items
-count_alike u v a = sym (length_shown u.parts.items) ∙ ap (λ (ps : List contents.PrivateDict). length ps) a.parts ∙ length_shown v.parts.items
+count_alike u v a =
+    sym (length_shown u.parts.items) ∙ ap (λ (ps : List contents.PrivateDict). length ps) a.parts ∙ length_shown v.parts.items
 
 glyphs_alike : (u v : FontView) → Alike u v → glyphs_of u ≡ glyphs_of v
 glyphs_alike u v a = ap (λ (codes : List (List ℕ)). length codes) a.codes
@@ -75,11 +76,13 @@ number_alike u v glyph fd a h =
     by (inr x) = inr (
       (λ single. x.0 (count_alike u v a ∙ single)),
       subst (λ (n : ℕ). IsSelected v.bytes.now v.dictionary n glyph fd) (glyphs_alike u v a)
-          (subst (λ (m : Dictionary). IsSelected v.bytes.now m (glyphs_of u) glyph fd) a.dictionary (subst (λ (b : List ℕ). IsSelected b u.dictionary (glyphs_of u) glyph fd) a.bytes x.1)),
+          (subst (λ (m : Dictionary). IsSelected v.bytes.now m (glyphs_of u) glyph fd) a.dictionary
+          (subst (λ (b : List ℕ). IsSelected b u.dictionary (glyphs_of u) glyph fd) a.bytes x.1)),
     )
 
 -- a part of one is shown as that of the other in its place
-part_alike : (u v : FontView) (fd : ℕ) (p : PrivateDict) → Alike u v → fd < length v.parts.items → slice_get u.parts.items fd ≡ Some p → (q : PrivateDict) × (slice_get v.parts.items fd ≡ Some q) × (items_of p.subroutines ≡ items_of q.subroutines)
+part_alike : (u v : FontView) (fd : ℕ) (p : PrivateDict) → Alike u v → fd < length v.parts.items → slice_get u.parts.items fd ≡ Some p →
+    (q : PrivateDict) × (slice_get v.parts.items fd ≡ Some q) × (items_of p.subroutines ≡ items_of q.subroutines)
 part_alike u v fd p a within e =
     let q = there_is v.parts.items fd within in
     let first = subst (λ (ps : List contents.PrivateDict). slice_get ps fd ≡ Some (part_shown p)) a.parts (shown_at u.parts.items fd p e) in
@@ -87,7 +90,8 @@ part_alike u v fd p a within e =
     let same : part_shown p ≡ part_shown q.0 = cc in
     (q.0, q.1, ap (λ (p : contents.PrivateDict). p.subroutines) same)
 
-run_alike : (u v : FontView) (glyph : ℕ) (part : PrivateDict) (run : Run) → Alike u v → HasRun u glyph part run → (part : PrivateDict) × HasRun v glyph part run
+run_alike : (u v : FontView) (glyph : ℕ) (part : PrivateDict) (run : Run) → Alike u v → HasRun u glyph part run →
+    (part : PrivateDict) × HasRun v glyph part run
 run_alike u v glyph part run a h =
     let has = h.has in
     let number = number_alike u v glyph has.number a has.has_number in
@@ -104,16 +108,28 @@ component_alike u v code glyph a h =
       not_keyed = λ keyed. h.not_keyed (subst (λ (m : Dictionary). IsCidKeyed m) (sym a.dictionary) keyed);
       set = h.set;
       is_set = subst (λ (n : ℕ). IsCharSetOf h.set v.bytes.now v.dictionary n) glyphs
-          (subst (λ (m : Dictionary). IsCharSetOf h.set v.bytes.now m (glyphs_of u)) a.dictionary (subst (λ (b : List ℕ). IsCharSetOf h.set b u.dictionary (glyphs_of u)) a.bytes h.is_set));
+          (subst (λ (m : Dictionary). IsCharSetOf h.set v.bytes.now m (glyphs_of u)) a.dictionary
+          (subst (λ (b : List ℕ). IsCharSetOf h.set b u.dictionary (glyphs_of u)) a.bytes h.is_set));
       first = subst (λ (n : ℕ). IsFirstNamed h.set (standard_identifier code) n glyph) glyphs h.first;
     }
 
-drawn_alike : (u v : FontView) (code : ℕ) (origin : Point) (segments : List Segment) → Alike u v → DrawsComponent u code origin segments → DrawsComponent v code origin segments
+drawn_alike : (u v : FontView) (code : ℕ) (origin : Point) (segments : List Segment) → Alike u v → DrawsComponent u code origin segments →
+    DrawsComponent v code origin segments
 drawn_alike u v code origin segments a d =
     let r = run_alike u v d.glyph d.part d.run a d.has in
-    record { glyph = d.glyph; part = r.0; run = d.run; component = component_alike u v code d.glyph a d.component; has = r.1; plain = d.plain; draws = d.draws }
+    record {
+      glyph =
+          d.glyph;
+      part = r.0;
+      run = d.run;
+      component = component_alike u v code d.glyph a d.component;
+      has = r.1;
+      plain = d.plain;
+      draws = d.draws;
+    }
 
-components_alike : (u v : FontView) (accent : Accent) (segments : List Segment) → Alike u v → DrawsComponents u accent segments → DrawsComponents v accent segments
+components_alike : (u v : FontView) (accent : Accent) (segments : List Segment) → Alike u v → DrawsComponents u accent segments →
+    DrawsComponents v accent segments
 components_alike u v accent segments a d = record {
   base = d.base;
   above = d.above;
@@ -130,15 +146,28 @@ plain_end UsedUp h not = refl
 plain_end (Returned st) h not = refl
 plain_end (Fault e) h not = refl
 
-named_draws : (bytes : List ℕ) (v : FontView) (run : Run) (named : Option Accent) (own more segments : List Segment) → IsFirst bytes v → IsRunsEnd run.end → IsNamedBy (taken_by run.end) named → AreNamed bytes named more
+named_draws : (bytes : List ℕ) (v : FontView) (run : Run) (named : Option Accent) (own more segments : List Segment) → IsFirst bytes v →
+    IsRunsEnd run.end → IsNamedBy (taken_by run.end) named → AreNamed bytes named more
     → DrawsAt zero_point run own → segments ≡ own ++ more → DrawsPlain run segments ⊎ DrawsAccented v run segments
 named_draws bytes v run None own more segments first ends names draws draws_own all =
     let same : segments ≡ own = all ∙ ap (λ (more : List Segment). own ++ more) draws ∙ append-nil own in
-    inl (record { plain = plain_end run.end ends names; draws = subst (λ (segments : List Segment). DrawsAt zero_point run segments) (sym same) draws_own })
+    inl (record {
+      plain = plain_end run.end ends names;
+      draws = subst (λ (segments : List Segment). DrawsAt zero_point run segments) (sym same) draws_own;
+    })
 named_draws bytes v run (Some accent) own more segments first ends names draws draws_own all =
-    inr (record { accent = accent; own = own; more = more; accented = names; draws_own = draws_own; draws_more = components_alike draws.0 v accent more (alike bytes draws.0 v draws.1 first) draws.2; all = all })
+    inr (record {
+      accent = accent;
+      own = own;
+      more = more;
+      accented = names;
+      draws_own = draws_own;
+      draws_more = components_alike draws.0 v accent more (alike bytes draws.0 v draws.1 first) draws.2;
+      all = all;
+    })
 
-drawn_in : (limit : ℕ) (bytes : List ℕ) (v : FontView) (glyph : ℕ) (code : List ℕ) (part : PrivateDict) (segments : List Segment) (width : Option ℤ) → IsFirst bytes v → HasGlyph v glyph code part → DrawsWhole limit bytes (program_in v code part) segments width
+drawn_in : (limit : ℕ) (bytes : List ℕ) (v : FontView) (glyph : ℕ) (code : List ℕ) (part : PrivateDict) (segments : List Segment)
+    (width : Option ℤ) → IsFirst bytes v → HasGlyph v glyph code part → DrawsWhole limit bytes (program_in v code part) segments width
     → IsDrawnAs v glyph segments width
 drawn_in limit bytes v glyph code part segments width first has d =
     let lists = lent (items_of v.global_subroutines) (items_of part.subroutines) in
@@ -152,7 +181,8 @@ drawn_in limit bytes v glyph code part segments width first has d =
     }
 
 -- a glyph that C draws is one of the font
-drawn_there : (bytes : List ℕ) (font : PsfFont) (v : FontView) (glyph : ℕ) (found : PsfPart) (program : Pending) → SamePart bytes font v glyph → program_at font found glyph bytes 0 ≡ Got (Some program) 0 → glyph < font.glyphs
+drawn_there : (bytes : List ℕ) (font : PsfFont) (v : FontView) (glyph : ℕ) (found : PsfPart) (program : Pending) →
+    SamePart bytes font v glyph → program_at font found glyph bytes 0 ≡ Got (Some program) 0 → glyph < font.glyphs
 drawn_there bytes font v glyph found program same e = elim (cases_lt glyph font.glyphs) [
   | inl below ↦ below
   | inr behind ↦
@@ -170,4 +200,5 @@ draws_in_place bytes font v glyph told first start found segments width in_c d =
     let has : HasGlyph v glyph code.0 p.0 = record { number = fd.0; has_number = fd.1; has_part = p.1; has_code = code.1 } in
     let both : Some (program_in v code.0 p.0) ≡ Some d.0 = (got _ _ _ _ (sym (same.program code.0 p.0 found has in_c) ∙ d.1)).0 in
     let program : d.0 ≡ program_in v code.0 p.0 = cc in
-    drawn_in font.limit bytes v glyph code.0 p.0 segments width first has (subst (λ (program : Pending). DrawsWhole font.limit bytes program segments width) program d.2)
+    drawn_in font.limit bytes v glyph code.0 p.0 segments width first has
+    (subst (λ (program : Pending). DrawsWhole font.limit bytes program segments width) program d.2)

@@ -15,9 +15,11 @@ means (LineTo p) = refl
 means (CurveTo a b c) = refl
 means Close = refl
 
-pub given : (segments : List PsfSegment) (segment : Segment) → map meant (segments ++ shown segment ∷ []) ≡ map meant segments ++ segment ∷ []
+pub given : (segments : List PsfSegment) (segment : Segment) →
+    map meant (segments ++ shown segment ∷ []) ≡ map meant segments ++ segment ∷ []
 given segments segment = map-append meant segments (shown segment ∷ []) ∙ ap (λ last. map meant segments ++ last ∷ []) (means segment)
 
 -- a list that was empty and has been given segments, one after another, is these
-pub all-given : (xs new given : List Segment) → xs ≡ [] → Receives (λ old segment next. next ≡ old ++ segment ∷ []) xs given new → new ≡ given
+pub all-given : (xs new given : List Segment) → xs ≡ [] → Receives (λ old segment next. next ≡ old ++ segment ∷ []) xs given new →
+    new ≡ given
 all-given xs new given none is = list-received given xs new is ∙ ap (λ ys. ys ++ given) none

@@ -10,7 +10,10 @@ use Rattle.postscript_c.specs.Places.{tables}
 use Rattle.postscript_c.specs.declared.font.PsfFont.{PsfFont}
 use Rattle.postscript_view.specs.Order.{aside, header_size}
 
-pub told : (bytes : List ℕ) (answer : Result PsfFont Error) (size : ℕ) (map : Dictionary) (global : ℕ) → header_size bytes 0 ≡ Got size 0 → aside size tables bytes 0 ≡ Got (map, global) 0
-    → IfOk answer (λ font. HaveWidths bytes map font.part) → IfOk answer (λ font. IsKeyedBy map font) → IfOk answer (λ font. TellsWidths bytes font)
-told bytes (Ok font) size map global header stands have keyed = record { size = size; map = map; global = global; header = header; stands = stands; have = have; keyed = keyed }
+pub told : (bytes : List ℕ) (answer : Result PsfFont Error) (size : ℕ) (map : Dictionary) (global : ℕ) →
+    header_size bytes 0 ≡ Got size 0 → aside size tables bytes 0 ≡ Got (map, global) 0
+    → IfOk answer (λ font. HaveWidths bytes map font.part) → IfOk answer (λ font. IsKeyedBy map font) → IfOk answer
+    (λ font. TellsWidths bytes font)
+told bytes (Ok font) size map global header stands have keyed =
+    record { size = size; map = map; global = global; header = header; stands = stands; have = have; keyed = keyed }
 told bytes (Err refusal) size map global header stands have keyed = tt

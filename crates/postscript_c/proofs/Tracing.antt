@@ -13,9 +13,12 @@ use Rattle.postscript_outline.specs.Points.{point}
 use Rattle.postscript_outline.specs.Tight.{IsTightBoundsOf, arcs}
 use Rattle.postscript_outline.specs.declared.tight.TightBounds.{TightBounds}
 
-pub traced-so : (bytes : List ℕ) (font : PsfFont) (part : PsfPart) (glyph : ℕ) (traced : Result (Option TightBounds) Error) (status : ℤ) (old new : PsfBounds) →
-    IfOk traced (λ found. MatchOption found (HasNone bytes font part glyph) (λ tight. IsTracedOver bytes font part glyph tight.bounds)) → IfErr traced (λ e. IsUndrawnOver bytes font part glyph e) →
-    TellsTraced traced status old new → (answer : Result (Option Glyph) Error) × IsOf bytes font part glyph answer × TellsBounds answer status old new
+pub traced-so : (bytes : List ℕ) (font : PsfFont) (part : PsfPart) (glyph : ℕ) (traced : Result (Option TightBounds) Error) (status : ℤ)
+    (old new : PsfBounds) →
+    IfOk traced (λ found. MatchOption found (HasNone bytes font part glyph)
+    (λ tight. IsTracedOver bytes font part glyph tight.bounds)) → IfErr traced (λ e. IsUndrawnOver bytes font part glyph e) →
+    TellsTraced traced status old new → (answer : Result (Option Glyph) Error) × IsOf bytes font part glyph answer × TellsBounds answer
+    status old new
 traced-so bytes font part glyph (Ok (Some tight)) status old new is why tells = (
   Ok (Some (record { drawn = record { segments = is.0; width = is.1.0 }; part = part })),
   (refl, is.1.1),

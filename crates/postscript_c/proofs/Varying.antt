@@ -10,7 +10,8 @@ use Rattle.postscript_cff2.specs.declared.font.Font.{Font}
 use Rattle.postscript_sfnt.specs.declared.file.FontFile.{FontFile}
 use Rattle.postscript_variation.specs.declared.store.Store.{Store}
 
-pub none_in : (limit : ℕ) (file : FontFile) (font : Font) (values : List ℤ) (store : Store) (e : Unvaried) → font.store ≡ Some store → HasNoPlaceIn limit store e →
+pub none_in : (limit : ℕ) (file : FontFile) (font : Font) (values : List ℤ) (store : Store) (e : Unvaried) → font.store ≡ Some store →
+    HasNoPlaceIn limit store e →
     NamesNoPlace limit file font values e
 none_in limit file font values store NoTable is h = absurd h
 none_in limit file font values store (BadTable e) is h = absurd h
@@ -19,7 +20,8 @@ none_in limit file font values store (NoData number) is h = (store, is, h)
 none_in limit file font values store FarPlace is h = (store, is, h)
 none_in limit file font values store (Undrawn e) is h = absurd h
 
-pub no_font : (file : FontFile) (values : List ℤ) (glyph limit : ℕ) (e : Unvaried) → HasNoFont file e → IsVaried file values glyph limit (Err e)
+pub no_font : (file : FontFile) (values : List ℤ) (glyph limit : ℕ) (e : Unvaried) → HasNoFont file e →
+    IsVaried file values glyph limit (Err e)
 no_font file values glyph limit NoTable h = h
 no_font file values glyph limit (BadTable e) h = h
 no_font file values glyph limit (NoPlace e) h = absurd h
@@ -27,7 +29,8 @@ no_font file values glyph limit (NoData number) h = absurd h
 no_font file values glyph limit FarPlace h = absurd h
 no_font file values glyph limit (Undrawn e) h = absurd h
 
-pub no_place : (file : FontFile) (font : Font) (values : List ℤ) (glyph limit : ℕ) (e : Unvaried) → HasFont file font → NamesNoPlace limit file font values e →
+pub no_place : (file : FontFile) (font : Font) (values : List ℤ) (glyph limit : ℕ) (e : Unvaried) → HasFont file font →
+    NamesNoPlace limit file font values e →
     IsVaried file values glyph limit (Err e)
 no_place file font values glyph limit NoTable has h = absurd h
 no_place file font values glyph limit (BadTable e) has h = absurd h

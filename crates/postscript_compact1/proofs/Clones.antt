@@ -10,7 +10,8 @@ same_seen seen (x ∷ xs) [] h = absurd h
 same_seen seen (x ∷ xs) (y ∷ ys) h = let rest = same_seen seen xs ys h.1 in rw (h.0, rest) refl
 
 -- the clones have the bytes of what they are clones of
-pub same_bytes : (xs ys : List (Vec ℕ Global)) → AllZip (λ v w. AllZip (λ x y. y ≡ x) v.items w.items × (vec_len w ≡ vec_len v)) xs ys → map (λ v. v.items) ys ≡ map (λ v. v.items) xs
+pub same_bytes : (xs ys : List (Vec ℕ Global)) → AllZip (λ v w. AllZip (λ x y. y ≡ x) v.items w.items × (vec_len w ≡ vec_len v)) xs ys →
+    map (λ v. v.items) ys ≡ map (λ v. v.items) xs
 same_bytes [] [] h = refl
 same_bytes [] (y ∷ ys) h = absurd h
 same_bytes (x ∷ xs) [] h = absurd h

@@ -4,7 +4,8 @@ use Rattle.postscript_compact1.specs.Computed.Encodings.{identifier_of, runs_of,
 use Rattle.postscript_compact1.specs.declared.encoding.Encoding.{Encoding}
 use Rattle.postscript_compact1.specs.declared.encoding.Encoding.TheVariants.{Standard, Expert}
 
-known : map (λ (row : Encoding × ℕ). identifier_of row.0 row.1) ((Standard, 42) ∷ (Standard, 255) ∷ (Expert, 255) ∷ (Standard, 256) ∷ []) ≡ Some 11 ∷ Some 0 ∷ Some 378 ∷ None ∷ []
+known : map (λ (row : Encoding × ℕ). identifier_of row.0 row.1)
+    ((Standard, 42) ∷ (Standard, 255) ∷ (Expert, 255) ∷ (Standard, 256) ∷ []) ≡ Some 11 ∷ Some 0 ∷ Some 378 ∷ None ∷ []
 unfolding identifier_of
 known = refl
 

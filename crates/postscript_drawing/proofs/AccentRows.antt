@@ -56,7 +56,8 @@ unfolding number slice
 ends_in_mask = refl
 
 -- The endchar stands in the global subroutine 0, and its last operand before the call.
-in_a_routine : taken_by (run_of (lent ((0x0e ∷ []) ∷ []) []) (0xa9 ∷ 0x63 ∷ 0xcc ∷ 0xf7 ∷ 0x56 ∷ 0x20 ∷ 0x1d ∷ [])).end ≡ n 30 ∷ minus 40 ∷ n 65 ∷ n 194 ∷ []
+in_a_routine : taken_by (run_of (lent ((0x0e ∷ []) ∷ []) []) (0xa9 ∷ 0x63 ∷ 0xcc ∷ 0xf7 ∷ 0x56 ∷ 0x20 ∷ 0x1d ∷ [])).end ≡ n 30 ∷ minus
+    40 ∷ n 65 ∷ n 194 ∷ []
 unfolding number slice
 in_a_routine = refl
 

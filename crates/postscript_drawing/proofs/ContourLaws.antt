@@ -40,23 +40,28 @@ shaped-begun place true segments h = h
 shaped-begun place false segments h = leads-append segments (MoveTo place ∷ []) false false true h refl
 
 -- what holds after each step holds after both
-after : {A B : Type 0} (Q : A → Type 0) (P : B → Type 0) (r : Result A Refusal) (next : A → Result B Refusal) → IfOk r Q → ((x : A) → Q x → IfOk (next x) P) → IfOk (r >>= next) P
+after : {A B : Type 0} (Q : A → Type 0) (P : B → Type 0) (r : Result A Refusal) (next : A → Result B Refusal) → IfOk r Q →
+    ((x : A) → Q x → IfOk (next x) P) → IfOk (r >>= next) P
 after Q P (Ok x) next h k = k x h
 after Q P (Err e) next h k = tt
 
-any : {A B : Type 0} (P : B → Type 0) (r : Result A Refusal) (next : A → Result B Refusal) → ((x : A) → IfOk (next x) P) → IfOk (r >>= next) P
+any : {A B : Type 0} (P : B → Type 0) (r : Result A Refusal) (next : A → Result B Refusal) → ((x : A) → IfOk (next x) P) →
+    IfOk (r >>= next) P
 any P (Ok x) next k = k x
 any P (Err e) next k = tt
 
 shaped-drawn : (s : Stroke) (d : Drawing) → IsShaped d → IfOk (drawn s d) IsShaped
 shaped-drawn (Move v) d h =
-    any IsShaped (reached d.place v) _ (λ p. leads-append (closed d).segments (MoveTo p ∷ []) false false true (shaped-closed d.place d.is_open d.segments h) refl)
+    any IsShaped (reached d.place v) _
+    (λ p. leads-append (closed d).segments (MoveTo p ∷ []) false false true (shaped-closed d.place d.is_open d.segments h) refl)
 shaped-drawn (Line v) d h =
-    any IsShaped (reached d.place v) _ (λ p. leads-append (begun d).segments (LineTo p ∷ []) false true true (shaped-begun d.place d.is_open d.segments h) refl)
+    any IsShaped (reached d.place v) _
+    (λ p. leads-append (begun d).segments (LineTo p ∷ []) false true true (shaped-begun d.place d.is_open d.segments h) refl)
 shaped-drawn (Curve a b c) d h =
     any IsShaped (reached d.place a) _ (λ p.
     any IsShaped (reached p b) _ (λ q.
-    any IsShaped (reached q c) _ (λ r. leads-append (begun d).segments (CurveTo p q r ∷ []) false true true (shaped-begun d.place d.is_open d.segments h) refl)))
+    any IsShaped (reached q c) _
+    (λ r. leads-append (begun d).segments (CurveTo p q r ∷ []) false true true (shaped-begun d.place d.is_open d.segments h) refl)))
 
 shaped-drawing : (ss : List Stroke) (d : Drawing) → IsShaped d → IfOk (drawing ss d) IsShaped
 shaped-drawing [] d h = h
@@ -65,7 +70,8 @@ shaped-drawing (s ∷ ss) d h = after IsShaped IsShaped (drawn s d) (drawing ss)
 shaped-drawing_of : (answers : List Answer) (d : Drawing) → IsShaped d → IfOk (drawing_of answers d) IsShaped
 shaped-drawing_of [] d h = h
 shaped-drawing_of (answer ∷ answers) d h =
-    after IsShaped IsShaped (drawing (strokes answer.operator answer.operands) d) (drawing_of answers) (shaped-drawing (strokes answer.operator answer.operands) d h) (λ e k. shaped-drawing_of answers e k)
+    after IsShaped IsShaped (drawing (strokes answer.operator answer.operands) d) (drawing_of answers)
+    (shaped-drawing (strokes answer.operator answer.operands) d h) (λ e k. shaped-drawing_of answers e k)
 
 shaped-finished : (end : End) (d : Drawing) → IsShaped d → IfOk (finished end d) AreContours
 shaped-finished (Fault e) d h = tt
@@ -75,16 +81,21 @@ shaped-finished (Finished taken width) d h = shaped-closed d.place d.is_open d.s
 
 -- what is drawn from a point is contours
 pub contours-at : (origin : Point) (answers : List Answer) (end : End) → IfOk (outlined_at origin answers end) AreContours
-contours-at origin answers end = after IsShaped AreContours (drawing_of answers (blank_at origin)) (finished end) (shaped-drawing_of answers (blank_at origin) refl) (shaped-finished end)
+contours-at origin answers end =
+    after IsShaped AreContours (drawing_of answers (blank_at origin)) (finished end) (shaped-drawing_of answers (blank_at origin) refl)
+    (shaped-finished end)
 
-pub drawn-contours : (origin : Point) (answers : List Answer) (end : End) (segments : List Segment) → outlined_at origin answers end ≡ Ok segments → AreContours segments
-drawn-contours origin answers end segments is = let P : Result (List Segment) Refusal → Type 0 = λ r. IfOk r AreContours in subst P is (contours-at origin answers end)
+pub drawn-contours : (origin : Point) (answers : List Answer) (end : End) (segments : List Segment) →
+    outlined_at origin answers end ≡ Ok segments → AreContours segments
+drawn-contours origin answers end segments is =
+    let P : Result (List Segment) Refusal → Type 0 = λ r. IfOk r AreContours in subst P is (contours-at origin answers end)
 
 pub contours-both : (these those : List Segment) → AreContours these → AreContours those → AreContours (these ++ those)
 contours-both these those first next = leads-append these those false false false first next
 
 -- and so is all that a glyph draws
-pub glyph-contours : (font : FontView) (glyph : ℕ) (segments : List Segment) (width : Option ℤ) → IsDrawnAs font glyph segments width → AreContours segments
+pub glyph-contours : (font : FontView) (glyph : ℕ) (segments : List Segment) (width : Option ℤ) → IsDrawnAs font glyph segments width →
+    AreContours segments
 glyph-contours font glyph segments width is = by_kind is.drawn
   where
     component : (code : ℕ) (origin : Point) (those : List Segment) → DrawsComponent font code origin those → AreContours those
@@ -94,6 +105,8 @@ glyph-contours font glyph segments width is = by_kind is.drawn
     by_kind (inl plain) = drawn-contours zero_point is.run.answers is.run.end segments plain.draws
     by_kind (inr accented) =
         let more = accented.draws_more in
-        let parts = contours-both more.base more.above (component accented.accent.base _ more.base more.draws_base) (component accented.accent.accent _ more.above more.draws_accent) in
+        let parts = contours-both more.base more.above (component accented.accent.base _ more.base more.draws_base)
+        (component accented.accent.accent _ more.above more.draws_accent) in
         let own = drawn-contours zero_point is.run.answers is.run.end accented.own accented.draws_own in
-        subst AreContours (sym (accented.all ∙ ap (λ v. accented.own ++ v) more.all)) (contours-both accented.own (more.base ++ more.above) own parts)
+        subst AreContours (sym (accented.all ∙ ap (λ v. accented.own ++ v) more.all))
+        (contours-both accented.own (more.base ++ more.above) own parts)

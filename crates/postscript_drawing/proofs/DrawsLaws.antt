@@ -20,10 +20,12 @@ use Rattle.postscript_drawing.specs.Outcome.{DrawsInto, DrawsStrokes, IsFront}
 use Rattle.postscript_drawing.proofs.GivenLaws.{drawing-append, drawing-behind, drawing-grows, front-of, front-through, front-under, mapped, prefixed}
 
 -- a refusal that is passed on
-pub passed-on : {T : Type 0} {after : T → Segment → T → Type 0} {refuses : T → Type 0} {strokes : List Stroke} {pen pen' : Pen} {old new : T} (r : Result (Unit {0}) Undrawn) (e : Undrawn) → IsErrAnd r (λ x. x ≡ e) →
+pub passed-on : {T : Type 0} {after : T → Segment → T → Type 0} {refuses : T → Type 0} {strokes : List Stroke} {pen pen' : Pen}
+    {old new : T} (r : Result (Unit {0}) Undrawn) (e : Undrawn) → IsErrAnd r (λ x. x ≡ e) →
     DrawsStrokes after refuses strokes pen old (Err e) pen' new → DrawsStrokes after refuses strokes pen old r pen' new
 passed-on (Ok x) e same draws = absurd same
-passed-on {T} {after} {refuses} {strokes} {pen} {pen'} {old} {new} (Err x) e same draws = subst (λ x. DrawsStrokes after refuses strokes pen old (Err x) pen' new) (sym same) draws
+passed-on {T} {after} {refuses} {strokes} {pen} {pen'} {old} {new} (Err x) e same draws =
+    subst (λ x. DrawsStrokes after refuses strokes pen old (Err x) pen' new) (sym same) draws
 
 -- strokes, and others behind them
 
@@ -34,7 +36,8 @@ mapped-into xs wanted (Err Overflow) pen given is = ap (mapped (prefixed xs)) is
 mapped-into xs wanted (Err Full) pen given is = tt
 
 mapped-front : (xs : List Segment) (wanted : Result Drawing Refusal) (r : Result (Unit {0}) Undrawn) (given : List Segment) →
-    OnErr r (IfOk wanted (λ d. IsFront given d.segments)) → OnErr r (IfOk (mapped (prefixed xs) wanted) (λ d. IsFront (xs ++ given) d.segments))
+    OnErr r (IfOk wanted (λ d. IsFront given d.segments)) → OnErr r
+    (IfOk (mapped (prefixed xs) wanted) (λ d. IsFront (xs ++ given) d.segments))
 mapped-front xs wanted (Ok done) given front = tt
 mapped-front xs (Ok d) (Err e) given front = front-under xs given d.segments front
 mapped-front xs (Err f) (Err e) given front = tt
@@ -45,31 +48,39 @@ both-drawn : (these those : List Stroke) (pen mid : Pen) (given : List Segment) 
 both-drawn these those pen mid given first =
     drawing-append these those (held pen []) ∙ ap (λ r. r >>= drawing those) first ∙ drawing-behind those (held mid given)
 
-pub joined : {T : Type 0} {after : T → Segment → T → Type 0} {refuses : T → Type 0} {these those : List Stroke} {pen mid pen' : Pen} {old between new : T} {done : Unit {0}} {r : Result (Unit {0}) Undrawn} →
-    DrawsStrokes after refuses these pen old (Ok done) mid between → DrawsStrokes after refuses those mid between r pen' new → DrawsStrokes after refuses (these ++ those) pen old r pen' new
+pub joined : {T : Type 0} {after : T → Segment → T → Type 0} {refuses : T → Type 0} {these those : List Stroke} {pen mid pen' : Pen}
+    {old between new : T} {done : Unit {0}} {r : Result (Unit {0}) Undrawn} →
+    DrawsStrokes after refuses these pen old
+    (Ok done) mid between → DrawsStrokes after refuses those mid between r pen' new → DrawsStrokes after refuses
+    (these ++ those) pen old r pen' new
 joined {T} {after} {refuses} {these} {those} {pen} {mid} {pen'} {old} {between} {new} {done} {r} first next =
     let whole = sym (both-drawn these those pen mid first.given first.draws.exact) in
     let wanted = drawing those (held mid []) in
     record {
       given = first.given ++ next.given;
       draws = record {
-        exact = subst (λ w. DrawsInto w r (held pen' (first.given ++ next.given))) whole (mapped-into first.given wanted r pen' next.given next.draws.exact);
-        front = subst (λ w. OnErr r (IfOk w (λ d. IsFront (first.given ++ next.given) d.segments))) whole (mapped-front first.given wanted r next.given next.draws.front);
+        exact = subst (λ w. DrawsInto w r (held pen' (first.given ++ next.given))) whole
+            (mapped-into first.given wanted r pen' next.given next.draws.exact);
+        front = subst (λ w. OnErr r (IfOk w (λ d. IsFront (first.given ++ next.given) d.segments))) whole
+            (mapped-front first.given wanted r next.given next.draws.front);
       };
       taken = received-both after old between new first.given next.given first.taken next.taken;
       full = next.full;
     }
 
 -- the first are refused: so are they all
-first-into : (these those : List Stroke) (d new : Drawing) (e : Undrawn) → DrawsInto (drawing these d) (Err e) new → DrawsInto (drawing (these ++ those) d) (Err e) new
+first-into : (these those : List Stroke) (d new : Drawing) (e : Undrawn) → DrawsInto (drawing these d) (Err e) new →
+    DrawsInto (drawing (these ++ those) d) (Err e) new
 first-into these those d new Full wanted = tt
 first-into these those d new Overflow wanted = drawing-append these those d ∙ ap (λ r. r >>= drawing those) wanted
 
-pub first-refused : {T : Type 0} {after : T → Segment → T → Type 0} {refuses : T → Type 0} {these : List Stroke} (those : List Stroke) {pen pen' : Pen} {old new : T} {e : Undrawn} →
+pub first-refused : {T : Type 0} {after : T → Segment → T → Type 0} {refuses : T → Type 0} {these : List Stroke} (those : List Stroke)
+    {pen pen' : Pen} {old new : T} {e : Undrawn} →
     DrawsStrokes after refuses these pen old (Err e) pen' new → DrawsStrokes after refuses (these ++ those) pen old (Err e) pen' new
 first-refused {T} {after} {refuses} {these} those {pen} {pen'} {old} {new} {e} draws =
     let Fronts : Result Drawing Refusal → Type 0 = λ w. IfOk w (λ d. IsFront draws.given d.segments) in
-    let grows = front-through (λ d. d.segments) (λ d. d.segments) draws.given (drawing these (held pen [])) (drawing those) draws.draws.front (drawing-grows those) in
+    let grows = front-through (λ d. d.segments) (λ d. d.segments) draws.given (drawing these (held pen []))
+    (drawing those) draws.draws.front (drawing-grows those) in
     record {
       given = draws.given;
       draws = record {
@@ -81,16 +92,25 @@ first-refused {T} {after} {refuses} {these} those {pen} {pen'} {old} {new} {e} d
     }
 
 -- Some of the strokes are drawn, and these are left.
-pub record SoFar {T : Type 0} (after : T → Segment → T → Type 0) (refuses : T → Type 0) (all left : List Stroke) (pen : Pen) (old : T) (pen' : Pen) (new : T) : Type 0 where
+pub record SoFar {T : Type 0} (after : T → Segment → T → Type 0) (refuses : T → Type 0) (all left : List Stroke) (pen : Pen) (old : T)
+    (pen' : Pen) (new : T) : Type 0 where
   pub done : List Stroke
   pub parts : all ≡ done ++ left
   pub draws : DrawsStrokes after refuses done pen old (Ok tt) pen' new
 
-pub at_first : {T : Type 0} {after : T → Segment → T → Type 0} {refuses : T → Type 0} {all : List Stroke} {pen : Pen} {old : T} → SoFar after refuses all all pen old pen old
-at_first = record { done = []; parts = refl; draws = record { given = []; draws = record { exact = refl; front = tt }; taken = refl; full = tt } }
+pub at_first : {T : Type 0} {after : T → Segment → T → Type 0} {refuses : T → Type 0} {all : List Stroke} {pen : Pen} {old : T} →
+    SoFar after refuses all all pen old pen old
+at_first = record {
+  done =
+      [];
+  parts = refl;
+  draws = record { given = []; draws = record { exact = refl; front = tt }; taken = refl; full = tt };
+}
 
-pub so_more : {T : Type 0} {after : T → Segment → T → Type 0} {refuses : T → Type 0} {all left : List Stroke} (these rest : List Stroke) {pen mid pen' : Pen} {old between new : T} {done : Unit {0}} → left ≡ these ++ rest →
-    SoFar after refuses all left pen old mid between → DrawsStrokes after refuses these mid between (Ok done) pen' new → SoFar after refuses all rest pen old pen' new
+pub so_more : {T : Type 0} {after : T → Segment → T → Type 0} {refuses : T → Type 0} {all left : List Stroke} (these rest : List Stroke)
+    {pen mid pen' : Pen} {old between new : T} {done : Unit {0}} → left ≡ these ++ rest →
+    SoFar after refuses all left pen old mid between → DrawsStrokes after refuses these mid between
+    (Ok done) pen' new → SoFar after refuses all rest pen old pen' new
 so_more these rest parts far draws = record {
   done = far.done ++ these;
   parts = far.parts ∙ ap (λ v. far.done ++ v) parts ∙ sym (append_assoc far.done these rest);
@@ -98,27 +118,37 @@ so_more these rest parts far draws = record {
 }
 
 -- those that are left are drawn to their end, or refused
-pub so_rest : {T : Type 0} {after : T → Segment → T → Type 0} {refuses : T → Type 0} {all left : List Stroke} {pen mid pen' : Pen} {old between new : T} {r : Result (Unit {0}) Undrawn} →
-    SoFar after refuses all left pen old mid between → DrawsStrokes after refuses left mid between r pen' new → DrawsStrokes after refuses all pen old r pen' new
+pub so_rest : {T : Type 0} {after : T → Segment → T → Type 0} {refuses : T → Type 0} {all left : List Stroke} {pen mid pen' : Pen}
+    {old between new : T} {r : Result (Unit {0}) Undrawn} →
+    SoFar after refuses all left pen old mid between → DrawsStrokes after refuses left mid between r pen' new → DrawsStrokes after refuses
+    all pen old r pen' new
 so_rest {T} {after} {refuses} {all} {left} {pen} {mid} {pen'} {old} {between} {new} {r} far draws =
     subst (λ v. DrawsStrokes after refuses v pen old r pen' new) (sym far.parts) (joined far.draws draws)
 
-pub so_refused : {T : Type 0} {after : T → Segment → T → Type 0} {refuses : T → Type 0} {all left : List Stroke} (these rest : List Stroke) {pen mid pen' : Pen} {old between new : T} {e : Undrawn} → left ≡ these ++ rest →
-    SoFar after refuses all left pen old mid between → DrawsStrokes after refuses these mid between (Err e) pen' new → DrawsStrokes after refuses all pen old (Err e) pen' new
+pub so_refused : {T : Type 0} {after : T → Segment → T → Type 0} {refuses : T → Type 0} {all left : List Stroke}
+    (these rest : List Stroke) {pen mid pen' : Pen} {old between new : T} {e : Undrawn} → left ≡ these ++ rest →
+    SoFar after refuses all left pen old mid between → DrawsStrokes after refuses these mid between
+    (Err e) pen' new → DrawsStrokes after refuses all pen old (Err e) pen' new
 so_refused {T} {after} {refuses} {all} {left} these rest {pen} {mid} {pen'} {old} {between} {new} {e} parts far draws =
     so_rest far (subst (λ v. DrawsStrokes after refuses v mid between (Err e) pen' new) (sym parts) (first-refused rest draws))
 
-pub so_all : {T : Type 0} {after : T → Segment → T → Type 0} {refuses : T → Type 0} {all left : List Stroke} {pen pen' : Pen} {old new : T} → left ≡ [] → SoFar after refuses all left pen old pen' new → DrawsStrokes after refuses all pen old (Ok tt) pen' new
+pub so_all : {T : Type 0} {after : T → Segment → T → Type 0} {refuses : T → Type 0} {all left : List Stroke} {pen pen' : Pen}
+    {old new : T} → left ≡ [] → SoFar after refuses all left pen old pen' new → DrawsStrokes after refuses all pen old (Ok tt) pen' new
 so_all {T} {after} {refuses} {all} {left} {pen} {pen'} {old} {new} none far =
-    subst (λ v. DrawsStrokes after refuses v pen old (Ok tt) pen' new) (sym (far.parts ∙ ap (λ v. far.done ++ v) none ∙ append-nil far.done)) far.draws
+    subst (λ v. DrawsStrokes after refuses v pen old (Ok tt) pen' new)
+    (sym (far.parts ∙ ap (λ v. far.done ++ v) none ∙ append-nil far.done)) far.draws
 
 -- one stroke
 
 -- it leaves the range: nothing is given
-pub overflows : {T : Type 0} {after : T → Segment → T → Type 0} {refuses : T → Type 0} (s : Stroke) (pen pen' : Pen) {old new : T} → drawn s (held pen []) ≡ Err overflow → new ≡ old → DrawsStrokes after refuses (s ∷ []) pen old (Err Overflow) pen' new
+pub overflows : {T : Type 0} {after : T → Segment → T → Type 0} {refuses : T → Type 0} (s : Stroke) (pen pen' : Pen) {old new : T} →
+    drawn s (held pen []) ≡ Err overflow → new ≡ old → DrawsStrokes after refuses (s ∷ []) pen old (Err Overflow) pen' new
 overflows s pen pen' out same = record {
   given = [];
-  draws = record { exact = ap (λ r. r >>= drawing []) out; front = by-refusal (drawing (s ∷ []) (held pen [])) (ap (λ r. r >>= drawing []) out) };
+  draws = record {
+    exact = ap (λ r. r >>= drawing []) out;
+    front = by-refusal (drawing (s ∷ []) (held pen [])) (ap (λ r. r >>= drawing []) out);
+  };
   taken = same;
   full = tt;
 }
@@ -132,25 +162,33 @@ any-front : (w : Result Drawing Refusal) → IfOk w (λ d. IsFront [] d.segments
 any-front (Ok d) = refl
 any-front (Err e) = tt
 
-pub full_at_once : {T : Type 0} {after : T → Segment → T → Type 0} {refuses : T → Type 0} (s : Stroke) (pen pen' : Pen) {old new : T} → new ≡ old → refuses new → DrawsStrokes after refuses (s ∷ []) pen old (Err Full) pen' new
-full_at_once s pen pen' same full = record { given = []; draws = record { exact = tt; front = any-front (drawing (s ∷ []) (held pen [])) }; taken = same; full = full }
+pub full_at_once : {T : Type 0} {after : T → Segment → T → Type 0} {refuses : T → Type 0} (s : Stroke) (pen pen' : Pen) {old new : T} →
+    new ≡ old → refuses new → DrawsStrokes after refuses (s ∷ []) pen old (Err Full) pen' new
+full_at_once s pen pen' same full =
+    record { given = []; draws = record { exact = tt; front = any-front (drawing (s ∷ []) (held pen [])) }; taken = same; full = full }
 
 -- the contour is ended, or begun, and the segment itself is not taken
-pub full_behind : {T : Type 0} {after : T → Segment → T → Type 0} {refuses : T → Type 0} (s : Stroke) (pen pen' : Pen) (first : List Segment) (segment : Segment) (d : Drawing) {old mid new : T} →
-    drawn s (held pen []) ≡ Ok d → d.segments ≡ first ++ segment ∷ [] → Receives after old first mid → new ≡ mid → refuses new → DrawsStrokes after refuses (s ∷ []) pen old (Err Full) pen' new
+pub full_behind : {T : Type 0} {after : T → Segment → T → Type 0} {refuses : T → Type 0} (s : Stroke) (pen pen' : Pen)
+    (first : List Segment) (segment : Segment) (d : Drawing) {old mid new : T} →
+    drawn s (held pen []) ≡ Ok d → d.segments ≡ first ++ segment ∷ [] → Receives after old first mid → new ≡ mid → refuses
+    new → DrawsStrokes after refuses (s ∷ []) pen old (Err Full) pen' new
 full_behind {T} {after} {refuses} s pen pen' first segment d {old} {mid} {new} is all begun same full = record {
   given = first;
   draws = record {
     exact = tt;
-    front = subst (λ (w : Result Drawing Refusal). IfOk w (λ e. IsFront first e.segments)) (sym (ap (λ r. r >>= drawing []) is)) (subst (IsFront first) (sym all) (front-of first (segment ∷ [])));
+    front = subst (λ (w : Result Drawing Refusal). IfOk w (λ e. IsFront first e.segments)) (sym (ap (λ r. r >>= drawing []) is))
+        (subst (IsFront first) (sym all) (front-of first (segment ∷ [])));
   };
   taken = subst (Receives after old first) (sym same) begun;
   full = full;
 }
 
 -- it is drawn
-pub stroke_drawn : {T : Type 0} {after : T → Segment → T → Type 0} {refuses : T → Type 0} (s : Stroke) (pen pen' : Pen) (first : List Segment) (segment : Segment) (d : Drawing) {done : Unit {0}} {old new : T} (mid : T) →
-    drawn s (held pen []) ≡ Ok d → d ≡ held pen' (first ++ segment ∷ []) → Receives after old first mid → after mid segment new → DrawsStrokes after refuses (s ∷ []) pen old (Ok done) pen' new
+pub stroke_drawn : {T : Type 0} {after : T → Segment → T → Type 0} {refuses : T → Type 0} (s : Stroke) (pen pen' : Pen)
+    (first : List Segment) (segment : Segment) (d : Drawing) {done : Unit {0}} {old new : T} (mid : T) →
+    drawn s (held pen []) ≡ Ok d → d ≡ held pen'
+    (first ++ segment ∷ []) → Receives after old first mid → after mid segment new → DrawsStrokes after refuses (s ∷ []) pen old
+    (Ok done) pen' new
 stroke_drawn {T} {after} {refuses} s pen pen' first segment d {done} {old} {new} mid is all begun same = record {
   given = first ++ segment ∷ [];
   draws = record { exact = ap (λ r. r >>= drawing []) is ∙ ap Ok all; front = tt };
@@ -160,30 +198,39 @@ stroke_drawn {T} {after} {refuses} s pen pen' first segment d {done} {old} {new}
 
 -- what a stroke draws, from a pen that stands there
 
-closed-there : (at : Point) (is_open : Bool) → (closed (held (record { at = at; is_open = is_open }) [])).segments ≡ closing (record { at = at; is_open = is_open })
+closed-there : (at : Point) (is_open : Bool) →
+    (closed (held (record { at = at; is_open = is_open }) [])).segments ≡ closing (record { at = at; is_open = is_open })
 closed-there at true = refl
 closed-there at false = refl
 
-begun-there : (at : Point) (is_open : Bool) → (begun (held (record { at = at; is_open = is_open }) [])).segments ≡ opening (record { at = at; is_open = is_open })
+begun-there : (at : Point) (is_open : Bool) →
+    (begun (held (record { at = at; is_open = is_open }) [])).segments ≡ opening (record { at = at; is_open = is_open })
 begun-there at true = refl
 begun-there at false = refl
 
 abbrev pub standing : (at : Point) (segments : List Segment) → Drawing
 standing at segments = record { place = at; is_open = true; segments = segments }
 
-pub moved : (pen : Pen) (by : Vector) (p : Point) → reached pen.at by ≡ Ok p → drawn (Move by) (held pen []) ≡ Ok (standing p (closing pen ++ MoveTo p ∷ []))
-moved pen by p is = ap (λ r. r >>= λ q. Ok (standing q ((closed (held pen [])).segments ++ MoveTo q ∷ []))) is ∙ ap (λ v. Ok (standing p (v ++ MoveTo p ∷ []))) (closed-there pen.at pen.is_open)
+pub moved : (pen : Pen) (by : Vector) (p : Point) → reached pen.at by ≡ Ok p → drawn (Move by)
+    (held pen []) ≡ Ok (standing p (closing pen ++ MoveTo p ∷ []))
+moved pen by p is =
+    ap (λ r. r >>= λ q. Ok (standing q ((closed (held pen [])).segments ++ MoveTo q ∷ []))) is
+    ∙ ap (λ v. Ok (standing p (v ++ MoveTo p ∷ []))) (closed-there pen.at pen.is_open)
 
 pub moved-out : (pen : Pen) (by : Vector) → reached pen.at by ≡ Err overflow → drawn (Move by) (held pen []) ≡ Err overflow
 moved-out pen by is = ap (λ r. r >>= λ q. Ok (standing q ((closed (held pen [])).segments ++ MoveTo q ∷ []))) is
 
-pub lined : (pen : Pen) (by : Vector) (p : Point) → reached pen.at by ≡ Ok p → drawn (Line by) (held pen []) ≡ Ok (standing p (opening pen ++ LineTo p ∷ []))
-lined pen by p is = ap (λ r. r >>= λ q. Ok (standing q ((begun (held pen [])).segments ++ LineTo q ∷ []))) is ∙ ap (λ v. Ok (standing p (v ++ LineTo p ∷ []))) (begun-there pen.at pen.is_open)
+pub lined : (pen : Pen) (by : Vector) (p : Point) → reached pen.at by ≡ Ok p → drawn (Line by)
+    (held pen []) ≡ Ok (standing p (opening pen ++ LineTo p ∷ []))
+lined pen by p is =
+    ap (λ r. r >>= λ q. Ok (standing q ((begun (held pen [])).segments ++ LineTo q ∷ []))) is
+    ∙ ap (λ v. Ok (standing p (v ++ LineTo p ∷ []))) (begun-there pen.at pen.is_open)
 
 pub lined-out : (pen : Pen) (by : Vector) → reached pen.at by ≡ Err overflow → drawn (Line by) (held pen []) ≡ Err overflow
 lined-out pen by is = ap (λ r. r >>= λ q. Ok (standing q ((begun (held pen [])).segments ++ LineTo q ∷ []))) is
 
-pub curved : (pen : Pen) (a b c : Vector) (p q r : Point) → IsDrawnBy pen.at a b c p q r → drawn (Curve a b c) (held pen []) ≡ Ok (standing r (opening pen ++ CurveTo p q r ∷ []))
+pub curved : (pen : Pen) (a b c : Vector) (p q r : Point) → IsDrawnBy pen.at a b c p q r → drawn (Curve a b c)
+    (held pen []) ≡ Ok (standing r (opening pen ++ CurveTo p q r ∷ []))
 curved pen a b c p q r is = is pen.is_open [] ∙ ap (λ v. Ok (standing r (v ++ CurveTo p q r ∷ []))) (begun-there pen.at pen.is_open)
 
 pub curved-out : (pen : Pen) (a b c : Vector) → IsRefused pen.at a b c → drawn (Curve a b c) (held pen []) ≡ Err overflow

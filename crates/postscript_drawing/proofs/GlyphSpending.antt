@@ -14,18 +14,21 @@ use Rattle.postscript_drawing.specs.declared.glyph.Own.{Own}
 use Rattle.postscript_drawing.specs.Spending.{AreOfRuns, PaysCode, PaysComponents, PaysOwn, SpendsOnRuns}
 
 -- a drawing has spent the limit on its phrases, whatever it comes to
-pub spent : (limit left : ℕ) (phrases : List Phrase) (r : Result (Option ℤ) Error) → IsSpent limit phrases left r → (rest : List Phrase) × Spends limit phrases left rest
+pub spent : (limit left : ℕ) (phrases : List Phrase) (r : Result (Option ℤ) Error) → IsSpent limit phrases left r →
+    (rest : List Phrase) × Spends limit phrases left rest
 spent limit left phrases (Ok width) h = ([], h)
 spent limit left phrases (Err e) h = h
 
 -- phrases behind those to be run
-before-more : (limit : ℕ) (phrases : List Phrase) (left : ℕ) (rest more : List Phrase) → Spends limit phrases left rest → Spends limit (phrases ++ more) left (rest ++ more)
+before-more : (limit : ℕ) (phrases : List Phrase) (left : ℕ) (rest more : List Phrase) → Spends limit phrases left rest →
+    Spends limit (phrases ++ more) left (rest ++ more)
 before-more limit phrases left rest more nothing = nothing
 before-more limit phrases left rest more (one_more before said behind spends is_left costs) =
     one_more before said (behind ++ more) (before-more limit phrases before (said ∷ behind) more spends) is_left costs
 
 -- those that were run are at the front, and are paid
-at-front : (limit : ℕ) (phrases : List Phrase) (left : ℕ) (rest : List Phrase) → Spends limit phrases left rest → (first : List Phrase) × (phrases ≡ first ++ rest) × Spends limit first left []
+at-front : (limit : ℕ) (phrases : List Phrase) (left : ℕ) (rest : List Phrase) → Spends limit phrases left rest →
+    (first : List Phrase) × (phrases ≡ first ++ rest) × Spends limit first left []
 at-front limit phrases left rest nothing = ([], refl, nothing)
 at-front limit phrases left rest (one_more before said behind spends is_left costs) =
     let all = at-front limit phrases before (said ∷ rest) spends in (
@@ -35,7 +38,8 @@ at-front limit phrases left rest (one_more before said behind spends is_left cos
     )
 
 -- what is left is spent on
-goes-on : (limit : ℕ) (phrases : List Phrase) (left : ℕ) (rest : List Phrase) (last : ℕ) (end : List Phrase) → Spends limit phrases left rest → Spends left rest last end → Spends limit phrases last end
+goes-on : (limit : ℕ) (phrases : List Phrase) (left : ℕ) (rest : List Phrase) (last : ℕ) (end : List Phrase) →
+    Spends limit phrases left rest → Spends left rest last end → Spends limit phrases last end
 goes-on limit phrases left rest last end first nothing = first
 goes-on limit phrases left rest last end first (one_more before said behind spends is_left costs) =
     one_more before said end (goes-on limit phrases left rest before (said ∷ end) first spends) is_left costs
@@ -48,15 +52,29 @@ wider font (suc more) phrases (inr (glyph, part, run, first, rest, others, has, 
     inr (glyph, part, run, first, rest, others, has, trace, is, wider font more others behind)
 
 -- phrases of a run, and then of others
-joined : (font : FontView) (more : ℕ) (first second : List Phrase) → AreOfRuns font 1 first → AreOfRuns font more second → AreOfRuns font (suc more) (first ++ second)
-joined font more first second (inl none) behind = subst (λ xs. AreOfRuns font (suc more) (xs ++ second)) (sym none) (wider font more second behind)
+joined : (font : FontView) (more : ℕ) (first second : List Phrase) → AreOfRuns font 1 first → AreOfRuns font more second →
+    AreOfRuns font (suc more) (first ++ second)
+joined font more first second (inl none) behind =
+    subst (λ xs. AreOfRuns font (suc more) (xs ++ second)) (sym none) (wider font more second behind)
 joined font more first second (inr (glyph, part, run, front, rest, others, has, trace, is, none)) behind =
-    inr (glyph, part, run, front, rest, second, has, trace, ap (λ xs. xs ++ second) (is ∙ ap (λ xs. front ++ xs) none ∙ append-nil front), behind)
+    inr (
+      glyph,
+      part,
+      run,
+      front,
+      rest,
+      second,
+      has,
+      trace,
+      ap (λ xs. xs ++ second) (is ∙ ap (λ xs. front ++ xs) none ∙ append-nil front),
+      behind,
+    )
 
 pub nothing-spent : (font : FontView) (count limit : ℕ) → SpendsOnRuns font (suc count) limit limit
 nothing-spent font count limit = ([], inl refl, nothing)
 
-pub spends-both : (font : FontView) (more limit middle left : ℕ) → SpendsOnRuns font 1 limit middle → SpendsOnRuns font more middle left → SpendsOnRuns font (suc more) limit left
+pub spends-both : (font : FontView) (more limit middle left : ℕ) → SpendsOnRuns font 1 limit middle → SpendsOnRuns font more middle left →
+    SpendsOnRuns font (suc more) limit left
 spends-both font more limit middle left first second = (
   first.0 ++ second.0,
   joined font more first.0 second.0 first.1 second.1,
@@ -68,20 +86,24 @@ pub spends-more : (font : FontView) (count limit left : ℕ) → SpendsOnRuns fo
 spends-more font count limit left first = (first.0, wider font count first.0 first.1, first.2)
 
 -- one run
-pub spends-one : (font : FontView) (glyph : ℕ) (part : PrivateDict) (run : Run) (limit left : ℕ) → HasRun font glyph part run → (rest : List Phrase) × Spends limit run.trace left rest →
+pub spends-one : (font : FontView) (glyph : ℕ) (part : PrivateDict) (run : Run) (limit left : ℕ) → HasRun font glyph part run →
+    (rest : List Phrase) × Spends limit run.trace left rest →
     SpendsOnRuns font 1 limit left
 spends-one font glyph part run limit left has (rest, spends) =
     let front = at-front limit run.trace left rest spends in
     (front.0, inr (glyph, part, run, front.0, rest, [], has, front.1, sym (append-nil front.0), refl), front.2)
 
 -- a run that is drawn is paid
-pub pays-own : (font : FontView) (glyph : ℕ) (part : PrivateDict) (run : Run) (limit left : ℕ) (r : Result Own Error) → HasRun font glyph part run →
-    IfOk r (λ own. IsTold own.accent run) → OnOk r (Spends limit run.trace left []) → IfOk r (λ own. PaysOwn font glyph own.accent limit left)
+pub pays-own : (font : FontView) (glyph : ℕ) (part : PrivateDict) (run : Run) (limit left : ℕ) (r : Result Own Error) →
+    HasRun font glyph part run →
+    IfOk r (λ own. IsTold own.accent run) → OnOk r (Spends limit run.trace left []) → IfOk r
+    (λ own. PaysOwn font glyph own.accent limit left)
 pays-own font glyph part run limit left (Ok own) has told paid = record { part = part; run = run; has = has; told = told; paid = paid }
 pays-own font glyph part run limit left (Err e) has told paid = tt
 
 -- the base is paid, and then the accent
-pub pays-both : (font : FontView) (accent : Accent) (limit between left : ℕ) (r : Result (Unit {0}) Error) → PaysCode font accent.base limit between →
+pub pays-both : (font : FontView) (accent : Accent) (limit between left : ℕ) (r : Result (Unit {0}) Error) →
+    PaysCode font accent.base limit between →
     OnOk r (PaysCode font accent.accent between left) → OnOk r (PaysComponents font accent limit left)
 pays-both font accent limit between left (Ok done) first second = (between, first, second)
 pays-both font accent limit between left (Err e) first second = tt

@@ -17,16 +17,21 @@ use Rattle.postscript_drawing.proofs.GivenLaws.{drawing-behind, front-of, mapped
 abbrev pub appended : (old : List Segment) → Segment → (new : List Segment) → Type 0
 appended old segment new = new ≡ old ++ segment ∷ []
 
-pub list-drawn : {refuses : List Segment → Type 0} (strokes : List Stroke) (pen pen' : Pen) (old new : List Segment) (done : Unit {0}) → DrawsStrokes appended refuses strokes pen old (Ok done) pen' new →
+pub list-drawn : {refuses : List Segment → Type 0} (strokes : List Stroke) (pen pen' : Pen) (old new : List Segment) (done : Unit {0}) →
+    DrawsStrokes appended refuses strokes pen old (Ok done) pen' new →
     drawing strokes (held pen old) ≡ Ok (held pen' new)
 list-drawn strokes pen pen' old new done draws =
-    drawing-behind strokes (held pen old) ∙ ap (mapped (prefixed old)) draws.draws.exact ∙ ap (λ v. Ok (held pen' v)) (sym (list-received draws.given old new draws.taken))
+    drawing-behind strokes (held pen old) ∙ ap (mapped (prefixed old)) draws.draws.exact
+    ∙ ap (λ v. Ok (held pen' v)) (sym (list-received draws.given old new draws.taken))
 
-pub list-refused : {refuses : List Segment → Type 0} (strokes : List Stroke) (pen pen' : Pen) (old new : List Segment) (e : Undrawn) (cause : Error) → cause ≡ cause_of e → DrawsStrokes appended refuses strokes pen old (Err e) pen' new →
+pub list-refused : {refuses : List Segment → Type 0} (strokes : List Stroke) (pen pen' : Pen) (old new : List Segment) (e : Undrawn)
+    (cause : Error) → cause ≡ cause_of e → DrawsStrokes appended refuses strokes pen old (Err e) pen' new →
     (cause ≡ causes.Memory) ⊎ (drawing strokes (held pen old) ≡ Err (refusal_of cause))
 list-refused strokes pen pen' old new Full cause is draws = inl is
 list-refused strokes pen pen' old new Overflow cause is draws =
     inr (drawing-behind strokes (held pen old) ∙ ap (mapped (prefixed old)) draws.draws.exact ∙ ap (λ c. Err (refusal_of c)) (sym is))
 
-pub list-kept : {refuses : List Segment → Type 0} (strokes : List Stroke) (pen pen' : Pen) (old new : List Segment) (r : Result (Unit {0}) Undrawn) → DrawsStrokes appended refuses strokes pen old r pen' new → IsFront old new
-list-kept strokes pen pen' old new r draws = subst (IsFront old) (sym (list-received draws.given old new draws.taken)) (front-of old draws.given)
+pub list-kept : {refuses : List Segment → Type 0} (strokes : List Stroke) (pen pen' : Pen) (old new : List Segment)
+    (r : Result (Unit {0}) Undrawn) → DrawsStrokes appended refuses strokes pen old r pen' new → IsFront old new
+list-kept strokes pen pen' old new r draws =
+    subst (IsFront old) (sym (list-received draws.given old new draws.taken)) (front-of old draws.given)

@@ -16,11 +16,13 @@ says op xs = record { operator = op; operands = xs; hints = no_hints; width = No
 
 -- a triangle from (1, 2), and a contour of a point behind it: the moveto closes the triangle, and the end the point
 triangle : outlined (says RMoveTo (pos 1 ∷ pos 2 ∷ []) ∷ says HLineTo (pos 3 ∷ pos 4 ∷ []) ∷ says HMoveTo (pos 5 ∷ []) ∷ []) UsedUp
-    ≡ Ok (MoveTo (point (pos 1) (pos 2)) ∷ LineTo (point (pos 4) (pos 2)) ∷ LineTo (point (pos 4) (pos 6)) ∷ Close ∷ MoveTo (point (pos 9) (pos 6)) ∷ Close ∷ [])
+    ≡ Ok (MoveTo (point (pos 1) (pos 2)) ∷ LineTo (point (pos 4) (pos 2)) ∷ LineTo (point (pos 4) (pos 6)) ∷ Close ∷ MoveTo
+    (point (pos 9) (pos 6)) ∷ Close ∷ [])
 triangle = refl
 
 -- a line with no moveto before it begins a contour at the origin
-unmoved : outlined (says VLineTo (pos 3 ∷ []) ∷ []) (Finished [] None) ≡ Ok (MoveTo (point (pos 0) (pos 0)) ∷ LineTo (point (pos 0) (pos 3)) ∷ Close ∷ [])
+unmoved : outlined (says VLineTo (pos 3 ∷ []) ∷ [])
+    (Finished [] None) ≡ Ok (MoveTo (point (pos 0) (pos 0)) ∷ LineTo (point (pos 0) (pos 3)) ∷ Close ∷ [])
 unmoved = refl
 
 -- nothing is drawn
@@ -40,5 +42,9 @@ misfit = refl
 
 -- pairs, from the origin
 fit : applied RLineTo (pos 1 ∷ pos 2 ∷ []) blank
-    ≡ Ok (record { place = point (pos 1) (pos 2); is_open = true; segments = MoveTo (point (pos 0) (pos 0)) ∷ LineTo (point (pos 1) (pos 2)) ∷ [] })
+    ≡ Ok (record {
+      place = point (pos 1) (pos 2);
+      is_open = true;
+      segments = MoveTo (point (pos 0) (pos 0)) ∷ LineTo (point (pos 1) (pos 2)) ∷ [];
+    })
 fit = refl

@@ -56,7 +56,8 @@ has-run font i glyph has same = record {
   runs = ap (λ global. run_of (lent global (items_of glyph.part.now.subroutines)) glyph.code.now) same;
 }
 
-pub own-so : {T : Type 0} (after : T → Segment → T → Type 0) (old new : T) (r : Result Own Error) (font : FontView) (i : ℕ) (glyph : Glyph) (origin : Point) → HasRun font i glyph.part.now (run_by glyph) →
+pub own-so : {T : Type 0} (after : T → Segment → T → Type 0) (old new : T) (r : Result Own Error) (font : FontView) (i : ℕ)
+    (glyph : Glyph) (origin : Point) → HasRun font i glyph.part.now (run_by glyph) →
     IfOk r (λ own. Takes after old new (DrawsAt origin (run_by glyph))) →
     IfOk r (λ own. own.width ≡ width_of (run_by glyph)) → IfOk r (λ own. IsTold own.accent (run_by glyph)) →
     IfOk r (λ own. Takes after old new (λ segments. HasOwn font i origin segments own.width own.accent))
@@ -64,7 +65,8 @@ own-so after old new (Ok own) font i glyph origin has drawn width told =
     (drawn.0, record { part = glyph.part.now; run = run_by glyph; has = has; draws = drawn.1; width_is = width; told = told }, drawn.2)
 own-so after old new (Err e) font i glyph origin has drawn width told = tt
 
-pub refused-so : {A : Type 0} (left : ℕ) (r : Result A Error) (font : FontView) (i : ℕ) (glyph : Glyph) (origin : Point) → HasRun font i glyph.part.now (run_by glyph) →
+pub refused-so : {A : Type 0} (left : ℕ) (r : Result A Error) (font : FontView) (i : ℕ) (glyph : Glyph) (origin : Point) →
+    HasRun font i glyph.part.now (run_by glyph) →
     IfErr r (λ e. IsWanting left e ⊎ IsUndrawn origin e (run_by glyph).answers (run_by glyph).end ⊎ IsUnread e (run_by glyph)) →
     IfErr r (λ e. IsWanting left e ⊎ IsGlyphRefused font i origin e)
 refused-so left (Ok own) font i glyph origin has why = tt
@@ -75,7 +77,8 @@ refused-so left (Err e) font i glyph origin has (inr (inr unread)) =
     inr (inr (record { part = glyph.part.now; run = run_by glyph; has = has; why = inr unread }))
 
 -- a plain glyph is a component, and is drawn so
-pub draws-component : (font : FontView) (code glyph : ℕ) (origin : Point) (segments : List Segment) (width : Option ℤ) → IsComponent font code glyph →
+pub draws-component : (font : FontView) (code glyph : ℕ) (origin : Point) (segments : List Segment) (width : Option ℤ) →
+    IsComponent font code glyph →
     HasOwn font glyph origin segments width None → DrawsComponent font code origin segments
 draws-component font code glyph origin segments width component own = record {
   glyph = glyph;
@@ -87,7 +90,8 @@ draws-component font code glyph origin segments width component own = record {
   draws = own.draws;
 }
 
-pub draws-plain : (font : FontView) (glyph : ℕ) (segments : List Segment) (width : Option ℤ) → HasOwn font glyph zero_point segments width None → IsDrawnAs font glyph segments width
+pub draws-plain : (font : FontView) (glyph : ℕ) (segments : List Segment) (width : Option ℤ) →
+    HasOwn font glyph zero_point segments width None → IsDrawnAs font glyph segments width
 draws-plain font glyph segments width own = record {
   part = own.part;
   run = own.run;
@@ -101,7 +105,8 @@ pub is-accented : (font : FontView) (glyph : ℕ) (origin : Point) (segments : L
     HasOwn font glyph origin segments width (Some accent) → IsAccented font glyph accent
 is-accented font glyph origin segments width accent own = record { part = own.part; run = own.run; has = own.has; accented = own.told }
 
-pub is-nested : (font : FontView) (code glyph : ℕ) (origin : Point) (segments : List Segment) (width : Option ℤ) (accent : Accent) → IsComponent font code glyph →
+pub is-nested : (font : FontView) (code glyph : ℕ) (origin : Point) (segments : List Segment) (width : Option ℤ) (accent : Accent) →
+    IsComponent font code glyph →
     HasOwn font glyph origin segments width (Some accent) → IsNested font code
 is-nested font code glyph origin segments width accent component own = record {
   glyph = glyph;
@@ -116,7 +121,15 @@ draws-accented font glyph own more width accent has components = record {
   part = has.part;
   run = has.run;
   has = has.has;
-  drawn = inr (record { accent = accent; own = own; more = more; accented = has.told; draws_own = has.draws; draws_more = components; all = refl });
+  drawn = inr (record {
+    accent = accent;
+    own = own;
+    more = more;
+    accented = has.told;
+    draws_own = has.draws;
+    draws_more = components;
+    all = refl;
+  });
   width_is = has.width_is;
 }
 
@@ -126,21 +139,28 @@ passed-on (Ok x) e P same holds = tt
 passed-on (Err x) e P same holds = subst P (sym same) holds
 
 -- the base is drawn, and then the accent
-pub draws-both : {T : Type 0} (after : T → Segment → T → Type 0) (old middle new : T) (r : Result (Unit {0}) Error) (font : FontView) (accent : Accent) → Takes after old middle (DrawsComponent font accent.base zero_point) →
-    OnOk r (Takes after middle new (DrawsComponent font accent.accent (point accent.dx accent.dy))) → OnOk r (Takes after old new (DrawsComponents font accent))
-draws-both after old middle new (Ok done) font accent base rest =
-    (base.0 ++ rest.0, record { base = base.0; above = rest.0; draws_base = base.1; draws_accent = rest.1; all = refl }, received-both after old middle new base.0 rest.0 base.2 rest.2)
+pub draws-both : {T : Type 0} (after : T → Segment → T → Type 0) (old middle new : T) (r : Result (Unit {0}) Error) (font : FontView)
+    (accent : Accent) → Takes after old middle (DrawsComponent font accent.base zero_point) →
+    OnOk r (Takes after middle new (DrawsComponent font accent.accent (point accent.dx accent.dy))) → OnOk r
+    (Takes after old new (DrawsComponents font accent))
+draws-both after old middle new (Ok done) font accent base rest = (
+  base.0 ++ rest.0,
+  record { base = base.0; above = rest.0; draws_base = base.1; draws_accent = rest.1; all = refl },
+  received-both after old middle new base.0 rest.0 base.2 rest.2,
+)
 draws-both after old middle new (Err e) font accent base rest = tt
 
 -- the accent as a component is refused
 pub accent-refused : {A : Type 0} (left : ℕ) (r : Result A Error) (font : FontView) (accent : Accent) →
-    IfErr r (λ e. IsWanting left e ⊎ IsComponentRefused font accent.accent (point accent.dx accent.dy) e) → IfErr r (λ e. IsWanting left e ⊎ AreRefused font accent e)
+    IfErr r (λ e. IsWanting left e ⊎ IsComponentRefused font accent.accent (point accent.dx accent.dy) e) → IfErr r
+    (λ e. IsWanting left e ⊎ AreRefused font accent e)
 accent-refused left (Ok done) font accent why = tt
 accent-refused left (Err e) font accent (inl wanting) = inl wanting
 accent-refused left (Err e) font accent (inr why) = inr (inr why)
 
 -- the components of an accented glyph are refused
-pub components-refused : (left : ℕ) (font : FontView) (glyph : ℕ) (origin : Point) (segments : List Segment) (width : Option ℤ) (accent : Accent) (e : Error) →
+pub components-refused : (left : ℕ) (font : FontView) (glyph : ℕ) (origin : Point) (segments : List Segment) (width : Option ℤ)
+    (accent : Accent) (e : Error) →
     HasOwn font glyph origin segments width (Some accent) → IsWanting left e ⊎ AreRefused font accent e → IsRefused font glyph left e
 components-refused left font glyph origin segments width accent e own (inl wanting) = inl wanting
 components-refused left font glyph origin segments width accent e own (inr why) =
@@ -150,49 +170,80 @@ components-refused left font glyph origin segments width accent e own (inr why) 
 pub component-undrawn : (left : ℕ) (font : FontView) (code glyph : ℕ) (origin : Point) (e : Error) → IsComponent font code glyph →
     IsWanting left e ⊎ IsGlyphRefused font glyph origin e → IsWanting left e ⊎ IsComponentRefused font code origin e
 component-undrawn left font code glyph origin e component (inl wanting) = inl wanting
-component-undrawn left font code glyph origin e component (inr refused) = inr (inr (inl (record { glyph = glyph; component = component; refused = refused })))
+component-undrawn left font code glyph origin e component (inr refused) =
+    inr (inr (inl (record { glyph = glyph; component = component; refused = refused })))
 
 -- what is given of a drawing that is refused
 
 -- all that a run draws is a front of what its operations draw
-pub whole-front : {T : Type 0} {after : T → Segment → T → Type 0} {old new : T} (origin : Point) (answers : List Answer) (end : End) (segments : List Segment) → outlined_at origin answers end ≡ Ok segments → Receives after old segments new →
+pub whole-front : {T : Type 0} {after : T → Segment → T → Type 0} {old new : T} (origin : Point) (answers : List Answer) (end : End)
+    (segments : List Segment) → outlined_at origin answers end ≡ Ok segments → Receives after old segments new →
     DrawsFront after origin old new answers
-whole-front {T} {after} {old} {new} origin answers end segments drawn taken = record { given = segments; front = by-drawing (drawing_of answers (blank_at origin)) end drawn; taken = taken }
+whole-front {T} {after} {old} {new} origin answers end segments drawn taken =
+    record { given = segments; front = by-drawing (drawing_of answers (blank_at origin)) end drawn; taken = taken }
   where
-    by-drawing : (r : Result Drawing Refusal) (end : End) → r >>= finished end ≡ Ok segments → IfOk (r >>= finished UsedUp) (λ all. IsFront segments all)
+    by-drawing : (r : Result Drawing Refusal) (end : End) → r >>= finished end ≡ Ok segments → IfOk (r >>= finished UsedUp)
+        (λ all. IsFront segments all)
     by-drawing (Err e) end is = tt
     by-drawing (Ok d) (Fault e) is = cc
-    by-drawing (Ok d) UsedUp is = let same : (closed d).segments ≡ segments = cc in subst (IsFront segments) (append-nil segments ∙ sym same) (front-of segments [])
-    by-drawing (Ok d) (Returned st) is = let same : (closed d).segments ≡ segments = cc in subst (IsFront segments) (append-nil segments ∙ sym same) (front-of segments [])
-    by-drawing (Ok d) (Finished taken width) is = let same : (closed d).segments ≡ segments = cc in subst (IsFront segments) (append-nil segments ∙ sym same) (front-of segments [])
+    by-drawing (Ok d) UsedUp is =
+        let same : (closed d).segments ≡ segments = cc in subst (IsFront segments) (append-nil segments ∙ sym same) (front-of segments [])
+    by-drawing (Ok d) (Returned st) is =
+        let same : (closed d).segments ≡ segments = cc in subst (IsFront segments) (append-nil segments ∙ sym same) (front-of segments [])
+    by-drawing (Ok d) (Finished taken width) is =
+        let same : (closed d).segments ≡ segments = cc in subst (IsFront segments) (append-nil segments ∙ sym same) (front-of segments [])
 
-pub own-front : {A : Type 0} {T : Type 0} (after : T → Segment → T → Type 0) (old new : T) (r : Result A Error) (font : FontView) (i : ℕ) (glyph : Glyph) (origin : Point) → HasRun font i glyph.part.now (run_by glyph) →
+pub own-front : {A : Type 0} {T : Type 0} (after : T → Segment → T → Type 0) (old new : T) (r : Result A Error) (font : FontView) (i : ℕ)
+    (glyph : Glyph) (origin : Point) → HasRun font i glyph.part.now (run_by glyph) →
     OnErr r (DrawsFront after origin old new (run_by glyph).answers) → OnErr r (GivesOwn after origin old new font i)
 own-front after old new (Ok own) font i glyph origin has front = tt
-own-front after old new (Err e) font i glyph origin has front = inr (record { part = glyph.part.now; run = run_by glyph; has = has; front = front })
+own-front after old new (Err e) font i glyph origin has front =
+    inr (record { part = glyph.part.now; run = run_by glyph; has = has; front = front })
 
 -- of a glyph that is drawn by itself
-pub own-whole : {T : Type 0} {after : T → Segment → T → Type 0} {old new : T} (font : FontView) (glyph : ℕ) (origin : Point) (segments : List Segment) (width : Option ℤ) (accent : Option Accent) →
+pub own-whole : {T : Type 0} {after : T → Segment → T → Type 0} {old new : T} (font : FontView) (glyph : ℕ) (origin : Point)
+    (segments : List Segment) (width : Option ℤ) (accent : Option Accent) →
     HasOwn font glyph origin segments width accent → Receives after old segments new → GivesOwnFront after origin old new font glyph
 own-whole font glyph origin segments width accent own taken =
-    record { part = own.part; run = own.run; has = own.has; front = whole-front origin own.run.answers own.run.end segments own.draws taken }
+    record {
+      part =
+          own.part;
+      run = own.run;
+      has = own.has;
+      front = whole-front origin own.run.answers own.run.end segments own.draws taken;
+    }
 
-pub component-front : {T : Type 0} {after : T → Segment → T → Type 0} {old new : T} (font : FontView) (code glyph : ℕ) (origin : Point) → IsComponent font code glyph →
+pub component-front : {T : Type 0} {after : T → Segment → T → Type 0} {old new : T} (font : FontView) (code glyph : ℕ) (origin : Point) →
+    IsComponent font code glyph →
     GivesOwn after origin old new font glyph → GivesComponent after origin old new font code
 component-front font code glyph origin component (inl none) = inl none
 component-front font code glyph origin component (inr front) = inr (glyph, component, front)
 
-pub accented-front : {T : Type 0} {after : T → Segment → T → Type 0} {old between new : T} (font : FontView) (glyph : ℕ) (segments : List Segment) (width : Option ℤ) (accent : Accent) →
-    HasOwn font glyph zero_point segments width (Some accent) → Receives after old segments between → GivesComponents after between new font accent → GivesGlyph after old new font glyph
+pub accented-front : {T : Type 0} {after : T → Segment → T → Type 0} {old between new : T} (font : FontView) (glyph : ℕ)
+    (segments : List Segment) (width : Option ℤ) (accent : Accent) →
+    HasOwn font glyph zero_point segments width
+    (Some accent) → Receives after old segments between → GivesComponents after between new font accent → GivesGlyph after old new font
+    glyph
 accented-front {T} {after} {old} {between} font glyph segments width accent own taken some =
-    inr (record { accent = accent; between = between; part = own.part; run = own.run; has = own.has; accented = own.told; own = (segments, own.draws, taken); some = some })
+    inr (record {
+      accent = accent;
+      between = between;
+      part = own.part;
+      run = own.run;
+      has = own.has;
+      accented = own.told;
+      own = (segments, own.draws, taken);
+      some = some;
+    })
 
 pub on-err : {A : Type 0} {P : Type 0} (r : Result A Error) → P → OnErr r P
 on-err (Ok x) holds = tt
 on-err (Err e) holds = holds
 
 -- the base is drawn, and some of the accent
-pub accent-front : {T : Type 0} (after : T → Segment → T → Type 0) (old between new : T) (r : Result (Unit {0}) Error) (font : FontView) (accent : Accent) → Takes after old between (DrawsComponent font accent.base zero_point) →
-    OnErr r (GivesComponent after (point accent.dx accent.dy) between new font accent.accent) → OnErr r (GivesComponents after old new font accent)
+pub accent-front : {T : Type 0} (after : T → Segment → T → Type 0) (old between new : T) (r : Result (Unit {0}) Error) (font : FontView)
+    (accent : Accent) → Takes after old between (DrawsComponent font accent.base zero_point) →
+    OnErr r (GivesComponent after (point accent.dx accent.dy) between new font accent.accent) → OnErr r
+    (GivesComponents after old new font accent)
 accent-front after old between new (Ok done) font accent base some = tt
 accent-front after old between new (Err e) font accent base some = inr (between, base, some)

@@ -39,7 +39,8 @@ abbrev pub strokes_of : List Answer → List Stroke
 strokes_of [] = []
 strokes_of (answer ∷ answers) = strokes answer.operator answer.operands ++ strokes_of answers
 
-then-all : (r : Result Drawing Refusal) (all next : Drawing → Result Drawing Refusal) → ((d : Drawing) → all d ≡ next d) → r >>= all ≡ r >>= next
+then-all : (r : Result Drawing Refusal) (all next : Drawing → Result Drawing Refusal) → ((d : Drawing) → all d ≡ next d) →
+    r >>= all ≡ r >>= next
 then-all (Ok d) all next same = same d
 then-all (Err e) all next same = refl
 
@@ -49,12 +50,14 @@ all-strokes (answer ∷ answers) d =
     then-all (drawing (strokes answer.operator answer.operands) d) (drawing_of answers) (drawing (strokes_of answers)) (all-strokes answers)
     ∙ sym (drawing-append (strokes answer.operator answer.operands) (strokes_of answers) d)
 
-pub outlined-so : (origin : Point) (answers : List Answer) (end : End) → outlined_at origin answers end ≡ drawing (strokes_of answers) (held (pen_at origin) []) >>= finished end
+pub outlined-so : (origin : Point) (answers : List Answer) (end : End) → outlined_at origin answers end ≡ drawing (strokes_of answers)
+    (held (pen_at origin) []) >>= finished end
 outlined-so origin answers end = ap (λ r. r >>= finished end) (all-strokes answers (blank_at origin))
 
 -- the end of a contour
 
-closed-held : (at : Point) (is_open : Bool) (given : List Segment) → let pen : Pen = record { at = at; is_open = is_open } in (closed (held pen given)).segments ≡ given ++ closing pen
+closed-held : (at : Point) (is_open : Bool) (given : List Segment) →
+    let pen : Pen = record { at = at; is_open = is_open } in (closed (held pen given)).segments ≡ given ++ closing pen
 closed-held at true given = refl
 closed-held at false given = sym (append-nil given)
 
@@ -74,59 +77,83 @@ finished-sound (Fault e) d sound = absurd (none sound)
     none sound = elim sound [ ]
 
 -- All is drawn, and the contour is ended.
-pub drawn-whole : {T : Type 0} {after : T → Segment → T → Type 0} {refuses : T → Type 0} {origin : Point} {old now new : T} (pen : Pen) (answers left : List Answer) (end : End) → IsSound end → left ≡ [] →
+pub drawn-whole : {T : Type 0} {after : T → Segment → T → Type 0} {refuses : T → Type 0} {origin : Point} {old now new : T} (pen : Pen)
+    (answers left : List Answer) (end : End) → IsSound end → left ≡ [] →
     SoFar after refuses (strokes_of answers) (strokes_of left) (pen_at origin) old pen now → Receives after now (closing pen) new →
     (segments : List Segment) × (outlined_at origin answers end ≡ Ok segments) × Receives after old segments new
 drawn-whole {T} {after} {refuses} {origin} {old} {now} {new} pen answers left end sound none far ended =
     let draws = so_all (ap strokes_of none) far in
     let segments = draws.given ++ closing pen in (
       segments,
-      outlined-so origin answers end ∙ ap (λ r. r >>= finished end) draws.draws.exact ∙ finished-sound end (held pen draws.given) sound ∙ ap Ok (closed-held pen.at pen.is_open draws.given),
+      outlined-so origin answers end ∙ ap (λ r. r >>= finished end) draws.draws.exact ∙ finished-sound end (held pen draws.given) sound
+          ∙ ap Ok (closed-held pen.at pen.is_open draws.given),
       received-both after old now new draws.given (closing pen) draws.taken ended,
     )
 
 -- a front of all that is drawn
 
-closed-grows : (at : Point) (is_open : Bool) (segments : List Segment) → IsFront segments (closed (record { place = at; is_open = is_open; segments = segments })).segments
+closed-grows : (at : Point) (is_open : Bool) (segments : List Segment) →
+    IsFront segments (closed (record { place = at; is_open = is_open; segments = segments })).segments
 closed-grows at true segments = front-of segments (Close ∷ [])
 closed-grows at false segments = subst (IsFront segments) (append-nil segments) (front-of segments [])
 
-front-of-all : (given : List Segment) (origin : Point) (answers : List Answer) → IfOk (drawing (strokes_of answers) (held (pen_at origin) [])) (λ d. IsFront given d.segments) →
+front-of-all : (given : List Segment) (origin : Point) (answers : List Answer) →
+    IfOk (drawing (strokes_of answers) (held (pen_at origin) [])) (λ d. IsFront given d.segments) →
     IfOk (outlined_at origin answers UsedUp) (λ segments. IsFront given segments)
 front-of-all given origin answers front =
     subst (λ (r : Result (List Segment) Refusal). IfOk r (λ segments. IsFront given segments)) (sym (outlined-so origin answers UsedUp))
-    (front-through (λ d. d.segments) (λ ss. ss) given (drawing (strokes_of answers) (held (pen_at origin) [])) (finished UsedUp) front (λ d. closed-grows d.place d.is_open d.segments))
+    (front-through (λ d. d.segments) (λ ss. ss) given (drawing (strokes_of answers) (held (pen_at origin) [])) (finished UsedUp) front
+    (λ d. closed-grows d.place d.is_open d.segments))
 
-pub front-so-far : {T : Type 0} {after : T → Segment → T → Type 0} {refuses : T → Type 0} {origin : Point} {old now new : T} {pen : Pen} (answers : List Answer) {left : List Stroke} → SoFar after refuses (strokes_of answers) left (pen_at origin) old pen now → new ≡ now →
+pub front-so-far : {T : Type 0} {after : T → Segment → T → Type 0} {refuses : T → Type 0} {origin : Point} {old now new : T} {pen : Pen}
+    (answers : List Answer) {left : List Stroke} → SoFar after refuses (strokes_of answers) left (pen_at origin) old pen now → new ≡ now →
     DrawsFront after origin old new answers
 front-so-far {T} {after} {refuses} {origin} {old} {now} {new} {pen} answers {left} far same =
     let start = held (pen_at origin) [] in
     let given = far.draws.given in
-    let all = ap (λ v. drawing v start) far.parts ∙ drawing-append far.done left start ∙ ap (λ r. r >>= drawing left) far.draws.draws.exact in
-    let grows = subst (λ (r : Result Drawing Refusal). IfOk r (λ d. IsFront given d.segments)) (sym all) (drawing-grows left (held pen given)) in
-    record { given = given; front = front-of-all given origin answers grows; taken = subst (Receives after old given) (sym same) far.draws.taken }
+    let all = ap (λ v. drawing v start) far.parts ∙ drawing-append far.done left start
+    ∙ ap (λ r. r >>= drawing left) far.draws.draws.exact in
+    let grows = subst (λ (r : Result Drawing Refusal). IfOk r (λ d. IsFront given d.segments)) (sym all)
+    (drawing-grows left (held pen given)) in
+    record {
+      given =
+          given;
+      front = front-of-all given origin answers grows;
+      taken = subst (Receives after old given) (sym same) far.draws.taken;
+    }
 
-pub front-refused : {T : Type 0} {after : T → Segment → T → Type 0} {refuses : T → Type 0} {origin : Point} {old new : T} {pen : Pen} {e : Undrawn} (answers : List Answer) → DrawsStrokes after refuses (strokes_of answers) (pen_at origin) old (Err e) pen new →
+pub front-refused : {T : Type 0} {after : T → Segment → T → Type 0} {refuses : T → Type 0} {origin : Point} {old new : T} {pen : Pen}
+    {e : Undrawn} (answers : List Answer) → DrawsStrokes after refuses (strokes_of answers) (pen_at origin) old (Err e) pen new →
     DrawsFront after origin old new answers
-front-refused {T} {after} {refuses} {origin} answers draws = record { given = draws.given; front = front-of-all draws.given origin answers draws.draws.front; taken = draws.taken }
+front-refused {T} {after} {refuses} {origin} answers draws =
+    record { given = draws.given; front = front-of-all draws.given origin answers draws.draws.front; taken = draws.taken }
 
 -- why a program is not drawn
 
-pub at-fault : {T : Type 0} {after : T → Segment → T → Type 0} {refuses : T → Type 0} {origin : Point} {old now : T} {pen : Pen} (answers left : List Answer) (end : End) (cause : Cause) → left ≡ [] → end ≡ Fault (refusal_of cause) →
-    SoFar after refuses (strokes_of answers) (strokes_of left) (pen_at origin) old pen now → IsUndrawn origin (errors.Font cause) answers end
+pub at-fault : {T : Type 0} {after : T → Segment → T → Type 0} {refuses : T → Type 0} {origin : Point} {old now : T} {pen : Pen}
+    (answers left : List Answer) (end : End) (cause : Cause) → left ≡ [] → end ≡ Fault (refusal_of cause) →
+    SoFar after refuses (strokes_of answers) (strokes_of left) (pen_at origin) old pen now → IsUndrawn origin
+    (errors.Font cause) answers end
 at-fault {T} {after} {refuses} {origin} {old} {now} {pen} answers left end cause none fault far =
     let draws = so_all (ap strokes_of none) far in
     record {
       cause = cause;
       is = refl;
-      refused = outlined-so origin answers end ∙ ap (λ r. r >>= finished end) draws.draws.exact ∙ ap (λ v. finished v (held pen draws.given)) fault;
+      refused = outlined-so origin answers end ∙ ap (λ r. r >>= finished end) draws.draws.exact
+          ∙ ap (λ v. finished v (held pen draws.given)) fault;
     }
 
-pub stroke-refused : {T : Type 0} {after : T → Segment → T → Type 0} {refuses : T → Type 0} {origin : Point} {old new : T} {pen : Pen} (answers : List Answer) (end : End) (left : _) (e : Undrawn) → DrawsStrokes after refuses (strokes_of answers) (pen_at origin) old (Err e) pen new →
+pub stroke-refused : {T : Type 0} {after : T → Segment → T → Type 0} {refuses : T → Type 0} {origin : Point} {old new : T} {pen : Pen}
+    (answers : List Answer) (end : End) (left : _) (e : Undrawn) → DrawsStrokes after refuses (strokes_of answers)
+    (pen_at origin) old (Err e) pen new →
     IsWanting left (error_of e) ⊎ IsUndrawn origin (error_of e) answers end
 stroke-refused {T} {after} {refuses} {origin} answers end left Full draws = inl tt
 stroke-refused {T} {after} {refuses} {origin} answers end left Overflow draws =
-    inr (record { cause = causes.Overflow; is = refl; refused = outlined-so origin answers end ∙ ap (λ r. r >>= finished end) draws.draws.exact })
+    inr (record {
+      cause = causes.Overflow;
+      is = refl;
+      refused = outlined-so origin answers end ∙ ap (λ r. r >>= finished end) draws.draws.exact;
+    })
 
 -- what a step tells
 
@@ -136,17 +163,23 @@ sound-end (Returned st) width width' last = absurd last
 sound-end (Finished taken own) width width' last = by_endchar taken own
 sound-end (Fault e) width width' last = absurd last
 
-pub at-end : (old new : Pending) (limit left : ℕ) {answer : Result Within Cause} → answer ≡ Ok AtEnd → StepsWithin old limit answer new left → (old.answers ≡ []) × IsSound old.end
+pub at-end : (old new : Pending) (limit left : ℕ) {answer : Result Within Cause} → answer ≡ Ok AtEnd →
+    StepsWithin old limit answer new left → (old.answers ≡ []) × IsSound old.end
 at-end old new limit left is steps =
-    let step = subst (λ (r : Result Within Cause). StepsWithin old limit r new left) is steps in (step.0.0, sound-end old.end old.width new.width step.0.1)
+    let step = subst (λ (r : Result Within Cause). StepsWithin old limit r new left) is steps in
+    (step.0.0, sound-end old.end old.width new.width step.0.1)
 
 -- where a step is refused so is the program
-pub step-refused : {T : Type 0} {after : T → Segment → T → Type 0} {refuses : T → Type 0} {origin : Point} {old now : T} {pen : Pen} (answers : List Answer) (end : End) (wanting : ℕ) (program : Pending) (cause : Cause) {answer : Result Within Cause} →
-    answer ≡ Err cause → IsHeadWithin program answer → program.end ≡ end → SoFar after refuses (strokes_of answers) (strokes_of program.answers) (pen_at origin) old pen now →
+pub step-refused : {T : Type 0} {after : T → Segment → T → Type 0} {refuses : T → Type 0} {origin : Point} {old now : T} {pen : Pen}
+    (answers : List Answer) (end : End) (wanting : ℕ) (program : Pending) (cause : Cause) {answer : Result Within Cause} →
+    answer ≡ Err cause → IsHeadWithin program answer → program.end ≡ end → SoFar after refuses (strokes_of answers)
+    (strokes_of program.answers) (pen_at origin) old pen now →
     IsWanting wanting (errors.Font cause) ⊎ IsUndrawn origin (errors.Font cause) answers end
-step-refused {T} {after} {refuses} {origin} {old} {now} {pen} answers end wanting program cause is head same far = by_head (subst (λ (r : Result Within Cause). IsHeadWithin program r) is head)
+step-refused {T} {after} {refuses} {origin} {old} {now} {pen} answers end wanting program cause is head same far =
+    by_head (subst (λ (r : Result Within Cause). IsHeadWithin program r) is head)
   where
-    by_head : (cause ≡ causes.Memory) ⊎ ((program.answers ≡ []) × (program.end ≡ Fault (refusal_of cause))) → IsWanting wanting (errors.Font cause) ⊎ IsUndrawn origin (errors.Font cause) answers end
+    by_head : (cause ≡ causes.Memory) ⊎ ((program.answers ≡ []) × (program.end ≡ Fault (refusal_of cause))) →
+        IsWanting wanting (errors.Font cause) ⊎ IsUndrawn origin (errors.Font cause) answers end
     by_head (inl memory) = inl memory
     by_head (inr fault) = inr (at-fault answers program.answers end cause fault.0 (sym same ∙ fault.1) far)
 

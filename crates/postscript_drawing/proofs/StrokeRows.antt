@@ -33,7 +33,8 @@ hlineto-even dxa dyb = refl
 vlineto-odd : (dy1 dxa dyb : ℤ) → strokes VLineTo (dy1 ∷ dxa ∷ dyb ∷ []) ≡ Line (by 0ℤ dy1) ∷ Line (by dxa 0ℤ) ∷ Line (by 0ℤ dyb) ∷ []
 vlineto-odd dy1 dxa dyb = refl
 
-rrcurveto : (dxa dya dxb dyb dxc dyc : ℤ) → strokes RRCurveTo (dxa ∷ dya ∷ dxb ∷ dyb ∷ dxc ∷ dyc ∷ []) ≡ Curve (by dxa dya) (by dxb dyb) (by dxc dyc) ∷ []
+rrcurveto : (dxa dya dxb dyb dxc dyc : ℤ) → strokes RRCurveTo (dxa ∷ dya ∷ dxb ∷ dyb ∷ dxc ∷ dyc ∷ []) ≡ Curve (by dxa dya) (by dxb dyb)
+    (by dxc dyc) ∷ []
 rrcurveto dxa dya dxb dyb dxc dyc = refl
 
 -- {dxa dxb dyb dxc}+
@@ -46,7 +47,8 @@ hhcurveto-odd : (dy1 dxa dxb dyb dxc dxd dxe dye dxf : ℤ) → strokes HHCurveT
 hhcurveto-odd dy1 dxa dxb dyb dxc dxd dxe dye dxf = refl
 
 -- dx1 {dya dxb dyb dyc}+
-vvcurveto-odd : (dx1 dya dxb dyb dyc : ℤ) → strokes VVCurveTo (dx1 ∷ dya ∷ dxb ∷ dyb ∷ dyc ∷ []) ≡ Curve (by dx1 dya) (by dxb dyb) (by 0ℤ dyc) ∷ []
+vvcurveto-odd : (dx1 dya dxb dyb dyc : ℤ) → strokes VVCurveTo (dx1 ∷ dya ∷ dxb ∷ dyb ∷ dyc ∷ []) ≡ Curve (by dx1 dya) (by dxb dyb)
+    (by 0ℤ dyc) ∷ []
 vvcurveto-odd dx1 dya dxb dyb dyc = refl
 
 vvcurveto-even : (dya dxb dyb dyc : ℤ) → strokes VVCurveTo (dya ∷ dxb ∷ dyb ∷ dyc ∷ []) ≡ Curve (by 0ℤ dya) (by dxb dyb) (by 0ℤ dyc) ∷ []
@@ -57,7 +59,8 @@ hvcurveto-4 : (dx1 dx2 dy2 dy3 : ℤ) → strokes HVCurveTo (dx1 ∷ dx2 ∷ dy2
 hvcurveto-4 dx1 dx2 dy2 dy3 = refl
 
 -- dx1 dx2 dy2 dy3 dxf
-hvcurveto-5 : (dx1 dx2 dy2 dy3 dxf : ℤ) → strokes HVCurveTo (dx1 ∷ dx2 ∷ dy2 ∷ dy3 ∷ dxf ∷ []) ≡ Curve (by dx1 0ℤ) (by dx2 dy2) (by dxf dy3) ∷ []
+hvcurveto-5 : (dx1 dx2 dy2 dy3 dxf : ℤ) → strokes HVCurveTo (dx1 ∷ dx2 ∷ dy2 ∷ dy3 ∷ dxf ∷ []) ≡ Curve (by dx1 0ℤ) (by dx2 dy2)
+    (by dxf dy3) ∷ []
 hvcurveto-5 dx1 dx2 dy2 dy3 dxf = refl
 
 -- dxa dxb dyb dyc dyd dxe dye dxf
@@ -73,11 +76,13 @@ hvcurveto-9 dxa dxb dyb dyc dyd dxe dye dxf dyf = refl
 -- dx1 dx2 dy2 dy3 dya dxb dyb dxc dxd dxe dye dyf dxf: three curves
 hvcurveto-13 : (dx1 dx2 dy2 dy3 dya dxb dyb dxc dxd dxe dye dyf dxf : ℤ) →
     strokes HVCurveTo (dx1 ∷ dx2 ∷ dy2 ∷ dy3 ∷ dya ∷ dxb ∷ dyb ∷ dxc ∷ dxd ∷ dxe ∷ dye ∷ dyf ∷ dxf ∷ [])
-    ≡ Curve (by dx1 0ℤ) (by dx2 dy2) (by 0ℤ dy3) ∷ Curve (by 0ℤ dya) (by dxb dyb) (by dxc 0ℤ) ∷ Curve (by dxd 0ℤ) (by dxe dye) (by dxf dyf) ∷ []
+    ≡ Curve (by dx1 0ℤ) (by dx2 dy2) (by 0ℤ dy3) ∷ Curve (by 0ℤ dya) (by dxb dyb) (by dxc 0ℤ) ∷ Curve (by dxd 0ℤ) (by dxe dye)
+    (by dxf dyf) ∷ []
 hvcurveto-13 dx1 dx2 dy2 dy3 dya dxb dyb dxc dxd dxe dye dyf dxf = refl
 
 -- dy1 dx2 dy2 dx3 dyf
-vhcurveto-5 : (dy1 dx2 dy2 dx3 dyf : ℤ) → strokes VHCurveTo (dy1 ∷ dx2 ∷ dy2 ∷ dx3 ∷ dyf ∷ []) ≡ Curve (by 0ℤ dy1) (by dx2 dy2) (by dx3 dyf) ∷ []
+vhcurveto-5 : (dy1 dx2 dy2 dx3 dyf : ℤ) → strokes VHCurveTo (dy1 ∷ dx2 ∷ dy2 ∷ dx3 ∷ dyf ∷ []) ≡ Curve (by 0ℤ dy1) (by dx2 dy2)
+    (by dx3 dyf) ∷ []
 vhcurveto-5 dy1 dx2 dy2 dx3 dyf = refl
 
 -- dya dxb dyb dxc dxd dxe dye dyf dxf
@@ -89,7 +94,8 @@ rcurveline : (dxa dya dxb dyb dxc dyc dxd dyd : ℤ) → strokes RCurveLine (dxa
     ≡ Curve (by dxa dya) (by dxb dyb) (by dxc dyc) ∷ Line (by dxd dyd) ∷ []
 rcurveline dxa dya dxb dyb dxc dyc dxd dyd = refl
 
-rlinecurve : (dxa dya dxe dye dxb dyb dxc dyc dxd dyd : ℤ) → strokes RLineCurve (dxa ∷ dya ∷ dxe ∷ dye ∷ dxb ∷ dyb ∷ dxc ∷ dyc ∷ dxd ∷ dyd ∷ [])
+rlinecurve : (dxa dya dxe dye dxb dyb dxc dyc dxd dyd : ℤ) →
+    strokes RLineCurve (dxa ∷ dya ∷ dxe ∷ dye ∷ dxb ∷ dyb ∷ dxc ∷ dyc ∷ dxd ∷ dyd ∷ [])
     ≡ Line (by dxa dya) ∷ Line (by dxe dye) ∷ Curve (by dxb dyb) (by dxc dyc) (by dxd dyd) ∷ []
 rlinecurve dxa dya dxe dye dxb dyb dxc dyc dxd dyd = refl
 
@@ -99,12 +105,14 @@ hflex dx1 dx2 dy2 dx3 dx4 dx5 dx6 = refl
 
 -- further across than up: the end is at the height of the start, which is 1 + 2 + 3 + 4 + 5 back
 flex1-across : strokes Flex1 (pos 10 ∷ pos 1 ∷ pos 10 ∷ pos 2 ∷ pos 10 ∷ pos 3 ∷ pos 10 ∷ pos 4 ∷ pos 10 ∷ pos 5 ∷ pos 7 ∷ [])
-    ≡ Curve (by (pos 10) (pos 1)) (by (pos 10) (pos 2)) (by (pos 10) (pos 3)) ∷ Curve (by (pos 10) (pos 4)) (by (pos 10) (pos 5)) (by (pos 7) (neg_ℤ (pos 15))) ∷ []
+    ≡ Curve (by (pos 10) (pos 1)) (by (pos 10) (pos 2)) (by (pos 10) (pos 3)) ∷ Curve (by (pos 10) (pos 4)) (by (pos 10) (pos 5))
+    (by (pos 7) (neg_ℤ (pos 15))) ∷ []
 flex1-across = refl
 
 -- as far up as across: the last operand counts upwards
 flex1-up : strokes Flex1 (pos 1 ∷ pos 1 ∷ pos 1 ∷ pos 1 ∷ pos 1 ∷ pos 1 ∷ pos 1 ∷ pos 1 ∷ pos 1 ∷ pos 1 ∷ pos 7 ∷ [])
-    ≡ Curve (by (pos 1) (pos 1)) (by (pos 1) (pos 1)) (by (pos 1) (pos 1)) ∷ Curve (by (pos 1) (pos 1)) (by (pos 1) (pos 1)) (by (neg_ℤ (pos 5)) (pos 7)) ∷ []
+    ≡ Curve (by (pos 1) (pos 1)) (by (pos 1) (pos 1)) (by (pos 1) (pos 1)) ∷ Curve (by (pos 1) (pos 1)) (by (pos 1) (pos 1))
+    (by (neg_ℤ (pos 5)) (pos 7)) ∷ []
 flex1-up = refl
 
 -- hints draw nothing

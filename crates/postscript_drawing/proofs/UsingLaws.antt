@@ -25,7 +25,8 @@ passes test zero m is = by_test (test 0) refl is
     by_test false at e = cc
 passes test (suc n) m is = by_test (test (suc n)) refl (passes test n m) is
   where
-    by_test : (b : Bool) → test (suc n) ≡ b → (greatest test n ≡ Some m → test m ≡ true) → (if b then Some (suc n) else greatest test n) ≡ Some m → test m ≡ true
+    by_test : (b : Bool) → test (suc n) ≡ b → (greatest test n ≡ Some m → test m ≡ true) →
+        (if b then Some (suc n) else greatest test n) ≡ Some m → test m ≡ true
     by_test true at lower e = let z : suc n ≡ m = cc in subst (λ k. test k ≡ true) z at
     by_test false at lower e = lower e
 
@@ -72,7 +73,8 @@ curves-told (a ∷ b ∷ []) six = cc
 curves-told (a ∷ b ∷ c ∷ []) six = cc
 curves-told (a ∷ b ∷ c ∷ d ∷ []) six = cc
 curves-told (a ∷ b ∷ c ∷ d ∷ e ∷ []) six = cc
-curves-told (a ∷ b ∷ c ∷ d ∷ e ∷ f ∷ rest) six = ap (λ v. a ∷ b ∷ c ∷ d ∷ e ∷ f ∷ v) (curves-told rest (fewer 6 (length rest) _ 0 (omega arith) six))
+curves-told (a ∷ b ∷ c ∷ d ∷ e ∷ f ∷ rest) six =
+    ap (λ v. a ∷ b ∷ c ∷ d ∷ e ∷ f ∷ v) (curves-told rest (fewer 6 (length rest) _ 0 (omega arith) six))
 
 told-both : (ss ts : List Stroke) (xs : List ℤ) (n : ℕ) → told ss ≡ take n xs → told ts ≡ drop n xs → told (ss ++ ts) ≡ xs
 unfolding told
@@ -110,7 +112,9 @@ in_turn axis ss = []
 in_turn-told : (axis : Axis) (xs : List ℤ) → in_turn axis (lines_in_turn axis xs) ≡ xs
 unfolding in_turn
 in_turn-told axis [] = refl
-in_turn-told axis (a ∷ rest) = ap (λ v. v ∷ in_turn (other axis) (lines_in_turn (other axis) rest)) (part-aside axis a (pos 0)) ∙ ap (λ v. a ∷ v) (in_turn-told (other axis) rest)
+in_turn-told axis (a ∷ rest) =
+    ap (λ v. v ∷ in_turn (other axis) (lines_in_turn (other axis) rest)) (part-aside axis a (pos 0))
+    ∙ ap (λ v. a ∷ v) (in_turn-told (other axis) rest)
 
 four : (a b c d a' d' : ℤ) (r r' : List ℤ) → a' ≡ a → d' ≡ d → r' ≡ r → a' ∷ b ∷ c ∷ d' ∷ r' ≡ a ∷ b ∷ c ∷ d ∷ r
 four a b c d a' d' r r' h k l = cc
@@ -130,7 +134,8 @@ along-told axis first (a ∷ []) fours = cc
 along-told axis first (a ∷ b ∷ []) fours = cc
 along-told axis first (a ∷ b ∷ c ∷ []) fours = cc
 along-told axis first (a ∷ b ∷ c ∷ d ∷ rest) fours =
-    four a b c d _ _ rest _ (part-aside axis a first) (part-aside axis d (pos 0)) (along-told axis (pos 0) rest (fewer 4 (length rest) _ 0 (omega arith) fours))
+    four a b c d _ _ rest _ (part-aside axis a first) (part-aside axis d (pos 0))
+    (along-told axis (pos 0) rest (fewer 4 (length rest) _ 0 (omega arith) fours))
 
 turned : Axis → List Stroke → List ℤ
 turned axis (Curve a b c ∷ ss) = part axis a ∷ b.dx ∷ b.dy ∷ part (other axis) c ∷ turned (other axis) ss
@@ -143,14 +148,16 @@ turned-told axis (a ∷ []) fours = cc
 turned-told axis (a ∷ b ∷ []) fours = cc
 turned-told axis (a ∷ b ∷ c ∷ []) fours = cc
 turned-told axis (a ∷ b ∷ c ∷ d ∷ rest) fours =
-    four a b c d _ _ rest _ (part-aside axis a (pos 0)) (part-aside (other axis) d _) (turned-told (other axis) rest (fewer 4 (length rest) _ 0 (omega arith) fours))
+    four a b c d _ _ rest _ (part-aside axis a (pos 0)) (part-aside (other axis) d _)
+    (turned-told (other axis) rest (fewer 4 (length rest) _ 0 (omega arith) fours))
 
 turned_off : Axis → List Stroke → List ℤ
 turned_off axis (Curve a b c ∷ []) = part axis a ∷ b.dx ∷ b.dy ∷ part (other axis) c ∷ part axis c ∷ []
 turned_off axis (Curve a b c ∷ s ∷ ss) = part axis a ∷ b.dx ∷ b.dy ∷ part (other axis) c ∷ turned_off (other axis) (s ∷ ss)
 turned_off axis ss = []
 
-turned_off-told : (axis : Axis) (a b c d e : ℤ) (rest : List ℤ) → length rest % 4 ≡ 0 → turned_off axis (curves_in_turn axis (a ∷ b ∷ c ∷ d ∷ e ∷ rest)) ≡ a ∷ b ∷ c ∷ d ∷ e ∷ rest
+turned_off-told : (axis : Axis) (a b c d e : ℤ) (rest : List ℤ) → length rest % 4 ≡ 0 →
+    turned_off axis (curves_in_turn axis (a ∷ b ∷ c ∷ d ∷ e ∷ rest)) ≡ a ∷ b ∷ c ∷ d ∷ e ∷ rest
 unfolding turned_off
 turned_off-told axis a b c d e [] fours =
     four a b c d _ _ (e ∷ []) _ (part-aside axis a (pos 0)) (part-aside (other axis) d e) (ap (λ v. v ∷ []) (part-other axis d e))
@@ -198,7 +205,8 @@ last-told dx dy d6 = by_test (nat_lt (nat_abs dy) (nat_abs dx)) (by d6 (neg_ℤ 
 
 turning : List Stroke → List ℤ
 turning (Curve a b c ∷ Curve d e f ∷ []) =
-    a.dx ∷ a.dy ∷ b.dx ∷ b.dy ∷ c.dx ∷ c.dy ∷ d.dx ∷ d.dy ∷ e.dx ∷ e.dy ∷ last (a.dx +ℤ b.dx +ℤ c.dx +ℤ d.dx +ℤ e.dx) (a.dy +ℤ b.dy +ℤ c.dy +ℤ d.dy +ℤ e.dy) f ∷ []
+    a.dx ∷ a.dy ∷ b.dx ∷ b.dy ∷ c.dx ∷ c.dy ∷ d.dx ∷ d.dy ∷ e.dx ∷ e.dy ∷ last (a.dx +ℤ b.dx +ℤ c.dx +ℤ d.dx +ℤ e.dx)
+    (a.dy +ℤ b.dy +ℤ c.dy +ℤ d.dy +ℤ e.dy) f ∷ []
 turning ss = []
 
 -- what is read off strokes, of so many operands, where the test passes
@@ -217,7 +225,8 @@ same-operands test f of read reads xs ys fits as_many same =
     let second = subst (λ n. test n ≡ true) as_many first in
     sym (reads xs first) ∙ ap (read (length xs)) same ∙ ap (λ n. read n (f ys)) as_many ∙ reads ys second
 
-exactly-reads : (n : ℕ) (f : List ℤ → List Stroke) (of : List ℤ → List ℤ) (read : List Stroke → List ℤ) → Each n (λ xs. read (f xs) ≡ of xs) → Reads (exactly n) f of (λ _. read)
+exactly-reads : (n : ℕ) (f : List ℤ → List Stroke) (of : List ℤ → List ℤ) (read : List Stroke → List ℤ) →
+    Each n (λ xs. read (f xs) ≡ of xs) → Reads (exactly n) f of (λ _. read)
 unfolding Reads
 exactly-reads n f of read h xs is = each n (λ xs. read (f xs) ≡ of xs) h xs (eqb-true (length xs) n is)
 
@@ -309,14 +318,16 @@ unfolding all_along
 along-reads axis [] fours more = refl
 along-reads axis (d ∷ rest) fours more = by_test (length rest % 2 == 0) refl
   where
-    by_test : (b : Bool) → (length rest % 2 == 0) ≡ b → all_along axis (if b then curves_along axis d rest else curves_along axis (pos 0) (d ∷ rest)) ≡ d ∷ rest
+    by_test : (b : Bool) → (length rest % 2 == 0) ≡ b →
+        all_along axis (if b then curves_along axis d rest else curves_along axis (pos 0) (d ∷ rest)) ≡ d ∷ rest
     by_test true is =
         let even = eqb-true (length rest % 2) 0 is in
         let none : ⊥ = omega (arith, even, fours) in
         absurd none
     by_test false is = along-told axis (pos 0) (d ∷ rest) fours
 
-begins-told : (axis : Axis) (d : ℤ) (rest : List ℤ) → length rest % 4 ≡ 0 → 0 < length rest → begins_aside axis (curves_along axis d rest) ≡ d
+begins-told : (axis : Axis) (d : ℤ) (rest : List ℤ) → length rest % 4 ≡ 0 → 0 < length rest →
+    begins_aside axis (curves_along axis d rest) ≡ d
 unfolding begins_aside
 begins-told axis d [] fours more = let none : ⊥ = omega (arith, more) in absurd none
 begins-told axis d (a ∷ []) fours more = cc
@@ -324,14 +335,18 @@ begins-told axis d (a ∷ b ∷ []) fours more = cc
 begins-told axis d (a ∷ b ∷ c ∷ []) fours more = cc
 begins-told axis d (a ∷ b ∷ c ∷ e ∷ rest) fours more = part-off axis a d
 
-first-reads : (axis : Axis) (d : ℤ) (rest : List ℤ) → length rest % 4 ≡ 0 → 0 < length rest → begins_aside axis (curves_level axis (d ∷ rest)) ∷ all_along axis (curves_level axis (d ∷ rest)) ≡ d ∷ rest
+first-reads : (axis : Axis) (d : ℤ) (rest : List ℤ) → length rest % 4 ≡ 0 → 0 < length rest →
+    begins_aside axis (curves_level axis (d ∷ rest)) ∷ all_along axis (curves_level axis (d ∷ rest)) ≡ d ∷ rest
 first-reads axis d rest fours more =
     let even : length rest % 2 ≡ 0 = omega (arith, fours) in
     by_test (length rest % 2 == 0) (ap (λ v. v == 0) even)
   where
     by_test : (b : Bool) → b ≡ true →
-        let ss : List Stroke = if b then curves_along axis d rest else curves_along axis (pos 0) (d ∷ rest) in begins_aside axis ss ∷ all_along axis ss ≡ d ∷ rest
-    by_test true is = ap (λ v. v ∷ all_along axis (curves_along axis d rest)) (begins-told axis d rest fours more) ∙ ap (λ v. d ∷ v) (along-told axis d rest fours)
+        let ss : List Stroke = if b then curves_along axis d rest else curves_along axis (pos 0) (d ∷ rest) in
+        begins_aside axis ss ∷ all_along axis ss ≡ d ∷ rest
+    by_test true is =
+        ap (λ v. v ∷ all_along axis (curves_along axis d rest)) (begins-told axis d rest fours more)
+        ∙ ap (λ v. d ∷ v) (along-told axis d rest fours)
     by_test false is = cc
 
 odd-test : (n : ℕ) → n % 2 ≡ 1 → is_odd n ≡ true
@@ -342,7 +357,8 @@ even-test : (n : ℕ) → n % 2 ≡ 0 → is_odd n ≡ false
 unfolding is_odd
 even-test n h = ap (λ v. v == 1) h
 
-odd-level : (axis : Axis) (xs : List ℤ) → 1 < length xs → (length xs - 1) % 4 ≡ 0 → begins_aside axis (curves_level axis xs) ∷ all_along axis (curves_level axis xs) ≡ xs
+odd-level : (axis : Axis) (xs : List ℤ) → 1 < length xs → (length xs - 1) % 4 ≡ 0 →
+    begins_aside axis (curves_level axis xs) ∷ all_along axis (curves_level axis xs) ≡ xs
 odd-level axis [] more fours = let none : ⊥ = omega (arith, more) in absurd none
 odd-level axis (d ∷ rest) more fours = first-reads axis d rest (omega (arith, more, fours)) (omega (arith, more))
 
@@ -354,12 +370,14 @@ level-reads axis xs is = by_form (either (groups 4 (length xs)) (groups_and 4 1 
     by_form (inl form) =
         let parts = in-groups 4 0 (length xs) form in
         let ss = curves_level axis xs in
-        ap (λ b. if b then begins_aside axis ss ∷ all_along axis ss else all_along axis ss) (even-test (length xs) (even-four (length xs) parts.1))
+        ap (λ b. if b then begins_aside axis ss ∷ all_along axis ss else all_along axis ss)
+        (even-test (length xs) (even-four (length xs) parts.1))
         ∙ along-reads axis xs (ap (λ n. n % 4) (none-less (length xs)) ∙ parts.1) parts.0
     by_form (inr form) =
         let parts = in-groups 4 1 (length xs) form in
         let ss = curves_level axis xs in
-        ap (λ b. if b then begins_aside axis ss ∷ all_along axis ss else all_along axis ss) (odd-test (length xs) (odd-one (length xs) parts.0 parts.1))
+        ap (λ b. if b then begins_aside axis ss ∷ all_along axis ss else all_along axis ss)
+        (odd-test (length xs) (odd-one (length xs) parts.0 parts.1))
         ∙ odd-level axis xs (below 1 (length xs) parts.0) parts.1
 
 odd-turns : (axis : Axis) (xs : List ℤ) → 1 < length xs → (length xs - 1) % 4 ≡ 0 → turned_off axis (curves_in_turn axis xs) ≡ xs

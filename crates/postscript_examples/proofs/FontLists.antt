@@ -16,12 +16,15 @@ pub item_is : {A : Type 0} (all xs : List A) (i : ℕ) (x y : A) → xs ≡ all 
 item_is all xs i x y same has is = is ∙ ap (λ l. get_or l i y) same ∙ get_or_from_slice_get all i x y has
 
 -- what runs draw, by the lists or by the indices that have their items
-pub by_items : (codes global local : List (Vec ℕ Global)) (c g l : Index) → map (λ item. item.items) codes ≡ c.items → map (λ item. item.items) global ≡ g.items → map (λ item. item.items) local ≡ l.items
+pub by_items : (codes global local : List (Vec ℕ Global)) (c g l : Index) → map (λ item. item.items) codes ≡ c.items →
+    map (λ item. item.items) global ≡ g.items → map (λ item. item.items) local ≡ l.items
     → map (λ code. drawn_by (subroutines global local) code.items) codes ≡ map (drawn_by (lists g l)) c.items
-by_items codes global local c g l e f h = rw (sym e, sym f, sym h) (sym (map-map (drawn_by (subroutines global local)) (λ item. item.items) codes))
+by_items codes global local c g l e f h =
+    rw (sym e, sym f, sym h) (sym (map-map (drawn_by (subroutines global local)) (λ item. item.items) codes))
 
 -- and what they are refused with
-pub refused_alike : (codes global local : List (Vec ℕ Global)) (c g l : Index) → map (λ item. item.items) codes ≡ c.items → map (λ item. item.items) global ≡ g.items → map (λ item. item.items) local ≡ l.items
+pub refused_alike : (codes global local : List (Vec ℕ Global)) (c g l : Index) → map (λ item. item.items) codes ≡ c.items →
+    map (λ item. item.items) global ≡ g.items → map (λ item. item.items) local ≡ l.items
     → first_refused_by (subroutines global local) (texts codes) ≡ first_refused_by (lists g l) c.items
 refused_alike codes global local c g l e f h = rw (sym e, sym f, sym h) refl
 
@@ -33,6 +36,7 @@ pub there : (all xs : List Index) (i : ℕ) (d : Index) → xs ≡ all → i < l
 there all xs i d same within none = search (rules, sym none ∙ stands all xs i d same within)
 
 -- a single run, by the lists or by the indices that have their items
-pub runs_alike : (code c : List ℕ) (global local : List (Vec ℕ Global)) (g l : Index) → code ≡ c → map (λ item. item.items) global ≡ g.items → map (λ item. item.items) local ≡ l.items
+pub runs_alike : (code c : List ℕ) (global local : List (Vec ℕ Global)) (g l : Index) → code ≡ c →
+    map (λ item. item.items) global ≡ g.items → map (λ item. item.items) local ≡ l.items
     → run_of (subroutines global local) code ≡ run_of (lists g l) c
 runs_alike code c global local g l e f h = rw (sym e, sym f, sym h) refl

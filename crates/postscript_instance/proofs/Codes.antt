@@ -30,7 +30,8 @@ found [] i x is h = absurd (omega (arith, h))
 found (y ∷ ys) zero x is h = ap Some (sym is)
 found (y ∷ ys) (suc i) x is h = found ys i x is (omega (arith, h))
 
-pub one-code : (does : (glyph : ℕ) → (width : ℤ) → (code : List ℕ) → Type 0) (widths : List ℤ) (n : ℕ) (xs : List (Vec ℕ Global)) (x : Vec ℕ Global) (width : ℤ) →
+pub one-code : (does : (glyph : ℕ) → (width : ℤ) → (code : List ℕ) → Type 0) (widths : List ℤ) (n : ℕ) (xs : List (Vec ℕ Global))
+    (x : Vec ℕ Global) (width : ℤ) →
     AreCodes does widths n xs → slice_get widths n ≡ Some width → does n width x.items → AreCodes does widths (n + 1) (xs ++ x ∷ [])
 one-code does widths n xs x width are there is =
     let many = are.counted in
@@ -64,7 +65,8 @@ one-advance advances n xs x are is =
       ];
     }
 
-pub one-item : (items : List (List ℕ)) (codes : List (Vec ℕ Global)) (n : ℕ) (code : Vec ℕ Global) → AreItems items codes n → slice_get codes n ≡ Some code →
+pub one-item : (items : List (List ℕ)) (codes : List (Vec ℕ Global)) (n : ℕ) (code : Vec ℕ Global) → AreItems items codes n →
+    slice_get codes n ≡ Some code →
     slice_get items n ≡ Some code.items → AreItems items codes (n + 1)
 one-item items codes n code are there is = record {
   counted = are.counted;
@@ -78,7 +80,8 @@ same-code : (codes : List (Vec ℕ Global)) (i : ℕ) (a b : Vec ℕ Global) →
 same-code codes i a b h k = let both : Some a ≡ Some b = sym h ∙ k in cc
 
 -- the table of codes that do what they are to do
-pub table-of : (does : (glyph : ℕ) → (advance : ℤ) → (code : List ℕ) → Type 0) (font : Font) (naming : Naming) (advances : List ℤ) (bytes : List ℕ) (codes : List (Vec ℕ Global)) (view : View) →
+pub table-of : (does : (glyph : ℕ) → (advance : ℤ) → (code : List ℕ) → Type 0) (font : Font) (naming : Naming) (advances : List ℤ)
+    (bytes : List ℕ) (codes : List (Vec ℕ Global)) (view : View) →
     AreCodes does advances (length advances) codes → IsLaidOut bytes 0 view → IsPlainFont view codes → IsCalled naming bytes view →
     KeepDictionaries font bytes view (length codes) → IsTable does font naming advances bytes
 table-of does font naming advances bytes codes view are stands plain called keep =

@@ -28,14 +28,16 @@ parity : (n : ℕ) → (n % 2 ≡ 0) ⊎ (n % 2 ≡ 1)
 parity n = grind (arith)
 
 -- level curves: of an odd number the first operand is that of the front
-level : (axis : Axis) (xs ys : List ℤ) → length xs ≡ 44 + length (xs ++ ys) % 2 → curves_level axis xs ++ curves_level axis ys ≡ curves_level axis (xs ++ ys)
+level : (axis : Axis) (xs ys : List ℤ) → length xs ≡ 44 + length (xs ++ ys) % 2 →
+    curves_level axis xs ++ curves_level axis ys ≡ curves_level axis (xs ++ ys)
 level axis [] ys h = absurd (omega (arith, h))
 level axis (d ∷ xs) ys h = by (parity (length (d ∷ xs ++ ys)))
   where
     all : length (xs ++ ys) ≡ length xs + length ys
     all = length-append xs ys
 
-    by : (length (d ∷ xs ++ ys) % 2 ≡ 0) ⊎ (length (d ∷ xs ++ ys) % 2 ≡ 1) → curves_level axis (d ∷ xs) ++ curves_level axis ys ≡ curves_level axis (d ∷ xs ++ ys)
+    by : (length (d ∷ xs ++ ys) % 2 ≡ 0) ⊎ (length (d ∷ xs ++ ys) % 2 ≡ 1) →
+        curves_level axis (d ∷ xs) ++ curves_level axis ys ≡ curves_level axis (d ∷ xs ++ ys)
     by (inl even) = sym (level-behind axis (d ∷ xs) ys (omega (arith, h, even)) (omega (arith, h, even, all)))
     by (inr odd) = sym (aside-level-behind axis d xs ys (omega (arith, h, odd)) (omega (arith, h, odd)) (omega (arith, h, odd, all)))
 
@@ -50,8 +52,10 @@ behind RCurveLine xs ys is h long = let all = length-append xs ys in sym (line-l
 behind RLineCurve xs ys is h long = let all = length-append xs ys in sym (curve-last xs ys (omega (arith, h)) (omega (arith, h, long, all)))
 behind VVCurveTo xs ys is h long = level Vertical xs ys h
 behind HHCurveTo xs ys is h long = level Horizontal xs ys h
-behind VHCurveTo xs ys is h long = let all = length-append xs ys in sym (turning-behind Vertical xs ys (omega (arith, h)) (omega (arith, h, long, all)))
-behind HVCurveTo xs ys is h long = let all = length-append xs ys in sym (turning-behind Horizontal xs ys (omega (arith, h)) (omega (arith, h, long, all)))
+behind VHCurveTo xs ys is h long =
+    let all = length-append xs ys in sym (turning-behind Vertical xs ys (omega (arith, h)) (omega (arith, h, long, all)))
+behind HVCurveTo xs ys is h long =
+    let all = length-append xs ys in sym (turning-behind Horizontal xs ys (omega (arith, h)) (omega (arith, h, long, all)))
 behind op xs ys is h long = absurd (cc)
 
 few-count : (op : Operator) (n : ℕ) → first_count op n ≤ 48
@@ -71,10 +75,12 @@ same-strokes : (op : Operator) (xs : List ℤ) → is_cut op ≡ true → 48 < l
 same-strokes op xs is long =
     let n = first_count op (length xs) in
     let all = take-append-drop n xs in
-    behind op (take n xs) (drop n xs) is (front-long op xs long ∙ ap (λ zs. first_count op (length zs)) (sym all)) (subst (λ zs. 48 < length zs) (sym all) long) ∙ ap (strokes op) all
+    behind op (take n xs) (drop n xs) is (front-long op xs long ∙ ap (λ zs. first_count op (length zs)) (sym all))
+    (subst (λ zs. 48 < length zs) (sym all) long) ∙ ap (strokes op) all
 
 -- an operator that is cut draws, and so does that of its first piece; neither may have a width before its operands
-is-drawn : (op : Operator) → is_cut op ≡ true → IsDrawn (kind op) × IsDrawn (kind (first_operator op)) × (bears_width op ≡ false) × (bears_width (first_operator op) ≡ false)
+is-drawn : (op : Operator) → is_cut op ≡ true →
+    IsDrawn (kind op) × IsDrawn (kind (first_operator op)) × (bears_width op ≡ false) × (bears_width (first_operator op) ≡ false)
 is-drawn RLineTo is = (tt, tt, refl, refl)
 is-drawn HLineTo is = (tt, tt, refl, refl)
 is-drawn VLineTo is = (tt, tt, refl, refl)
@@ -95,7 +101,8 @@ Takes kind n = ⊥
 fours : (n : ℕ) → 48 < n → IsTrue (curves_of_four n) → IsTrue (curves_of_four (44 + n % 2)) × IsTrue (curves_of_four (n - (44 + n % 2)))
 fours n long h = (grind (arith, nat_tests), grind (arith, nat_tests))
 
-both-take : (op : Operator) (n : ℕ) → is_cut op ≡ true → 48 < n → Takes (kind op) n → Takes (kind (first_operator op)) (first_count op n) × Takes (kind op) (n - first_count op n)
+both-take : (op : Operator) (n : ℕ) → is_cut op ≡ true → 48 < n → Takes (kind op) n → Takes (kind (first_operator op))
+    (first_count op n) × Takes (kind op) (n - first_count op n)
 both-take RLineTo n is long h = (refl, grind (arith, nat_tests))
 both-take HLineTo n is long h = (refl, grind (arith, nat_tests))
 both-take VLineTo n is long h = (refl, grind (arith, nat_tests))
@@ -109,11 +116,13 @@ both-take HVCurveTo n is long h = (refl, grind (arith, nat_tests))
 both-take op n is long h = absurd (cc)
 
 -- what it is to be sayable, of an operator that draws
-sayable-drawn : (k : Kind) (stems after : ℕ) (x : Phrase) → IsDrawn k → SayableAs k stems x after → (x.stems ≡ []) × (x.mask ≡ []) × Takes k (length x.operands) × (after ≡ stems)
+sayable-drawn : (k : Kind) (stems after : ℕ) (x : Phrase) → IsDrawn k → SayableAs k stems x after →
+    (x.stems ≡ []) × (x.mask ≡ []) × Takes k (length x.operands) × (after ≡ stems)
 sayable-drawn (Draws takes) stems after x drawn h = h
 sayable-drawn k stems after x drawn h = absurd drawn
 
-drawn-sayable : (k : Kind) (stems : ℕ) (x : Phrase) → IsDrawn k → x.stems ≡ [] → x.mask ≡ [] → Takes k (length x.operands) → SayableAs k stems x stems
+drawn-sayable : (k : Kind) (stems : ℕ) (x : Phrase) → IsDrawn k → x.stems ≡ [] → x.mask ≡ [] → Takes k (length x.operands) →
+    SayableAs k stems x stems
 drawn-sayable (Draws takes) stems x drawn no_stems empty h = (no_stems, empty, h, refl)
 drawn-sayable k stems x drawn no_stems empty h = absurd drawn
 
@@ -141,30 +150,42 @@ pieces stems next x long is =
       rest_said = subst (IsSayable stems (rest_of x)) (sym h.3) (drawn-sayable (kind op) stems (rest_of x) drawn.0 refl h.1 last);
     }
 
-pub cut-sayable : {says written : List Phrase} → AreCut says written → (stems after : ℕ) → AreSayable stems says after → AreSayable stems written after
+pub cut-sayable : {says written : List Phrase} → AreCut says written → (stems after : ℕ) → AreSayable stems says after →
+    AreSayable stems written after
 cut-sayable cuts.none stems after h = h
-cut-sayable (cuts.whole x xs written is cut) stems after (more _ next _ _ _ here later) = more stems next after x written here (cut-sayable cut next after later)
+cut-sayable (cuts.whole x xs written is cut) stems after (more _ next _ _ _ here later) =
+    more stems next after x written here (cut-sayable cut next after later)
 cut-sayable (cuts.piece x xs written long cut) stems after (more _ next _ _ _ here later) =
     let are = pieces stems next x long here in
-    more stems stems after (front_of x) written are.front_said (cut-sayable cut stems after (more stems next after (rest_of x) xs are.rest_said later))
+    more stems stems after (front_of x) written are.front_said
+    (cut-sayable cut stems after (more stems next after (rest_of x) xs are.rest_said later))
 
 -- one piece more before those of the rest
 one-more-piece : (x front rest : Phrase) (xs written : List Phrase) → 48 < length x.operands → IsPath x → IsPath front → IsPath rest →
-    strokes front.operator front.operands ++ strokes rest.operator rest.operands ≡ strokes x.operator x.operands → AreInPieces (rest ∷ xs) written → AreInPieces (x ∷ xs) (front ∷ written)
+    strokes front.operator front.operands ++ strokes rest.operator rest.operands ≡ strokes x.operator x.operands → AreInPieces
+    (rest ∷ xs) written → AreInPieces (x ∷ xs) (front ∷ written)
 one-more-piece x front rest xs _ long whole first last same (as_it_is _ _ written later) =
     let here = strokes front.operator front.operands in
     in_pieces x (front ∷ rest ∷ []) xs written long
-    (record { whole = whole; parts = (first, (last, tt)); same = ap (λ ss. here ++ ss) (append-nil (strokes rest.operator rest.operands)) ∙ same }) later
+    (record {
+      whole = whole;
+      parts = (first, (last, tt));
+      same = ap (λ ss. here ++ ss) (append-nil (strokes rest.operator rest.operands)) ∙ same;
+    }) later
 one-more-piece x front rest xs _ long whole first last same (in_pieces _ parts _ written many is later) =
     let here = strokes front.operator front.operands in
-    in_pieces x (front ∷ parts) xs written long (record { whole = whole; parts = (first, is.parts); same = ap (λ ss. here ++ ss) is.same ∙ same }) later
+    in_pieces x (front ∷ parts) xs written long
+    (record { whole = whole; parts = (first, is.parts); same = ap (λ ss. here ++ ss) is.same ∙ same }) later
 
-pub cut-in-pieces : {says written : List Phrase} → AreCut says written → (stems after : ℕ) → AreSayable stems says after → AreInPieces says written
+pub cut-in-pieces : {says written : List Phrase} → AreCut says written → (stems after : ℕ) → AreSayable stems says after →
+    AreInPieces says written
 cut-in-pieces cuts.none stems after h = nothing
-cut-in-pieces (cuts.whole x xs written is cut) stems after (more _ next _ _ _ here later) = as_it_is x xs written (cut-in-pieces cut next after later)
+cut-in-pieces (cuts.whole x xs written is cut) stems after (more _ next _ _ _ here later) =
+    as_it_is x xs written (cut-in-pieces cut next after later)
 cut-in-pieces (cuts.piece x xs written long cut) stems after (more _ next _ _ _ here later) =
     let are = pieces stems next x long here in
-    one-more-piece x (front_of x) (rest_of x) xs written long.1 are.whole are.front are.rest (same-strokes x.operator x.operands long.0 long.1)
+    one-more-piece x (front_of x) (rest_of x) xs written long.1 are.whole are.front are.rest
+    (same-strokes x.operator x.operands long.0 long.1)
     (cut-in-pieces cut stems after (more stems next after (rest_of x) xs are.rest_said later))
 
 -- the width is before no piece
@@ -180,16 +201,19 @@ cut-bears (Some w) (cuts.piece x xs written long cut) bears = let never = no-wid
 
 -- the numbers before a path operator are its operands
 alone-before : (width : Option ℤ) (x : Phrase) → width ≡ None → x.stems ≡ [] → numbers_of width x ≡ x.operands
-alone-before width x no_width no_stems = ap (λ w. width_numbers w ++ (x.stems ++ x.operands)) no_width ∙ ap (λ ss. ss ++ x.operands) no_stems
+alone-before width x no_width no_stems =
+    ap (λ w. width_numbers w ++ (x.stems ++ x.operands)) no_width ∙ ap (λ ss. ss ++ x.operands) no_stems
 
-held-in : (stems next : ℕ) (width : Option ℤ) (x : Phrase) (xs : List Phrase) → IsWhole x → IsSayable stems x next → IsHeldOrCut width x → BearsWidth width (x ∷ xs) → length (numbers_of width x) ≤ 48
+held-in : (stems next : ℕ) (width : Option ℤ) (x : Phrase) (xs : List Phrase) → IsWhole x → IsSayable stems x next → IsHeldOrCut width x →
+    BearsWidth width (x ∷ xs) → length (numbers_of width x) ≤ 48
 held-in stems next width x xs whole here (inr few) bears = few
 held-in stems next width x xs (inl never) here (inl is) bears = absurd (cc)
 held-in stems next width x xs (inr few) here (inl is) bears =
     let h = sayable-drawn (kind x.operator) stems next x (is-drawn x.operator is).0 here in
     subst (λ nums. length nums ≤ 48) (sym (alone-before width x (no-width width x xs is bears) h.0)) few
 
-pub cut-fits : {says written : List Phrase} → AreCut says written → (stems after : ℕ) (width : Option ℤ) → AreSayable stems says after → AreHeldOrCut width says → BearsWidth width says → Fits width written
+pub cut-fits : {says written : List Phrase} → AreCut says written → (stems after : ℕ) (width : Option ℤ) → AreSayable stems says after →
+    AreHeldOrCut width says → BearsWidth width says → Fits width written
 cut-fits cuts.none stems after width h held bears = tt
 cut-fits (cuts.whole x xs written is cut) stems after width (more _ next _ _ _ here later) held bears =
     (held-in stems next width x xs is here held.0 bears, cut-fits cut next after None later held.1 tt)
@@ -203,12 +227,14 @@ cut-fits (cuts.piece x xs written long cut) stems after width (more _ next _ _ _
     )
 
 -- what is not cut and has more than a stack holds is a hint: a move or a flex has thirteen operands at most
-few-drawn : (m : ℕ) (width : Option ℤ) (x : Phrase) → m ≤ 13 → x.stems ≡ [] → IsTrue (exactly m (length x.operands)) → 48 < length (numbers_of width x) → ⊥
+few-drawn : (m : ℕ) (width : Option ℤ) (x : Phrase) → m ≤ 13 → x.stems ≡ [] → IsTrue (exactly m (length x.operands)) →
+    48 < length (numbers_of width x) → ⊥
 few-drawn m width x low no_stems is many =
     let same : length x.operands ≡ m = exact m (length x.operands) is in
     let one = width-few width in
     let all : length (numbers_of width x) ≡ length (width_numbers width) + length x.operands =
-    length-append (width_numbers width) (x.stems ++ x.operands) ∙ ap (λ ss. length (width_numbers width) + length (ss ++ x.operands)) no_stems in
+    length-append (width_numbers width) (x.stems ++ x.operands)
+    ∙ ap (λ ss. length (width_numbers width) + length (ss ++ x.operands)) no_stems in
     omega (arith, low, same, one, all, many)
   where
     exact : (m n : ℕ) → IsTrue (exactly m n) → n ≡ m
@@ -218,7 +244,8 @@ few-drawn m width x low no_stems is many =
     width-few None = omega arith
     width-few (Some w) = omega arith
 
-is-hint : (op : Operator) (stems next : ℕ) (width : Option ℤ) (x : Phrase) → is_cut op ≡ false → SayableAs (kind op) stems x next → 48 < length (numbers_of width x) → IsHint (kind op)
+is-hint : (op : Operator) (stems next : ℕ) (width : Option ℤ) (x : Phrase) → is_cut op ≡ false → SayableAs (kind op) stems x next →
+    48 < length (numbers_of width x) → IsHint (kind op)
 is-hint HStem stems next width x uncut h many = tt
 is-hint VStem stems next width x uncut h many = tt
 is-hint HStemHM stems next width x uncut h many = tt
@@ -244,6 +271,9 @@ is-hint VHCurveTo stems next width x uncut h many = absurd (cc)
 is-hint HVCurveTo stems next width x uncut h many = absurd (cc)
 is-hint op stems next width x uncut h many = absurd h
 
-pub hints-more : {width : Option ℤ} {says : List Phrase} → HasMoreUncut width says → (stems after : ℕ) → AreSayable stems says after → HasMore width says
-hints-more (uncut.here width x xs uncut many) stems after (more _ next _ _ _ here later) = refusals.here width x xs (is-hint x.operator stems next width x uncut here many) many
-hints-more (uncut.later width x xs rest) stems after (more _ next _ _ _ here later) = refusals.later width x xs (hints-more rest next after later)
+pub hints-more : {width : Option ℤ} {says : List Phrase} → HasMoreUncut width says → (stems after : ℕ) → AreSayable stems says after →
+    HasMore width says
+hints-more (uncut.here width x xs uncut many) stems after (more _ next _ _ _ here later) =
+    refusals.here width x xs (is-hint x.operator stems next width x uncut here many) many
+hints-more (uncut.later width x xs rest) stems after (more _ next _ _ _ here later) =
+    refusals.later width x xs (hints-more rest next after later)

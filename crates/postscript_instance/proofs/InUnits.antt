@@ -42,19 +42,41 @@ abbrev one : Operator → (stems operands : List ℤ) → (mask : List ℕ) → 
 one op stems operands mask = record { operator = op; stems = stems; operands = operands; mask = mask }
 
 -- as many edges as there were
-twice : (xs : List ℤ) (stems next : ℕ) → (n : ℕ) × (length xs ≡ n * 2) × (next ≡ stems + n) → (n : ℕ) × (length (rounded_edges (pos 0) xs) ≡ n * 2) × (next ≡ stems + n)
+twice : (xs : List ℤ) (stems next : ℕ) → (n : ℕ) × (length xs ≡ n * 2) × (next ≡ stems + n) →
+    (n : ℕ) × (length (rounded_edges (pos 0) xs) ≡ n * 2) × (next ≡ stems + n)
 twice xs stems next h = (h.0, edges-length (pos 0) xs ∙ h.1, h.2)
 
-one-sayable : (op : Operator) (ss xs : List ℤ) (mask : List ℕ) (p : Point) (stems next : ℕ) → SayableAs (kind op) stems (one op ss xs mask) next →
+one-sayable : (op : Operator) (ss xs : List ℤ) (mask : List ℕ) (p : Point) (stems next : ℕ) →
+    SayableAs (kind op) stems (one op ss xs mask) next →
     SayableAs (kind (rounded_operator op)) stems (in_units p (one op ss xs mask)) next
-one-sayable HStem ss xs mask p stems next h =
-    (ap (rounded_edges (pos 0)) h.0, h.1, subst (λ n. IsTrue (groups 2 n)) (sym (edges-length (pos 0) xs)) h.2, h.3, twice xs stems next h.4)
-one-sayable VStem ss xs mask p stems next h =
-    (ap (rounded_edges (pos 0)) h.0, h.1, subst (λ n. IsTrue (groups 2 n)) (sym (edges-length (pos 0) xs)) h.2, h.3, twice xs stems next h.4)
-one-sayable HStemHM ss xs mask p stems next h =
-    (ap (rounded_edges (pos 0)) h.0, h.1, subst (λ n. IsTrue (groups 2 n)) (sym (edges-length (pos 0) xs)) h.2, h.3, twice xs stems next h.4)
-one-sayable VStemHM ss xs mask p stems next h =
-    (ap (rounded_edges (pos 0)) h.0, h.1, subst (λ n. IsTrue (groups 2 n)) (sym (edges-length (pos 0) xs)) h.2, h.3, twice xs stems next h.4)
+one-sayable HStem ss xs mask p stems next h = (
+  ap (rounded_edges (pos 0)) h.0,
+  h.1,
+  subst (λ n. IsTrue (groups 2 n)) (sym (edges-length (pos 0) xs)) h.2,
+  h.3,
+  twice xs stems next h.4,
+)
+one-sayable VStem ss xs mask p stems next h = (
+  ap (rounded_edges (pos 0)) h.0,
+  h.1,
+  subst (λ n. IsTrue (groups 2 n)) (sym (edges-length (pos 0) xs)) h.2,
+  h.3,
+  twice xs stems next h.4,
+)
+one-sayable HStemHM ss xs mask p stems next h = (
+  ap (rounded_edges (pos 0)) h.0,
+  h.1,
+  subst (λ n. IsTrue (groups 2 n)) (sym (edges-length (pos 0) xs)) h.2,
+  h.3,
+  twice xs stems next h.4,
+)
+one-sayable VStemHM ss xs mask p stems next h = (
+  ap (rounded_edges (pos 0)) h.0,
+  h.1,
+  subst (λ n. IsTrue (groups 2 n)) (sym (edges-length (pos 0) xs)) h.2,
+  h.3,
+  twice xs stems next h.4,
+)
 one-sayable HintMask ss xs mask p stems next h = (ap (rounded_edges (pos 0)) h.0, h.1, h.2, twice ss stems next h.3)
 one-sayable CntrMask ss xs mask p stems next h = (ap (rounded_edges (pos 0)) h.0, h.1, h.2, twice ss stems next h.3)
 one-sayable RMoveTo ss xs mask p stems next h = (ap (rounded_edges (pos 0)) h.0, h.1, (in-units RMoveTo p xs h.2).takes, h.3)
@@ -76,10 +98,12 @@ one-sayable HFlex1 ss xs mask p stems next h = (ap (rounded_edges (pos 0)) h.0, 
 one-sayable Flex1 ss xs mask p stems next h = (ap (rounded_edges (pos 0)) h.0, h.1, (in-units Flex1 p xs h.2).takes, h.3)
 one-sayable op ss xs mask p stems next h = absurd h
 
-pub all-sayable : {says : List Phrase} (p : Point) (stems after : ℕ) → AreSayable stems says after → AreSayable stems (all_in_units p says) after
+pub all-sayable : {says : List Phrase} (p : Point) (stems after : ℕ) → AreSayable stems says after →
+    AreSayable stems (all_in_units p says) after
 all-sayable p stems after (none _) = none stems
 all-sayable p stems after (more _ next _ x xs is rest) =
-    more stems next after (in_units p x) (all_in_units (behind_steps p (steps_of x.operator x.operands)) xs) (one-sayable x.operator x.stems x.operands x.mask p stems next is)
+    more stems next after (in_units p x) (all_in_units (behind_steps p (steps_of x.operator x.operands)) xs)
+    (one-sayable x.operator x.stems x.operands x.mask p stems next is)
     (all-sayable (behind_steps p (steps_of x.operator x.operands)) next after rest)
 
 -- the edges are at the nearest whole units
@@ -100,98 +124,377 @@ record Goes (p : Point) (x : Phrase) : Type 0 where
   rounded : IsRounded p x (in_units p x)
   place : behind_steps p (steps_of x.operator x.operands) ≡ behind p (strokes x.operator x.operands)
 
-one-goes : (op : Operator) (ss xs : List ℤ) (mask : List ℕ) (p : Point) (stems next : ℕ) → SayableAs (kind op) stems (one op ss xs mask) next → IsInRange p → AreSteps p (steps_of op xs) →
+one-goes : (op : Operator) (ss xs : List ℤ) (mask : List ℕ) (p : Point) (stems next : ℕ) →
+    SayableAs (kind op) stems (one op ss xs mask) next → IsInRange p → AreSteps p (steps_of op xs) →
     Goes p (one op ss xs mask)
 one-goes HStem ss xs mask p stems next h at_p near =
-    record { rounded = record { operator = refl; drawn = refl; in_range = at_p; depth = λ flex. absurd (cc); edges = λ hint. edges-near xs; stems = edges-near ss; mask = refl }; place = refl }
+    record {
+      rounded =
+          record {
+            operator = refl;
+            drawn = refl;
+            in_range = at_p;
+            depth = λ flex. absurd (cc);
+            edges = λ hint. edges-near xs;
+            stems = edges-near ss;
+            mask = refl;
+          };
+      place = refl;
+    }
 one-goes VStem ss xs mask p stems next h at_p near =
-    record { rounded = record { operator = refl; drawn = refl; in_range = at_p; depth = λ flex. absurd (cc); edges = λ hint. edges-near xs; stems = edges-near ss; mask = refl }; place = refl }
+    record {
+      rounded =
+          record {
+            operator = refl;
+            drawn = refl;
+            in_range = at_p;
+            depth = λ flex. absurd (cc);
+            edges = λ hint. edges-near xs;
+            stems = edges-near ss;
+            mask = refl;
+          };
+      place = refl;
+    }
 one-goes HStemHM ss xs mask p stems next h at_p near =
-    record { rounded = record { operator = refl; drawn = refl; in_range = at_p; depth = λ flex. absurd (cc); edges = λ hint. edges-near xs; stems = edges-near ss; mask = refl }; place = refl }
+    record {
+      rounded =
+          record {
+            operator = refl;
+            drawn = refl;
+            in_range = at_p;
+            depth = λ flex. absurd (cc);
+            edges = λ hint. edges-near xs;
+            stems = edges-near ss;
+            mask = refl;
+          };
+      place = refl;
+    }
 one-goes VStemHM ss xs mask p stems next h at_p near =
-    record { rounded = record { operator = refl; drawn = refl; in_range = at_p; depth = λ flex. absurd (cc); edges = λ hint. edges-near xs; stems = edges-near ss; mask = refl }; place = refl }
+    record {
+      rounded =
+          record {
+            operator = refl;
+            drawn = refl;
+            in_range = at_p;
+            depth = λ flex. absurd (cc);
+            edges = λ hint. edges-near xs;
+            stems = edges-near ss;
+            mask = refl;
+          };
+      place = refl;
+    }
 one-goes HintMask ss xs mask p stems next h at_p near =
-    record { rounded = record { operator = refl; drawn = refl; in_range = at_p; depth = λ flex. absurd (cc); edges = λ hint. edges-near xs; stems = edges-near ss; mask = refl }; place = refl }
+    record {
+      rounded =
+          record {
+            operator = refl;
+            drawn = refl;
+            in_range = at_p;
+            depth = λ flex. absurd (cc);
+            edges = λ hint. edges-near xs;
+            stems = edges-near ss;
+            mask = refl;
+          };
+      place = refl;
+    }
 one-goes CntrMask ss xs mask p stems next h at_p near =
-    record { rounded = record { operator = refl; drawn = refl; in_range = at_p; depth = λ flex. absurd (cc); edges = λ hint. edges-near xs; stems = edges-near ss; mask = refl }; place = refl }
+    record {
+      rounded =
+          record {
+            operator = refl;
+            drawn = refl;
+            in_range = at_p;
+            depth = λ flex. absurd (cc);
+            edges = λ hint. edges-near xs;
+            stems = edges-near ss;
+            mask = refl;
+          };
+      place = refl;
+    }
 one-goes RMoveTo ss xs mask p stems next h at_p near =
     let units = in-units RMoveTo p xs h.2 in
     let is = units.agrees in
-    record { rounded = record { operator = refl; drawn = is.same; in_range = is.range at_p near; depth = units.depth; edges = λ hint. absurd hint; stems = edges-near ss; mask = refl }; place = is.behind }
+    record {
+      rounded =
+          record {
+            operator = refl;
+            drawn = is.same;
+            in_range = is.range at_p near;
+            depth = units.depth;
+            edges = λ hint. absurd hint;
+            stems = edges-near ss;
+            mask = refl;
+          };
+      place = is.behind;
+    }
 one-goes HMoveTo ss xs mask p stems next h at_p near =
     let units = in-units HMoveTo p xs h.2 in
     let is = units.agrees in
-    record { rounded = record { operator = refl; drawn = is.same; in_range = is.range at_p near; depth = units.depth; edges = λ hint. absurd hint; stems = edges-near ss; mask = refl }; place = is.behind }
+    record {
+      rounded =
+          record {
+            operator = refl;
+            drawn = is.same;
+            in_range = is.range at_p near;
+            depth = units.depth;
+            edges = λ hint. absurd hint;
+            stems = edges-near ss;
+            mask = refl;
+          };
+      place = is.behind;
+    }
 one-goes VMoveTo ss xs mask p stems next h at_p near =
     let units = in-units VMoveTo p xs h.2 in
     let is = units.agrees in
-    record { rounded = record { operator = refl; drawn = is.same; in_range = is.range at_p near; depth = units.depth; edges = λ hint. absurd hint; stems = edges-near ss; mask = refl }; place = is.behind }
+    record {
+      rounded =
+          record {
+            operator = refl;
+            drawn = is.same;
+            in_range = is.range at_p near;
+            depth = units.depth;
+            edges = λ hint. absurd hint;
+            stems = edges-near ss;
+            mask = refl;
+          };
+      place = is.behind;
+    }
 one-goes RLineTo ss xs mask p stems next h at_p near =
     let units = in-units RLineTo p xs h.2 in
     let is = units.agrees in
-    record { rounded = record { operator = refl; drawn = is.same; in_range = is.range at_p near; depth = units.depth; edges = λ hint. absurd hint; stems = edges-near ss; mask = refl }; place = is.behind }
+    record {
+      rounded =
+          record {
+            operator = refl;
+            drawn = is.same;
+            in_range = is.range at_p near;
+            depth = units.depth;
+            edges = λ hint. absurd hint;
+            stems = edges-near ss;
+            mask = refl;
+          };
+      place = is.behind;
+    }
 one-goes HLineTo ss xs mask p stems next h at_p near =
     let units = in-units HLineTo p xs h.2 in
     let is = units.agrees in
-    record { rounded = record { operator = refl; drawn = is.same; in_range = is.range at_p near; depth = units.depth; edges = λ hint. absurd hint; stems = edges-near ss; mask = refl }; place = is.behind }
+    record {
+      rounded =
+          record {
+            operator = refl;
+            drawn = is.same;
+            in_range = is.range at_p near;
+            depth = units.depth;
+            edges = λ hint. absurd hint;
+            stems = edges-near ss;
+            mask = refl;
+          };
+      place = is.behind;
+    }
 one-goes VLineTo ss xs mask p stems next h at_p near =
     let units = in-units VLineTo p xs h.2 in
     let is = units.agrees in
-    record { rounded = record { operator = refl; drawn = is.same; in_range = is.range at_p near; depth = units.depth; edges = λ hint. absurd hint; stems = edges-near ss; mask = refl }; place = is.behind }
+    record {
+      rounded =
+          record {
+            operator = refl;
+            drawn = is.same;
+            in_range = is.range at_p near;
+            depth = units.depth;
+            edges = λ hint. absurd hint;
+            stems = edges-near ss;
+            mask = refl;
+          };
+      place = is.behind;
+    }
 one-goes RRCurveTo ss xs mask p stems next h at_p near =
     let units = in-units RRCurveTo p xs h.2 in
     let is = units.agrees in
-    record { rounded = record { operator = refl; drawn = is.same; in_range = is.range at_p near; depth = units.depth; edges = λ hint. absurd hint; stems = edges-near ss; mask = refl }; place = is.behind }
+    record {
+      rounded =
+          record {
+            operator = refl;
+            drawn = is.same;
+            in_range = is.range at_p near;
+            depth = units.depth;
+            edges = λ hint. absurd hint;
+            stems = edges-near ss;
+            mask = refl;
+          };
+      place = is.behind;
+    }
 one-goes RCurveLine ss xs mask p stems next h at_p near =
     let units = in-units RCurveLine p xs h.2 in
     let is = units.agrees in
-    record { rounded = record { operator = refl; drawn = is.same; in_range = is.range at_p near; depth = units.depth; edges = λ hint. absurd hint; stems = edges-near ss; mask = refl }; place = is.behind }
+    record {
+      rounded =
+          record {
+            operator = refl;
+            drawn = is.same;
+            in_range = is.range at_p near;
+            depth = units.depth;
+            edges = λ hint. absurd hint;
+            stems = edges-near ss;
+            mask = refl;
+          };
+      place = is.behind;
+    }
 one-goes RLineCurve ss xs mask p stems next h at_p near =
     let units = in-units RLineCurve p xs h.2 in
     let is = units.agrees in
-    record { rounded = record { operator = refl; drawn = is.same; in_range = is.range at_p near; depth = units.depth; edges = λ hint. absurd hint; stems = edges-near ss; mask = refl }; place = is.behind }
+    record {
+      rounded =
+          record {
+            operator = refl;
+            drawn = is.same;
+            in_range = is.range at_p near;
+            depth = units.depth;
+            edges = λ hint. absurd hint;
+            stems = edges-near ss;
+            mask = refl;
+          };
+      place = is.behind;
+    }
 one-goes VVCurveTo ss xs mask p stems next h at_p near =
     let units = in-units VVCurveTo p xs h.2 in
     let is = units.agrees in
-    record { rounded = record { operator = refl; drawn = is.same; in_range = is.range at_p near; depth = units.depth; edges = λ hint. absurd hint; stems = edges-near ss; mask = refl }; place = is.behind }
+    record {
+      rounded =
+          record {
+            operator = refl;
+            drawn = is.same;
+            in_range = is.range at_p near;
+            depth = units.depth;
+            edges = λ hint. absurd hint;
+            stems = edges-near ss;
+            mask = refl;
+          };
+      place = is.behind;
+    }
 one-goes HHCurveTo ss xs mask p stems next h at_p near =
     let units = in-units HHCurveTo p xs h.2 in
     let is = units.agrees in
-    record { rounded = record { operator = refl; drawn = is.same; in_range = is.range at_p near; depth = units.depth; edges = λ hint. absurd hint; stems = edges-near ss; mask = refl }; place = is.behind }
+    record {
+      rounded =
+          record {
+            operator = refl;
+            drawn = is.same;
+            in_range = is.range at_p near;
+            depth = units.depth;
+            edges = λ hint. absurd hint;
+            stems = edges-near ss;
+            mask = refl;
+          };
+      place = is.behind;
+    }
 one-goes VHCurveTo ss xs mask p stems next h at_p near =
     let units = in-units VHCurveTo p xs h.2 in
     let is = units.agrees in
-    record { rounded = record { operator = refl; drawn = is.same; in_range = is.range at_p near; depth = units.depth; edges = λ hint. absurd hint; stems = edges-near ss; mask = refl }; place = is.behind }
+    record {
+      rounded =
+          record {
+            operator = refl;
+            drawn = is.same;
+            in_range = is.range at_p near;
+            depth = units.depth;
+            edges = λ hint. absurd hint;
+            stems = edges-near ss;
+            mask = refl;
+          };
+      place = is.behind;
+    }
 one-goes HVCurveTo ss xs mask p stems next h at_p near =
     let units = in-units HVCurveTo p xs h.2 in
     let is = units.agrees in
-    record { rounded = record { operator = refl; drawn = is.same; in_range = is.range at_p near; depth = units.depth; edges = λ hint. absurd hint; stems = edges-near ss; mask = refl }; place = is.behind }
+    record {
+      rounded =
+          record {
+            operator = refl;
+            drawn = is.same;
+            in_range = is.range at_p near;
+            depth = units.depth;
+            edges = λ hint. absurd hint;
+            stems = edges-near ss;
+            mask = refl;
+          };
+      place = is.behind;
+    }
 one-goes HFlex ss xs mask p stems next h at_p near =
     let units = in-units HFlex p xs h.2 in
     let is = units.agrees in
-    record { rounded = record { operator = refl; drawn = is.same; in_range = is.range at_p near; depth = units.depth; edges = λ hint. absurd hint; stems = edges-near ss; mask = refl }; place = is.behind }
+    record {
+      rounded =
+          record {
+            operator = refl;
+            drawn = is.same;
+            in_range = is.range at_p near;
+            depth = units.depth;
+            edges = λ hint. absurd hint;
+            stems = edges-near ss;
+            mask = refl;
+          };
+      place = is.behind;
+    }
 one-goes Flex ss xs mask p stems next h at_p near =
     let units = in-units Flex p xs h.2 in
     let is = units.agrees in
-    record { rounded = record { operator = refl; drawn = is.same; in_range = is.range at_p near; depth = units.depth; edges = λ hint. absurd hint; stems = edges-near ss; mask = refl }; place = is.behind }
+    record {
+      rounded =
+          record {
+            operator = refl;
+            drawn = is.same;
+            in_range = is.range at_p near;
+            depth = units.depth;
+            edges = λ hint. absurd hint;
+            stems = edges-near ss;
+            mask = refl;
+          };
+      place = is.behind;
+    }
 one-goes HFlex1 ss xs mask p stems next h at_p near =
     let units = in-units HFlex1 p xs h.2 in
     let is = units.agrees in
-    record { rounded = record { operator = refl; drawn = is.same; in_range = is.range at_p near; depth = units.depth; edges = λ hint. absurd hint; stems = edges-near ss; mask = refl }; place = is.behind }
+    record {
+      rounded =
+          record {
+            operator = refl;
+            drawn = is.same;
+            in_range = is.range at_p near;
+            depth = units.depth;
+            edges = λ hint. absurd hint;
+            stems = edges-near ss;
+            mask = refl;
+          };
+      place = is.behind;
+    }
 one-goes Flex1 ss xs mask p stems next h at_p near =
     let units = in-units Flex1 p xs h.2 in
     let is = units.agrees in
-    record { rounded = record { operator = refl; drawn = is.same; in_range = is.range at_p near; depth = units.depth; edges = λ hint. absurd hint; stems = edges-near ss; mask = refl }; place = is.behind }
+    record {
+      rounded =
+          record {
+            operator = refl;
+            drawn = is.same;
+            in_range = is.range at_p near;
+            depth = units.depth;
+            edges = λ hint. absurd hint;
+            stems = edges-near ss;
+            mask = refl;
+          };
+      place = is.behind;
+    }
 one-goes op ss xs mask p stems next h at_p near = absurd h
 
-pub all-rounded : {says : List Phrase} (p : Point) (stems after : ℕ) → AreSayable stems says after → IsInRange p → AreNear p says → AreRounded p says (all_in_units p says)
+pub all-rounded : {says : List Phrase} (p : Point) (stems after : ℕ) → AreSayable stems says after → IsInRange p → AreNear p says →
+    AreRounded p says (all_in_units p says)
 all-rounded p stems after (none _) at_p near = tt
 all-rounded p stems after (more _ next _ x xs is rest) at_p near =
     let goes = one-goes x.operator x.stems x.operands x.mask p stems next is at_p near.0.steps in
     let there = range-behind p (strokes x.operator x.operands) goes.rounded.in_range in
     let q = behind_steps p (steps_of x.operator x.operands) in (
       goes.rounded,
-      subst (λ z. AreRounded z xs (all_in_units q xs)) goes.place (all-rounded q next after rest (subst IsInRange (sym goes.place) there) near.1),
+      subst (λ z. AreRounded z xs (all_in_units q xs)) goes.place
+          (all-rounded q next after rest (subst IsInRange (sym goes.place) there) near.1),
     )
 
 pub origin-in-range : IsInRange origin
@@ -205,7 +508,8 @@ edges-whole : (from : ℤ) (xs : List ℤ) → AreWhole (rounded_edges from xs)
 edges-whole from [] = tt
 edges-whole from (x ∷ xs) = (is-way-whole from x, edges-whole (from +ℤ x) xs)
 
-one-whole : (op : Operator) (ss xs : List ℤ) (mask : List ℕ) (p : Point) (stems next : ℕ) → SayableAs (kind op) stems (one op ss xs mask) next →
+one-whole : (op : Operator) (ss xs : List ℤ) (mask : List ℕ) (p : Point) (stems next : ℕ) →
+    SayableAs (kind op) stems (one op ss xs mask) next →
     AreWhole (used (rounded_operator op) (in_units p (one op ss xs mask)).operands)
 one-whole HStem ss xs mask p stems next h = edges-whole (pos 0) xs
 one-whole VStem ss xs mask p stems next h = edges-whole (pos 0) xs
@@ -219,13 +523,20 @@ one-whole VMoveTo ss xs mask p stems next h = subst AreWhole (sym (in-units VMov
 one-whole RLineTo ss xs mask p stems next h = subst AreWhole (sym (in-units RLineTo p xs h.2).uses) (steps-whole p (steps_of RLineTo xs))
 one-whole HLineTo ss xs mask p stems next h = subst AreWhole (sym (in-units HLineTo p xs h.2).uses) (steps-whole p (steps_of HLineTo xs))
 one-whole VLineTo ss xs mask p stems next h = subst AreWhole (sym (in-units VLineTo p xs h.2).uses) (steps-whole p (steps_of VLineTo xs))
-one-whole RRCurveTo ss xs mask p stems next h = subst AreWhole (sym (in-units RRCurveTo p xs h.2).uses) (steps-whole p (steps_of RRCurveTo xs))
-one-whole RCurveLine ss xs mask p stems next h = subst AreWhole (sym (in-units RCurveLine p xs h.2).uses) (steps-whole p (steps_of RCurveLine xs))
-one-whole RLineCurve ss xs mask p stems next h = subst AreWhole (sym (in-units RLineCurve p xs h.2).uses) (steps-whole p (steps_of RLineCurve xs))
-one-whole VVCurveTo ss xs mask p stems next h = subst AreWhole (sym (in-units VVCurveTo p xs h.2).uses) (steps-whole p (steps_of VVCurveTo xs))
-one-whole HHCurveTo ss xs mask p stems next h = subst AreWhole (sym (in-units HHCurveTo p xs h.2).uses) (steps-whole p (steps_of HHCurveTo xs))
-one-whole VHCurveTo ss xs mask p stems next h = subst AreWhole (sym (in-units VHCurveTo p xs h.2).uses) (steps-whole p (steps_of VHCurveTo xs))
-one-whole HVCurveTo ss xs mask p stems next h = subst AreWhole (sym (in-units HVCurveTo p xs h.2).uses) (steps-whole p (steps_of HVCurveTo xs))
+one-whole RRCurveTo ss xs mask p stems next h =
+    subst AreWhole (sym (in-units RRCurveTo p xs h.2).uses) (steps-whole p (steps_of RRCurveTo xs))
+one-whole RCurveLine ss xs mask p stems next h =
+    subst AreWhole (sym (in-units RCurveLine p xs h.2).uses) (steps-whole p (steps_of RCurveLine xs))
+one-whole RLineCurve ss xs mask p stems next h =
+    subst AreWhole (sym (in-units RLineCurve p xs h.2).uses) (steps-whole p (steps_of RLineCurve xs))
+one-whole VVCurveTo ss xs mask p stems next h =
+    subst AreWhole (sym (in-units VVCurveTo p xs h.2).uses) (steps-whole p (steps_of VVCurveTo xs))
+one-whole HHCurveTo ss xs mask p stems next h =
+    subst AreWhole (sym (in-units HHCurveTo p xs h.2).uses) (steps-whole p (steps_of HHCurveTo xs))
+one-whole VHCurveTo ss xs mask p stems next h =
+    subst AreWhole (sym (in-units VHCurveTo p xs h.2).uses) (steps-whole p (steps_of VHCurveTo xs))
+one-whole HVCurveTo ss xs mask p stems next h =
+    subst AreWhole (sym (in-units HVCurveTo p xs h.2).uses) (steps-whole p (steps_of HVCurveTo xs))
 one-whole HFlex ss xs mask p stems next h = subst AreWhole (sym (in-units HFlex p xs h.2).uses) (steps-whole p (steps_of HFlex xs))
 one-whole Flex ss xs mask p stems next h = subst AreWhole (sym (in-units Flex p xs h.2).uses) (steps-whole p (steps_of Flex xs))
 one-whole HFlex1 ss xs mask p stems next h = subst AreWhole (sym (in-units HFlex1 p xs h.2).uses) (steps-whole p (steps_of HFlex1 xs))
@@ -234,8 +545,11 @@ one-whole op ss xs mask p stems next h = absurd h
 
 all-whole : {says : List Phrase} (p : Point) (stems after : ℕ) → AreSayable stems says after → AreInUnits (all_in_units p says)
 all-whole p stems after (none _) = tt
-all-whole p stems after (more _ next _ x xs is rest) =
-    (edges-whole (pos 0) x.stems, one-whole x.operator x.stems x.operands x.mask p stems next is, all-whole (behind_steps p (steps_of x.operator x.operands)) next after rest)
+all-whole p stems after (more _ next _ x xs is rest) = (
+  edges-whole (pos 0) x.stems,
+  one-whole x.operator x.stems x.operands x.mask p stems next is,
+  all-whole (behind_steps p (steps_of x.operator x.operands)) next after rest,
+)
 
 -- and so they are in pieces
 take-whole : (n : ℕ) (xs : List ℤ) → AreWhole xs → AreWhole (take n xs)
@@ -272,7 +586,8 @@ cut-whole (cuts.piece x xs written long cut) are =
     (are.0, front, cut-whole cut (tt, rest, are.2))
 
 -- a charstring in whole units
-pub rounded-of : (charstring : Charstring) (width : Option ℤ) (code : List ℕ) (says whole : List Phrase) → Says charstring says → whole ≡ all_in_units origin says → AreNear origin says →
+pub rounded-of : (charstring : Charstring) (width : Option ℤ) (code : List ℕ) (says whole : List Phrase) → Says charstring says →
+    whole ≡ all_in_units origin says → AreNear origin says →
     IsWritten width whole [] code → AreHeldOrCut width whole → BearsWidth width whole → IsRoundedOf charstring width code
 rounded-of charstring width code says whole said same near is held bears =
     let after = said.last.stems in
@@ -329,7 +644,8 @@ more-before width p (x ∷ xs) (here _ _ _ is many) =
     let hint = hint-before x.operator is in
     let count = hint-count x.operator x.stems x.operands x.mask p width hint in
     here width x xs hint (omega (arith, count, many))
-more-before width p (x ∷ xs) (later _ _ _ rest) = later width x xs (more-before None (behind_steps p (steps_of x.operator x.operands)) xs rest)
+more-before width p (x ∷ xs) (later _ _ _ rest) =
+    later width x xs (more-before None (behind_steps p (steps_of x.operator x.operands)) xs rest)
 
 bears-before : (op : Operator) → bears_width (rounded_operator op) ≡ false → bears_width op ≡ false
 bears-before HFlex h = refl
@@ -342,7 +658,8 @@ lacks-before None p says h = absurd h
 lacks-before (Some w) p [] h = absurd h
 lacks-before (Some w) p (x ∷ xs) h = bears-before x.operator h
 
-unwritten : (charstring : Charstring) (width : Option ℤ) (says : List Phrase) (e : Error) → Says charstring says → IsUnwritten width (all_in_units origin says) e → NotRounded charstring width e
+unwritten : (charstring : Charstring) (width : Option ℤ) (says : List Phrase) (e : Error) → Says charstring says →
+    IsUnwritten width (all_in_units origin says) e → NotRounded charstring width e
 unwritten charstring width says (errors.Font e) said is = subst (λ cause. NotRounded charstring width (errors.Font cause)) (sym is) tt
 unwritten charstring width says errors.TooManyOperands said is =
     let after = said.last.stems in
@@ -352,7 +669,8 @@ unwritten charstring width says errors.NoMove said is = (says, said, lacks-befor
 unwritten charstring width says e said is = absurd is
 
 -- what leads too far along axes leads out
-near-along : (op : Operator) (ss xs : List ℤ) (mask : List ℕ) (p : Point) (stems next : ℕ) → SayableAs (kind op) stems (one op ss xs mask) next → IsWithin p (one op ss xs mask) →
+near-along : (op : Operator) (ss xs : List ℤ) (mask : List ℕ) (p : Point) (stems next : ℕ) →
+    SayableAs (kind op) stems (one op ss xs mask) next → IsWithin p (one op ss xs mask) →
     IsNear p (one op ss xs mask)
 near-along HStem ss xs mask p stems next h within = record { steps = tt; edges = λ hint. within.edges tt; stems = within.stems }
 near-along VStem ss xs mask p stems next h within = record { steps = tt; edges = λ hint. within.edges tt; stems = within.stems }
@@ -360,26 +678,44 @@ near-along HStemHM ss xs mask p stems next h within = record { steps = tt; edges
 near-along VStemHM ss xs mask p stems next h within = record { steps = tt; edges = λ hint. within.edges tt; stems = within.stems }
 near-along HintMask ss xs mask p stems next h within = record { steps = tt; edges = λ hint. within.edges tt; stems = within.stems }
 near-along CntrMask ss xs mask p stems next h within = record { steps = tt; edges = λ hint. within.edges tt; stems = within.stems }
-near-along RMoveTo ss xs mask p stems next h within = record { steps = (in-units RMoveTo p xs h.2).agrees.ways within.ways; edges = λ hint. absurd (cc); stems = within.stems }
-near-along HMoveTo ss xs mask p stems next h within = record { steps = (in-units HMoveTo p xs h.2).agrees.ways within.ways; edges = λ hint. absurd (cc); stems = within.stems }
-near-along VMoveTo ss xs mask p stems next h within = record { steps = (in-units VMoveTo p xs h.2).agrees.ways within.ways; edges = λ hint. absurd (cc); stems = within.stems }
-near-along RLineTo ss xs mask p stems next h within = record { steps = (in-units RLineTo p xs h.2).agrees.ways within.ways; edges = λ hint. absurd (cc); stems = within.stems }
-near-along HLineTo ss xs mask p stems next h within = record { steps = (in-units HLineTo p xs h.2).agrees.ways within.ways; edges = λ hint. absurd (cc); stems = within.stems }
-near-along VLineTo ss xs mask p stems next h within = record { steps = (in-units VLineTo p xs h.2).agrees.ways within.ways; edges = λ hint. absurd (cc); stems = within.stems }
-near-along RRCurveTo ss xs mask p stems next h within = record { steps = (in-units RRCurveTo p xs h.2).agrees.ways within.ways; edges = λ hint. absurd (cc); stems = within.stems }
-near-along RCurveLine ss xs mask p stems next h within = record { steps = (in-units RCurveLine p xs h.2).agrees.ways within.ways; edges = λ hint. absurd (cc); stems = within.stems }
-near-along RLineCurve ss xs mask p stems next h within = record { steps = (in-units RLineCurve p xs h.2).agrees.ways within.ways; edges = λ hint. absurd (cc); stems = within.stems }
-near-along VVCurveTo ss xs mask p stems next h within = record { steps = (in-units VVCurveTo p xs h.2).agrees.ways within.ways; edges = λ hint. absurd (cc); stems = within.stems }
-near-along HHCurveTo ss xs mask p stems next h within = record { steps = (in-units HHCurveTo p xs h.2).agrees.ways within.ways; edges = λ hint. absurd (cc); stems = within.stems }
-near-along VHCurveTo ss xs mask p stems next h within = record { steps = (in-units VHCurveTo p xs h.2).agrees.ways within.ways; edges = λ hint. absurd (cc); stems = within.stems }
-near-along HVCurveTo ss xs mask p stems next h within = record { steps = (in-units HVCurveTo p xs h.2).agrees.ways within.ways; edges = λ hint. absurd (cc); stems = within.stems }
-near-along HFlex ss xs mask p stems next h within = record { steps = (in-units HFlex p xs h.2).agrees.ways within.ways; edges = λ hint. absurd (cc); stems = within.stems }
-near-along Flex ss xs mask p stems next h within = record { steps = (in-units Flex p xs h.2).agrees.ways within.ways; edges = λ hint. absurd (cc); stems = within.stems }
-near-along HFlex1 ss xs mask p stems next h within = record { steps = (in-units HFlex1 p xs h.2).agrees.ways within.ways; edges = λ hint. absurd (cc); stems = within.stems }
-near-along Flex1 ss xs mask p stems next h within = record { steps = (in-units Flex1 p xs h.2).agrees.ways within.ways; edges = λ hint. absurd (cc); stems = within.stems }
+near-along RMoveTo ss xs mask p stems next h within =
+    record { steps = (in-units RMoveTo p xs h.2).agrees.ways within.ways; edges = λ hint. absurd (cc); stems = within.stems }
+near-along HMoveTo ss xs mask p stems next h within =
+    record { steps = (in-units HMoveTo p xs h.2).agrees.ways within.ways; edges = λ hint. absurd (cc); stems = within.stems }
+near-along VMoveTo ss xs mask p stems next h within =
+    record { steps = (in-units VMoveTo p xs h.2).agrees.ways within.ways; edges = λ hint. absurd (cc); stems = within.stems }
+near-along RLineTo ss xs mask p stems next h within =
+    record { steps = (in-units RLineTo p xs h.2).agrees.ways within.ways; edges = λ hint. absurd (cc); stems = within.stems }
+near-along HLineTo ss xs mask p stems next h within =
+    record { steps = (in-units HLineTo p xs h.2).agrees.ways within.ways; edges = λ hint. absurd (cc); stems = within.stems }
+near-along VLineTo ss xs mask p stems next h within =
+    record { steps = (in-units VLineTo p xs h.2).agrees.ways within.ways; edges = λ hint. absurd (cc); stems = within.stems }
+near-along RRCurveTo ss xs mask p stems next h within =
+    record { steps = (in-units RRCurveTo p xs h.2).agrees.ways within.ways; edges = λ hint. absurd (cc); stems = within.stems }
+near-along RCurveLine ss xs mask p stems next h within =
+    record { steps = (in-units RCurveLine p xs h.2).agrees.ways within.ways; edges = λ hint. absurd (cc); stems = within.stems }
+near-along RLineCurve ss xs mask p stems next h within =
+    record { steps = (in-units RLineCurve p xs h.2).agrees.ways within.ways; edges = λ hint. absurd (cc); stems = within.stems }
+near-along VVCurveTo ss xs mask p stems next h within =
+    record { steps = (in-units VVCurveTo p xs h.2).agrees.ways within.ways; edges = λ hint. absurd (cc); stems = within.stems }
+near-along HHCurveTo ss xs mask p stems next h within =
+    record { steps = (in-units HHCurveTo p xs h.2).agrees.ways within.ways; edges = λ hint. absurd (cc); stems = within.stems }
+near-along VHCurveTo ss xs mask p stems next h within =
+    record { steps = (in-units VHCurveTo p xs h.2).agrees.ways within.ways; edges = λ hint. absurd (cc); stems = within.stems }
+near-along HVCurveTo ss xs mask p stems next h within =
+    record { steps = (in-units HVCurveTo p xs h.2).agrees.ways within.ways; edges = λ hint. absurd (cc); stems = within.stems }
+near-along HFlex ss xs mask p stems next h within =
+    record { steps = (in-units HFlex p xs h.2).agrees.ways within.ways; edges = λ hint. absurd (cc); stems = within.stems }
+near-along Flex ss xs mask p stems next h within =
+    record { steps = (in-units Flex p xs h.2).agrees.ways within.ways; edges = λ hint. absurd (cc); stems = within.stems }
+near-along HFlex1 ss xs mask p stems next h within =
+    record { steps = (in-units HFlex1 p xs h.2).agrees.ways within.ways; edges = λ hint. absurd (cc); stems = within.stems }
+near-along Flex1 ss xs mask p stems next h within =
+    record { steps = (in-units Flex1 p xs h.2).agrees.ways within.ways; edges = λ hint. absurd (cc); stems = within.stems }
 near-along op ss xs mask p stems next h within = absurd h
 
-place-of : (op : Operator) (ss xs : List ℤ) (mask : List ℕ) (p : Point) (stems next : ℕ) → SayableAs (kind op) stems (one op ss xs mask) next →
+place-of : (op : Operator) (ss xs : List ℤ) (mask : List ℕ) (p : Point) (stems next : ℕ) →
+    SayableAs (kind op) stems (one op ss xs mask) next →
     behind_steps p (steps_of op xs) ≡ behind p (strokes op xs)
 place-of HStem ss xs mask p stems next h = refl
 place-of VStem ss xs mask p stems next h = refl
@@ -414,21 +750,27 @@ leads-out p stems after (none _) leads = absurd (nothing-leads p leads)
 leads-out p stems after (more _ next _ x xs is rest) (axes.here _ _ _ far) =
     outs.here p x xs (λ within. far (near-along x.operator x.stems x.operands x.mask p stems next is within))
 leads-out p stems after (more _ next _ x xs is rest) (axes.later _ _ _ leads) =
-    outs.later p x xs (subst (λ z. LeadsOut z xs) (place-of x.operator x.stems x.operands x.mask p stems next is) (leads-out (behind_steps p (steps_of x.operator x.operands)) next after rest leads))
+    outs.later p x xs (subst (λ z. LeadsOut z xs) (place-of x.operator x.stems x.operands x.mask p stems next is)
+    (leads-out (behind_steps p (steps_of x.operator x.operands)) next after rest leads))
 
-too-far : (charstring : Charstring) (width : Option ℤ) (says : List Phrase) (e : Error) → Says charstring says → IsFar (LeadsTooFar origin says) e → NotRounded charstring width e
+too-far : (charstring : Charstring) (width : Option ℤ) (says : List Phrase) (e : Error) → Says charstring says →
+    IsFar (LeadsTooFar origin says) e → NotRounded charstring width e
 too-far charstring width says (errors.Font e) said is = subst (λ cause. NotRounded charstring width (errors.Font cause)) (sym is) tt
 too-far charstring width says errors.TooFar said is =
     let after = said.last.stems in
     (says, said, leads-out origin 0 after (subst (λ ys. AreSayable 0 ys after) (sym said.all) (sayable said.run)) is)
 too-far charstring width says e said is = absurd is
 
-pub unwritten-on : {A : Type 0} (charstring : Charstring) (width : Option ℤ) (says : List Phrase) (r : Result A Error) (e : Error) → IsErrAnd r (λ x. x ≡ e) → Says charstring says →
+pub unwritten-on : {A : Type 0} (charstring : Charstring) (width : Option ℤ) (says : List Phrase) (r : Result A Error) (e : Error) →
+    IsErrAnd r (λ x. x ≡ e) → Says charstring says →
     IsUnwritten width (all_in_units origin says) e → IfErr r (λ x. NotRounded charstring width x)
 unwritten-on charstring width says (Ok x) e same said is = absurd same
-unwritten-on charstring width says (Err x) e same said is = subst (NotRounded charstring width) (sym same) (unwritten charstring width says e said is)
+unwritten-on charstring width says (Err x) e same said is =
+    subst (NotRounded charstring width) (sym same) (unwritten charstring width says e said is)
 
-pub too-far-on : {A : Type 0} (charstring : Charstring) (width : Option ℤ) (says : List Phrase) (r : Result A Error) (e : Error) → IsErrAnd r (λ x. x ≡ e) → Says charstring says →
+pub too-far-on : {A : Type 0} (charstring : Charstring) (width : Option ℤ) (says : List Phrase) (r : Result A Error) (e : Error) →
+    IsErrAnd r (λ x. x ≡ e) → Says charstring says →
     IsFar (LeadsTooFar origin says) e → IfErr r (λ x. NotRounded charstring width x)
 too-far-on charstring width says (Ok x) e same said is = absurd same
-too-far-on charstring width says (Err x) e same said is = subst (NotRounded charstring width) (sym same) (too-far charstring width says e said is)
+too-far-on charstring width says (Err x) e same said is =
+    subst (NotRounded charstring width) (sym same) (too-far charstring width says e said is)

@@ -37,14 +37,16 @@ unfolding nearest
 below-high bits = let low = euclid-low (bits +ℤ pos 32768) in omega (arith, ints, low)
 
 -- a step from places that were found, and none
-pub step-found : (from distance start to end way : ℤ) → start ≡ nearest from → IsHeld (nearest from) → to ≡ from +ℤ distance → IsHeld (from +ℤ distance) → end ≡ nearest to → IsHeld (nearest to) →
+pub step-found : (from distance start to end way : ℤ) → start ≡ nearest from → IsHeld (nearest from) → to ≡ from +ℤ distance →
+    IsHeld (from +ℤ distance) → end ≡ nearest to → IsHeld (nearest to) →
     way ≡ end -ℤ start → IsHeld (end -ℤ start) → (way ≡ rounded from distance) × IsStep from distance
 step-found from distance start to end way hs held_s ht held_t he held_e hw held_w =
     let at_end : nearest to ≡ nearest (from +ℤ distance) = ap nearest ht in
     let whole : end -ℤ start ≡ rounded from distance = ap (λ z. z -ℤ start) (he ∙ at_end) ∙ ap (λ z. nearest (from +ℤ distance) -ℤ z) hs in
     (hw ∙ whole, record { start = held_s; place = held_t; end = subst IsHeld at_end held_e; way = subst IsHeld whole held_w })
 
-pub no-way-held : (from distance start to end : ℤ) → start ≡ nearest from → to ≡ from +ℤ distance → end ≡ nearest to → ¬ IsHeld (end -ℤ start) → ¬ IsStep from distance
+pub no-way-held : (from distance start to end : ℤ) → start ≡ nearest from → to ≡ from +ℤ distance → end ≡ nearest to →
+    ¬ IsHeld (end -ℤ start) → ¬ IsStep from distance
 no-way-held from distance start to end hs ht he far is =
     far (subst IsHeld (sym (ap (λ z. z -ℤ start) (he ∙ ap nearest ht) ∙ ap (λ z. nearest (from +ℤ distance) -ℤ z) hs)) is.way)
 

@@ -35,7 +35,8 @@ operations-of (x ∷ xs) = ap (λ ys. operation_of x ∷ ys) (operations-of xs)
 
 all-widths : (width : Option ℤ) (xs : List Phrase) → All (λ answer. answer.width ≡ width) (map (answer_with width) xs)
 all-widths width [] = All-nil (λ answer. answer.width ≡ width)
-all-widths width (x ∷ xs) = All-cons (λ answer. answer.width ≡ width) (answer_with width x) (map (answer_with width) xs) refl (all-widths width xs)
+all-widths width (x ∷ xs) =
+    All-cons (λ answer. answer.width ≡ width) (answer_with width x) (map (answer_with width) xs) refl (all-widths width xs)
 
 -- where nothing has more operands than a stack holds, nothing is in pieces
 abbrev IsFew : Answer → Type 0
@@ -44,17 +45,20 @@ IsFew answer = length answer.operands ≤ 48
 not-in-pieces : {xs ys : List Phrase} → AreInPieces xs ys → All IsFew (map answer_of xs) → ys ≡ xs
 not-in-pieces nothing few = refl
 not-in-pieces (as_it_is x xs ys rest) few = ap (λ zs. x ∷ zs) (not-in-pieces rest (All-tail IsFew (answer_of x) (map answer_of xs) few))
-not-in-pieces (in_pieces x pieces xs ys many is rest) few = let here = All-head IsFew (answer_of x) (map answer_of xs) few in absurd (omega (arith, many, here))
+not-in-pieces (in_pieces x pieces xs ys many is rest) few =
+    let here = All-head IsFew (answer_of x) (map answer_of xs) few in absurd (omega (arith, many, here))
 
 -- what the run of a static code answers, and what the charstring's does
-answered : (charstring : Charstring) (width : Option ℤ) (code : List ℕ) (static : IsStaticOf charstring width code) (lists : Lists) (run : Run) → IsRunOf lists code run →
+answered : (charstring : Charstring) (width : Option ℤ) (code : List ℕ) (static : IsStaticOf charstring width code) (lists : Lists)
+    (run : Run) → IsRunOf lists code run →
     (run.answers ≡ map (answer_with width) static.written) × (run.end ≡ Finished [] width)
 answered charstring width code static lists run is =
     let does = static.does lists in
     let same : run ≡ does.run = sym ((means.runs lists code run).0 is) ∙ (means.runs lists code does.run).0 does.is in
     (ap (λ (r : Run). r.answers) same ∙ does.answers, ap (λ (r : Run). r.end) same ∙ does.end)
 
-varied-answered : (charstring : Charstring) (width : Option ℤ) (code : List ℕ) (static : IsStaticOf charstring width code) (answers : List Answer) (end : End) → IsRunFrom charstring answers end →
+varied-answered : (charstring : Charstring) (width : Option ℤ) (code : List ℕ) (static : IsStaticOf charstring width code)
+    (answers : List Answer) (end : End) → IsRunFrom charstring answers end →
     (answers ≡ map answer_of static.says) × (end ≡ UsedUp static.said.last)
 varied-answered charstring width code static answers end varies =
     let font = font_from charstring in
@@ -70,7 +74,8 @@ law charstring width code static answers end varies lists run is =
     let answered = answered charstring width code static lists run is in
     let whole = (varied-answered charstring width code static answers end varies).0 in
     let these : map operation answers ≡ map operation_of static.says = ap (map operation) whole ∙ operations-of static.says in
-    let parts : map operation run.answers ≡ map operation_of static.written = ap (map operation) answered.0 ∙ operations-with width static.written in (
+    let parts : map operation run.answers ≡ map operation_of static.written = ap (map operation) answered.0
+    ∙ operations-with width static.written in (
       record {
         says = static.says;
         written = static.written;
@@ -101,10 +106,12 @@ same-next : (r : Result Drawing Refusal) (f g : Drawing → Result Drawing Refus
 same-next (Ok d) f g same = same d
 same-next (Err e) f g same = refl
 
-pub drawn-with : (f : Phrase → Answer) → ((x : Phrase) → operation (f x) ≡ operation_of x) → (xs : List Phrase) (d : Drawing) → drawing_of (map f xs) d ≡ drawing (strokes_of xs) d
+pub drawn-with : (f : Phrase → Answer) → ((x : Phrase) → operation (f x) ≡ operation_of x) → (xs : List Phrase) (d : Drawing) →
+    drawing_of (map f xs) d ≡ drawing (strokes_of xs) d
 drawn-with f same [] d = refl
 drawn-with f same (x ∷ xs) d =
-    let here : strokes (f x).operator (f x).operands ≡ strokes x.operator x.operands = ap (λ (o : Operator × List ℤ). strokes o.0 o.1) (same x) in
+    let here : strokes (f x).operator (f x).operands ≡ strokes x.operator x.operands = ap (λ (o : Operator × List ℤ). strokes o.0 o.1)
+    (same x) in
     ap (λ ss. drawing ss d >>= drawing_of (map f xs)) here
     ∙ same-next (drawing (strokes x.operator x.operands) d) (drawing_of (map f xs)) (drawing (strokes_of xs)) (drawn-with f same xs)
     ∙ sym (drawing-append (strokes x.operator x.operands) (strokes_of xs) d)

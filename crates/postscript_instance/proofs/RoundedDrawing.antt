@@ -115,20 +115,27 @@ one-more [] x = refl
 one-more (y ∷ xs) x = ap (λ zs. nearest_segment y ∷ zs) (one-more xs x)
 
 near-extended : (d : Drawing) (s : Segment) (p : Point) → near (extended d s p) ≡ extended (near d) (nearest_segment s) (nearest_point p)
-near-extended d s p = ap (λ (zs : List Segment). let e : Drawing = record { place = nearest_point p; is_open = true; segments = zs } in e) (one-more d.segments s)
+near-extended d s p =
+    ap (λ (zs : List Segment). let e : Drawing = record { place = nearest_point p; is_open = true; segments = zs } in e)
+    (one-more d.segments s)
 
 near-closed : (p : Point) (is_open : Bool) (segments : List Segment) →
     let d : Drawing = record { place = p; is_open = is_open; segments = segments } in near (closed d) ≡ closed (near d)
-near-closed p true segments = ap (λ (zs : List Segment). let e : Drawing = record { place = nearest_point p; is_open = false; segments = zs } in e) (one-more segments Close)
+near-closed p true segments =
+    ap (λ (zs : List Segment). let e : Drawing = record { place = nearest_point p; is_open = false; segments = zs } in e)
+    (one-more segments Close)
 near-closed p false segments = refl
 
 near-begun : (p : Point) (is_open : Bool) (segments : List Segment) →
     let d : Drawing = record { place = p; is_open = is_open; segments = segments } in near (begun d) ≡ begun (near d)
 near-begun p true segments = refl
-near-begun p false segments = ap (λ (zs : List Segment). let e : Drawing = record { place = nearest_point p; is_open = true; segments = zs } in e) (one-more segments (MoveTo p))
+near-begun p false segments =
+    ap (λ (zs : List Segment). let e : Drawing = record { place = nearest_point p; is_open = true; segments = zs } in e)
+    (one-more segments (MoveTo p))
 
 -- a vector between the nearest whole units leads from one to the other
-lands : (from distance : ℤ) → IsHeld (nearest (from +ℤ distance)) → fit (nearest from +ℤ (nearest (from +ℤ distance) -ℤ nearest from)) ≡ Ok (nearest (from +ℤ distance))
+lands : (from distance : ℤ) → IsHeld (nearest (from +ℤ distance)) →
+    fit (nearest from +ℤ (nearest (from +ℤ distance) -ℤ nearest from)) ≡ Ok (nearest (from +ℤ distance))
 lands from distance held = ap fit (there (nearest from) (nearest (from +ℤ distance))) ∙ fit-held (nearest (from +ℤ distance)) held
   where
     there : (a b : ℤ) → a +ℤ (b -ℤ a) ≡ b
@@ -146,14 +153,16 @@ range-first p (Move v ∷ ss) are = are.0
 range-first p (Line v ∷ ss) are = are.0
 range-first p (Curve a b c ∷ ss) are = are.0
 
-drawn-move : (v : Vector) (d : Drawing) → IsInRange (led d.place v) → drawn (Move (rounded_by d.place v)) (near d) ≡ Ok (near (go (Move v) d))
+drawn-move : (v : Vector) (d : Drawing) → IsInRange (led d.place v) → drawn (Move (rounded_by d.place v))
+    (near d) ≡ Ok (near (go (Move v) d))
 drawn-move v d range =
     let p = led d.place v in
     ap (λ r. r >>= λ q. Ok (extended (closed (near d)) (MoveTo q) q)) (reached-near d.place v range)
     ∙ ap (λ (e : Drawing). Ok (extended e (MoveTo (nearest_point p)) (nearest_point p))) (sym (near-closed d.place d.is_open d.segments))
     ∙ ap Ok (sym (near-extended (closed d) (MoveTo p) p))
 
-drawn-line : (v : Vector) (d : Drawing) → IsInRange (led d.place v) → drawn (Line (rounded_by d.place v)) (near d) ≡ Ok (near (go (Line v) d))
+drawn-line : (v : Vector) (d : Drawing) → IsInRange (led d.place v) → drawn (Line (rounded_by d.place v))
+    (near d) ≡ Ok (near (go (Line v) d))
 drawn-line v d range =
     let p = led d.place v in
     ap (λ r. r >>= λ q. Ok (extended (begun (near d)) (LineTo q) q)) (reached-near d.place v range)
@@ -166,31 +175,40 @@ drawn-curve a b c d at_p at_q at_r =
     let p = led d.place a in
     let q = led p b in
     let r = led q c in
-    ap (λ z. z >>= λ x. reached x (rounded_by p b) >>= λ y. reached y (rounded_by q c) >>= λ z. Ok (extended (begun (near d)) (CurveTo x y z) z)) (reached-near d.place a at_p)
-    ∙ ap (λ z. z >>= λ y. reached y (rounded_by q c) >>= λ z. Ok (extended (begun (near d)) (CurveTo (nearest_point p) y z) z)) (reached-near p b at_q)
+    ap (λ z. z >>= λ x. reached x (rounded_by p b) >>= λ y. reached y (rounded_by q c) >>= λ z. Ok
+    (extended (begun (near d)) (CurveTo x y z) z)) (reached-near d.place a at_p)
+    ∙ ap (λ z. z >>= λ y. reached y (rounded_by q c) >>= λ z. Ok (extended (begun (near d)) (CurveTo (nearest_point p) y z) z))
+    (reached-near p b at_q)
     ∙ ap (λ z. z >>= λ z. Ok (extended (begun (near d)) (CurveTo (nearest_point p) (nearest_point q) z) z)) (reached-near q c at_r)
-    ∙ ap (λ (e : Drawing). Ok (extended e (CurveTo (nearest_point p) (nearest_point q) (nearest_point r)) (nearest_point r))) (sym (near-begun d.place d.is_open d.segments))
+    ∙ ap (λ (e : Drawing). Ok (extended e (CurveTo (nearest_point p) (nearest_point q) (nearest_point r)) (nearest_point r)))
+    (sym (near-begun d.place d.is_open d.segments))
     ∙ ap Ok (sym (near-extended (begun d) (CurveTo p q r) r))
 
-drawing-near : (ss : List Stroke) (d : Drawing) → AreInRange d.place ss → drawing (rounded_strokes d.place ss) (near d) ≡ Ok (near (all ss d))
+drawing-near : (ss : List Stroke) (d : Drawing) → AreInRange d.place ss → drawing (rounded_strokes d.place ss)
+    (near d) ≡ Ok (near (all ss d))
 drawing-near [] d range = refl
 drawing-near (Move v ∷ ss) d range =
-    ap (λ r. r >>= drawing (rounded_strokes (led d.place v) ss)) (drawn-move v d (range-first (led d.place v) ss range.1)) ∙ drawing-near ss (go (Move v) d) range.1
+    ap (λ r. r >>= drawing (rounded_strokes (led d.place v) ss)) (drawn-move v d (range-first (led d.place v) ss range.1))
+    ∙ drawing-near ss (go (Move v) d) range.1
 drawing-near (Line v ∷ ss) d range =
-    ap (λ r. r >>= drawing (rounded_strokes (led d.place v) ss)) (drawn-line v d (range-first (led d.place v) ss range.1)) ∙ drawing-near ss (go (Line v) d) range.1
+    ap (λ r. r >>= drawing (rounded_strokes (led d.place v) ss)) (drawn-line v d (range-first (led d.place v) ss range.1))
+    ∙ drawing-near ss (go (Line v) d) range.1
 drawing-near (Curve a b c ∷ ss) d range =
     let r = led (led (led d.place a) b) c in
-    ap (λ z. z >>= drawing (rounded_strokes r ss)) (drawn-curve a b c d range.1 range.2 (range-first r ss range.3)) ∙ drawing-near ss (go (Curve a b c) d) range.3
+    ap (λ z. z >>= drawing (rounded_strokes r ss)) (drawn-curve a b c d range.1 range.2 (range-first r ss range.3))
+    ∙ drawing-near ss (go (Curve a b c) d) range.3
 
 -- all that is said
-rounded-all : (p : Point) (xs ys : List Phrase) → IsInRange p → AreRounded p xs ys → (strokes_of ys ≡ rounded_strokes p (strokes_of xs)) × AreInRange p (strokes_of xs)
+rounded-all : (p : Point) (xs ys : List Phrase) → IsInRange p → AreRounded p xs ys →
+    (strokes_of ys ≡ rounded_strokes p (strokes_of xs)) × AreInRange p (strokes_of xs)
 rounded-all p [] [] here are = (refl, here)
 rounded-all p [] (y ∷ ys) here are = absurd are
 rounded-all p (x ∷ xs) [] here are = absurd are
 rounded-all p (x ∷ xs) (y ∷ ys) here are =
     let old = strokes x.operator x.operands in
     let rest = rounded-all (behind p old) xs ys (range-behind p old are.0.in_range) are.1 in (
-      ap (λ ss. ss ++ strokes_of ys) are.0.drawn ∙ ap (λ ss. rounded_strokes p old ++ ss) rest.0 ∙ sym (strokes-append p old (strokes_of xs)),
+      ap (λ ss. ss ++ strokes_of ys) are.0.drawn ∙ ap (λ ss. rounded_strokes p old ++ ss) rest.0
+          ∙ sym (strokes-append p old (strokes_of xs)),
       range-append p old (strokes_of xs) are.0.in_range rest.1,
     )
 
@@ -198,14 +216,16 @@ near-blank : near blank ≡ blank
 near-blank = ap (λ z. let e : Drawing = record { place = point z z; is_open = false; segments = [] } in e) at-origin
 
 -- what the run of a code in whole units answers, and what the charstring's does
-answered : (charstring : Charstring) (width : Option ℤ) (code : List ℕ) (is : IsRoundedOf charstring width code) (lists : Lists) (run : Run) → IsRunOf lists code run →
+answered : (charstring : Charstring) (width : Option ℤ) (code : List ℕ) (is : IsRoundedOf charstring width code) (lists : Lists)
+    (run : Run) → IsRunOf lists code run →
     (run.answers ≡ map (answer_with width) is.written) × (run.end ≡ Finished [] width)
 answered charstring width code is lists run runs_so =
     let does = is.does lists in
     let same : run ≡ does.run = sym ((means.runs lists code run).0 runs_so) ∙ (means.runs lists code does.run).0 does.is in
     (ap (λ (r : Run). r.answers) same ∙ does.answers, ap (λ (r : Run). r.end) same ∙ does.end)
 
-varied-answered : (charstring : Charstring) (width : Option ℤ) (code : List ℕ) (is : IsRoundedOf charstring width code) (answers : List Answer) (end : End) → IsRunFrom charstring answers end →
+varied-answered : (charstring : Charstring) (width : Option ℤ) (code : List ℕ) (is : IsRoundedOf charstring width code)
+    (answers : List Answer) (end : End) → IsRunFrom charstring answers end →
     (answers ≡ map answer_of is.says) × (end ≡ UsedUp is.said.last)
 varied-answered charstring width code is answers end varies =
     let font = font_from charstring in
@@ -222,18 +242,22 @@ outlines charstring width code is answers end varies segments draws lists run ru
     let whole = varied-answered charstring width code is answers end varies in
     let ss = strokes_of is.says in
     let exact : drawing ss blank >>= finished runs.UsedUp ≡ Ok segments =
-    ap (λ r. r >>= finished runs.UsedUp) (sym (drawn-with answer_of (λ x. refl) is.says blank) ∙ ap (λ (xs : List Answer). drawing_of xs blank) (sym whole.0))
+    ap (λ r. r >>= finished runs.UsedUp)
+    (sym (drawn-with answer_of (λ x. refl) is.says blank) ∙ ap (λ (xs : List Answer). drawing_of xs blank) (sym whole.0))
     ∙ ap (λ (e : End). drawing_of answers blank >>= finished (end_of e)) (sym whole.1) ∙ draws in
     let there = first-ok (drawing ss blank) (finished runs.UsedUp) segments exact in
     let last = drawing-is ss blank there.0 there.1 in
-    let told : (closed (all ss blank)).segments ≡ segments = ap (λ (d : Drawing). (closed d).segments) (sym last) ∙ ok-same (closed there.0).segments segments there.2 in
+    let told : (closed (all ss blank)).segments ≡ segments = ap (λ (d : Drawing). (closed d).segments) (sym last)
+    ∙ ok-same (closed there.0).segments segments there.2 in
     let rounded = rounded-all origin is.says is.near origin-in-range is.rounded in
     let drawn : drawing_of run.answers blank ≡ Ok (near (all ss blank)) =
     ap (λ (xs : List Answer). drawing_of xs blank) written.0 ∙ drawn-with (answer_with width) (λ x. refl) is.written blank
-    ∙ ap (λ zs. drawing zs blank) (same-strokes is.in_pieces ∙ rounded.0) ∙ ap (drawing (rounded_strokes origin ss)) (sym near-blank) ∙ drawing-near ss blank rounded.1 in
+    ∙ ap (λ zs. drawing zs blank) (same-strokes is.in_pieces ∙ rounded.0) ∙ ap (drawing (rounded_strokes origin ss)) (sym near-blank)
+    ∙ drawing-near ss blank rounded.1 in
     let end_d = all ss blank in
     record {
       segments = ap (λ e. drawing_of run.answers blank >>= finished e) written.1 ∙ ap (λ r. r >>= finished (Finished [] width)) drawn
-          ∙ ap (λ (d : Drawing). Ok d.segments) (sym (near-closed end_d.place end_d.is_open end_d.segments)) ∙ ap (λ xs. Ok (map nearest_segment xs)) told;
+          ∙ ap (λ (d : Drawing). Ok d.segments) (sym (near-closed end_d.place end_d.is_open end_d.segments))
+          ∙ ap (λ xs. Ok (map nearest_segment xs)) told;
       end = written.1;
     }

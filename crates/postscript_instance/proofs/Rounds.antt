@@ -18,7 +18,8 @@ pub record SoFar (says rest done : List Phrase) (p : Point) : Type 0 where
 pub begin : (says : List Phrase) → SoFar says says [] origin
 begin says = record { text = refl; near = λ h. h; far = λ h. h }
 
-pub one-more : (says rest rest' done done' : List Phrase) (p q : Point) (x y : Phrase) → rest ≡ x ∷ rest' → y ≡ in_units p x → q ≡ behind_steps p (steps_of x.operator x.operands) → IsNear p x →
+pub one-more : (says rest rest' done done' : List Phrase) (p q : Point) (x y : Phrase) → rest ≡ x ∷ rest' → y ≡ in_units p x →
+    q ≡ behind_steps p (steps_of x.operator x.operands) → IsNear p x →
     done' ≡ done ++ y ∷ [] → SoFar says rest done p → SoFar says rest' done' q
 one-more says rest rest' done done' p q x y hr hy hq is hd so =
     let r = behind_steps p (steps_of x.operator x.operands) in record {
@@ -29,11 +30,13 @@ one-more says rest rest' done done' p q x y hr hy hq is hd so =
       far = λ h. so.far (subst (LeadsTooFar p) (sym hr) (later p x rest' (subst (λ z. LeadsTooFar z rest') hq h)));
     }
 
-pub ends : (says rest done : List Phrase) (p : Point) → rest ≡ [] → SoFar says rest done p → (done ≡ all_in_units origin says) × AreNear origin says
+pub ends : (says rest done : List Phrase) (p : Point) → rest ≡ [] → SoFar says rest done p →
+    (done ≡ all_in_units origin says) × AreNear origin says
 ends says rest done p hr so =
     (sym (append-nil done) ∙ ap (λ zs. done ++ all_in_units p zs) (sym hr) ∙ so.text, so.near (subst (AreNear p) (sym hr) tt))
 
-pub far-here : (says rest rest' done : List Phrase) (p : Point) (x : Phrase) (e : Error) → rest ≡ x ∷ rest' → SoFar says rest done p → IsFar (¬ IsNear p x) e → IsFar (LeadsTooFar origin says) e
+pub far-here : (says rest rest' done : List Phrase) (p : Point) (x : Phrase) (e : Error) → rest ≡ x ∷ rest' → SoFar says rest done p →
+    IsFar (¬ IsNear p x) e → IsFar (LeadsTooFar origin says) e
 far-here says rest rest' done p x (errors.Font e) hr so far = far
 far-here says rest rest' done p x errors.TooFar hr so far = so.far (subst (LeadsTooFar p) (sym hr) (here p x rest' far))
 far-here says rest rest' done p x e hr so far = absurd far

@@ -46,7 +46,8 @@ answered-kind : (k : Kind) (stems after : ℕ) (x : Phrase) → SayableAs k stem
 answered-kind k stems after x h = grind arith
 
 -- no more than its operands is taken of a stack with the width beneath them
-one-more-fails : (op : Operator) (takes : ℕ → Bool) (n : ℕ) → bears_width op ≡ true → kind op ≡ Draws takes → IsTrue (takes n) → ¬ IsTrue (takes (suc n))
+one-more-fails : (op : Operator) (takes : ℕ → Bool) (n : ℕ) → bears_width op ≡ true → kind op ≡ Draws takes → IsTrue (takes n) →
+    ¬ IsTrue (takes (suc n))
 one-more-fails op takes n bears k is = by (exact op takes bears k)
   where
     exact : (op : Operator) (takes : ℕ → Bool) → bears_width op ≡ true → kind op ≡ Draws takes → (takes ≡ exactly 1) ⊎ (takes ≡ exactly 2)
@@ -67,11 +68,19 @@ two-more-fails op takes n k is =
     fails : (n : ℕ) → IsTrue (groups 2 n) → ¬ IsTrue (groups 2 (suc n))
     fails n is = grind (arith, nat_tests)
 
-takes-most : (takes : ℕ → Bool) (width : Option ℤ) (operands : List ℤ) → IsTrue (takes (length operands)) → ((w : ℤ) → width ≡ Some w → ¬ IsTrue (takes (suc (length operands)))) →
+takes-most : (takes : ℕ → Bool) (width : Option ℤ) (operands : List ℤ) → IsTrue (takes (length operands)) →
+    ((w : ℤ) → width ≡ Some w → ¬ IsTrue (takes (suc (length operands)))) →
     TakesMost takes (width_numbers width ++ operands) (width_numbers width) operands
-takes-most takes None operands is never = record { parts = refl; allowed = is; longest = λ n above below. absurd (omega (arith, above, below)) }
+takes-most takes None operands is never =
+    record { parts = refl; allowed = is; longest = λ n above below. absurd (omega (arith, above, below)) }
 takes-most takes (Some w) operands is never =
-    record { parts = refl; allowed = is; longest = λ n above below. let same : n ≡ suc (length operands) = omega (arith, above, below) in subst (λ m. ¬ IsTrue (takes m)) (sym same) (never w refl) }
+    record {
+      parts =
+          refl;
+      allowed = is;
+      longest = λ n above below. let same : n ≡ suc (length operands) = omega (arith, above, below) in
+          subst (λ m. ¬ IsTrue (takes m)) (sym same) (never w refl);
+    }
 
 width-few : (width : Option ℤ) → length (width_numbers width) < 2
 width-few None = omega arith
@@ -82,7 +91,8 @@ bears-width (Some v) op w bears is = bears
 bears-width None op w bears is = absurd (cc)
 
 -- the stems of pairs above a width
-stems-counted : (stems : ℕ) (before : Option (Option ℤ)) (write : Option ℤ) (pairs : List ℤ) (n after : ℕ) → length pairs ≡ n * 2 → after ≡ stems + n →
+stems-counted : (stems : ℕ) (before : Option (Option ℤ)) (write : Option ℤ) (pairs : List ℤ) (n after : ℕ) → length pairs ≡ n * 2 →
+    after ≡ stems + n →
     StemsAfter (pushed (width_numbers write ++ pairs) (at_stems stems before)) after
 stems-counted stems before write pairs n after twice is =
     let few = width-few write in
@@ -90,12 +100,15 @@ stems-counted stems before write pairs n after twice is =
     rw is (in_pairs n (length (width_numbers write)) few (omega (arith, all, twice)))
 
 -- an operator over what is written before it
-step-as : (k : Kind) (lists : Lists) (x : Phrase) (behind : List ℕ) (stems after : ℕ) (before : Option (Option ℤ)) (write width : Option ℤ) → kind x.operator ≡ k → SayableAs k stems x after →
+step-as : (k : Kind) (lists : Lists) (x : Phrase) (behind : List ℕ) (stems after : ℕ) (before : Option (Option ℤ))
+    (write width : Option ℤ) → kind x.operator ≡ k → SayableAs k stems x after →
     IsSettled before (width_numbers write) width → Bears write x.operator →
-    Does lists x.operator (x.mask ++ behind) (pushed (numbers_of write x) (at_stems stems before)) (Clears x.operands x.stems after width (length x.mask))
+    Does lists x.operator (x.mask ++ behind) (pushed (numbers_of write x) (at_stems stems before))
+    (Clears x.operands x.stems after width (length x.mask))
 step-as (Draws takes) lists x behind stems after before write width k h settled bears =
     rw (h.0, h.1, h.3) (does.draws takes (width_numbers write) x.operands width k
-    (takes-most takes write x.operands h.2 (λ w is. one-more-fails x.operator takes (length x.operands) (bears-width write x.operator w bears is) k h.2)) settled)
+    (takes-most takes write x.operands h.2
+    (λ w is. one-more-fails x.operator takes (length x.operands) (bears-width write x.operator w bears is) k h.2)) settled)
 step-as (DeclaresStems takes) lists x behind stems after before write width k h settled bears =
     let most = takes-most takes write x.operands h.2 (λ w is. two-more-fails x.operator takes (length x.operands) k h.2) in
     let counts = stems-counted stems before write x.operands h.4.0 after h.4.1 h.4.2 in
@@ -107,8 +120,10 @@ step-as (Masks takes) lists x behind stems after before write width k h settled 
     let whole : (n : ℕ) → length x.stems ≡ n * 2 → length x.stems % 2 ≡ 0 = λ n twice. omega (arith, twice) in
     let long : length (x.mask ++ behind) ≡ length x.mask + length behind = length-append x.mask behind in
     let room : mask_len after ≤ length (x.mask ++ behind) = omega (arith, long, h.1) in
-    let does : Does lists x.operator (x.mask ++ behind) (pushed (width_numbers write ++ x.stems) (at_stems stems before)) (Clears [] x.stems after width (mask_len after)) =
-    does.masks (width_numbers write) x.stems width after (mask-kind x.operator takes k) counts h.2 room refl few (whole h.3.0 pairs) settled in
+    let does : Does lists x.operator (x.mask ++ behind) (pushed (width_numbers write ++ x.stems) (at_stems stems before))
+    (Clears [] x.stems after width (mask_len after)) =
+    does.masks (width_numbers write) x.stems width after (mask-kind x.operator takes k) counts h.2 room refl few
+    (whole h.3.0 pairs) settled in
     let all : x.stems ++ [] ≡ x.stems = append-nil x.stems in
     rw (h.0, h.1, all) does
 step-as (Works work) lists x behind stems after before write width k h settled bears = absurd h
@@ -118,12 +133,16 @@ step-as GoesBack lists x behind stems after before write width k h settled bears
 step-as EndsGlyph lists x behind stems after before write width k h settled bears = absurd h
 step-as (IsRefused part) lists x behind stems after before write width k h settled bears = absurd h
 
-moves : (lists : Lists) (x : Phrase) (behind : List ℕ) (stems after : ℕ) (before : Option (Option ℤ)) (write width : Option ℤ) → IsSayable stems x after → AreHeld (numbers_of write x) →
+moves : (lists : Lists) (x : Phrase) (behind : List ℕ) (stems after : ℕ) (before : Option (Option ℤ)) (write width : Option ℤ) →
+    IsSayable stems x after → AreHeld (numbers_of write x) →
     IsSettled before (width_numbers write) width → Bears write x.operator →
-    Moves lists (at_stems stems before) (phrase_text write x) (numbers_of write x) x.operator (x.mask ++ behind) (Clears x.operands x.stems after width (length x.mask))
+    Moves lists (at_stems stems before) (phrase_text write x) (numbers_of write x) x.operator (x.mask ++ behind)
+    (Clears x.operands x.stems after width (length x.mask))
 moves lists x behind stems after before write width is held settled bears = record {
   spelled = said-spelled (numbers_of write x) x.operator held (answered-kind (kind x.operator) stems after x is);
-  does = (operators.law lists x.operator (x.mask ++ behind) (pushed (numbers_of write x) (at_stems stems before)) (Clears x.operands x.stems after width (length x.mask))).0
+  does =
+      (operators.law lists x.operator (x.mask ++ behind) (pushed (numbers_of write x) (at_stems stems before))
+      (Clears x.operands x.stems after width (length x.mask))).0
       (step-as (kind x.operator) lists x behind stems after before write width refl is settled bears);
 }
 
@@ -137,24 +156,34 @@ first-bears : (write : Option ℤ) (x : Phrase) (xs : List Phrase) → BearsWidt
 first-bears None x xs h = tt
 first-bears (Some w) x xs h = h
 
-means-so : (lists : Lists) (xs : List Phrase) (stems after : ℕ) (before : Option (Option ℤ)) (write width : Option ℤ) → AreSayable stems xs after → AreHeldIn write xs →
-    IsSettled before (width_numbers write) width → BearsWidth write xs → MeansSo lists (code_text write xs) (at_stems stems before) write width xs
+means-so : (lists : Lists) (xs : List Phrase) (stems after : ℕ) (before : Option (Option ℤ)) (write width : Option ℤ) →
+    AreSayable stems xs after → AreHeldIn write xs →
+    IsSettled before (width_numbers write) width → BearsWidth write xs → MeansSo lists (code_text write xs)
+    (at_stems stems before) write width xs
 means-so lists [] stems after before write width sayable held settled bears =
     let nums = width_numbers write in
     let phrase = numbers_text nums ++ 0x0e ∷ [] in
     let few = width-few write in
     let spelled : IsPhrase phrase nums EndChar = phrase-spelled nums (0x0e ∷ []) EndChar held endchar-spelled in
-    let ends : Does lists EndChar [] (pushed nums (at_stems stems before)) (Ends [] width) = does.ends nums [] width refl (does.fewer nums (omega (arith, few))) settled in
-    let moves : Moves lists (at_stems stems before) phrase nums EndChar [] (Ends [] width) = record { spelled = spelled; does = (operators.law lists EndChar [] (pushed nums (at_stems stems before)) (Ends [] width)).0 ends } in record {
+    let ends : Does lists EndChar [] (pushed nums (at_stems stems before)) (Ends [] width) = does.ends nums [] width refl
+    (does.fewer nums (omega (arith, few))) settled in
+    let moves : Moves lists (at_stems stems before) phrase nums EndChar []
+    (Ends [] width) = record {
+      spelled = spelled;
+      does = (operators.law lists EndChar [] (pushed nums (at_stems stems before)) (Ends [] width)).0 ends;
+    } in record {
       trace = by EndChar phrase ∷ [];
-      means = subst (λ bytes. Means lists 0 bytes (at_stems stems before) [] (by EndChar phrase ∷ []) (Finished [] width)) (append-nil phrase)
+      means =
+          subst (λ bytes. Means lists 0 bytes (at_stems stems before) [] (by EndChar phrase ∷ []) (Finished [] width)) (append-nil phrase)
           (rules.finishes 0 phrase [] nums EndChar (at_stems stems before) [] width (Finished [] width) moves (rules.in_outermost []));
       spelled = finish write phrase spelled;
     }
 means-so lists (x ∷ xs) stems after before write width (more _ next _ _ _ is later) held settled bears =
     let rest = means-so lists xs next after (Some width) None width later held.1 (does.settled_before width []) tt in record {
       trace = by x.operator (phrase_text write x ++ x.mask) ∷ rest.trace;
-      means = rules.clears 0 (phrase_text write x) x.mask (code_text None xs) (numbers_of write x) x.operator (at_stems stems before) x.operands x.stems next width _ _ _
+      means =
+          rules.clears 0 (phrase_text write x) x.mask (code_text None xs) (numbers_of write x) x.operator
+          (at_stems stems before) x.operands x.stems next width _ _ _
           (moves lists x (code_text None xs) stems next before write width is held.0 settled (first-bears write x xs bears)) rest.means;
       spelled = one_more write x xs (phrase_text write x) rest.trace
           (said-spelled (numbers_of write x) x.operator held.0 (answered-kind (kind x.operator) stems next x is)) rest.spelled;
@@ -165,7 +194,8 @@ settles None = does.nothing_beneath
 settles (Some w) = does.operand_beneath [] w
 
 -- the run of what is written, over any subroutines
-pub says-so : (lists : Lists) (xs : List Phrase) (after : ℕ) (width : Option ℤ) (code : List ℕ) → code ≡ code_text width xs → AreSayable 0 xs after → AreHeldIn width xs → BearsWidth width xs →
+pub says-so : (lists : Lists) (xs : List Phrase) (after : ℕ) (width : Option ℤ) (code : List ℕ) → code ≡ code_text width xs →
+    AreSayable 0 xs after → AreHeldIn width xs → BearsWidth width xs →
     SaysSo lists code width xs
 says-so lists xs after width code is sayable held bears =
     let h = means-so lists xs 0 after None width width sayable held (settles width) bears in record {
@@ -177,7 +207,8 @@ says-so lists xs after width code is sayable held bears =
     }
 
 -- and so what is written does what the charstring does
-pub static-of : (charstring : Charstring) (width : Option ℤ) (code : List ℕ) (says : List Phrase) → Says charstring says → IsWritten width says [] code → AreHeldOrCut width says →
+pub static-of : (charstring : Charstring) (width : Option ℤ) (code : List ℕ) (says : List Phrase) → Says charstring says →
+    IsWritten width says [] code → AreHeldOrCut width says →
     BearsWidth width says → IsStaticOf charstring width code
 static-of charstring width code says said is held bears =
     let after = said.last.stems in
@@ -194,18 +225,22 @@ static-of charstring width code says said is held bears =
     }
 
 -- what is not written for its numbers has hints with too many
-too-many : (charstring : Charstring) (width : Option ℤ) (says : List Phrase) → Says charstring says → HasMoreUncut width says → HasMore width says
+too-many : (charstring : Charstring) (width : Option ℤ) (says : List Phrase) → Says charstring says → HasMoreUncut width says →
+    HasMore width says
 too-many charstring width says said many =
     let after = said.last.stems in
     hints-more many 0 after (subst (λ ys. AreSayable 0 ys after) (sym said.all) (sayable said.run))
 
-unwritten : (charstring : Charstring) (width : Option ℤ) (says : List Phrase) (e : Error) → Says charstring says → IsUnwritten width says e → NotWritten charstring width e
+unwritten : (charstring : Charstring) (width : Option ℤ) (says : List Phrase) (e : Error) → Says charstring says →
+    IsUnwritten width says e → NotWritten charstring width e
 unwritten charstring width says (errors.Font e) said is = subst (λ cause. NotWritten charstring width (errors.Font cause)) (sym is) tt
 unwritten charstring width says errors.TooManyOperands said is = (says, said, too-many charstring width says said is)
 unwritten charstring width says errors.NoMove said is = (says, said, is)
 unwritten charstring width says e said is = absurd is
 
-pub refused-on : {A : Type 0} (charstring : Charstring) (width : Option ℤ) (says : List Phrase) (r : Result A Error) (e : Error) → IsErrAnd r (λ x. x ≡ e) → Says charstring says →
+pub refused-on : {A : Type 0} (charstring : Charstring) (width : Option ℤ) (says : List Phrase) (r : Result A Error) (e : Error) →
+    IsErrAnd r (λ x. x ≡ e) → Says charstring says →
     IsUnwritten width says e → IfErr r (λ x. NotWritten charstring width x)
 refused-on charstring width says (Ok x) e same said is = absurd same
-refused-on charstring width says (Err x) e same said is = subst (NotWritten charstring width) (sym same) (unwritten charstring width says e said is)
+refused-on charstring width says (Err x) e same said is =
+    subst (NotWritten charstring width) (sym same) (unwritten charstring width says e said is)

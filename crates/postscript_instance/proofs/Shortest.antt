@@ -57,19 +57,26 @@ above-spells : (n : ℕ) → n < 32768 → IsNumber (whole_above n) (whole (pos 
 above-spells n fits = by (cases_lt n 108) (cases_lt n 1132)
   where
     by : (n < 108) ⊎ (108 ≤ n) → (n < 1132) ⊎ (1132 ≤ n) → IsNumber (whole_above n) (whole (pos n))
-    by (inl few) many = subst (λ bytes. IsNumber bytes (whole (pos n))) (sym (above-small n few)) (small-is (139 + n) (pos n) (omega arith) (omega arith) (omega (arith, ints)))
+    by (inl few) many =
+        subst (λ bytes. IsNumber bytes (whole (pos n))) (sym (above-small n few))
+        (small-is (139 + n) (pos n) (omega arith) (omega arith) (omega (arith, ints)))
     by (inr low) (inl high) = subst (λ bytes. IsNumber bytes (whole (pos n))) (sym (above-pair n low high))
         (positive-is (247 + (n - 108) / 256) ((n - 108) % 256) (pos n) (omega arith) (omega arith) (omega (arith, ints)))
-    by (inr low) (inr many) = subst (λ bytes. IsNumber bytes (whole (pos n))) (sym (above-word n many)) (word-is n (pos n) (word-low n fits))
+    by (inr low) (inr many) =
+        subst (λ bytes. IsNumber bytes (whole (pos n))) (sym (above-word n many)) (word-is n (pos n) (word-low n fits))
 
 below-spells : (n : ℕ) → 0 < n → n ≤ 32768 → IsNumber (whole_below n) (whole (pos 0 -ℤ pos n))
 below-spells n some fits = by (cases_lt n 108) (cases_lt n 1132)
   where
     by : (n < 108) ⊎ (108 ≤ n) → (n < 1132) ⊎ (1132 ≤ n) → IsNumber (whole_below n) (whole (pos 0 -ℤ pos n))
-    by (inl few) many = subst (λ bytes. IsNumber bytes (whole (pos 0 -ℤ pos n))) (sym (below-small n few)) (small-is (139 - n) (pos 0 -ℤ pos n) (omega arith) (omega arith) (omega (arith, ints)))
+    by (inl few) many =
+        subst (λ bytes. IsNumber bytes (whole (pos 0 -ℤ pos n))) (sym (below-small n few))
+        (small-is (139 - n) (pos 0 -ℤ pos n) (omega arith) (omega arith) (omega (arith, ints)))
     by (inr low) (inl high) = subst (λ bytes. IsNumber bytes (whole (pos 0 -ℤ pos n))) (sym (below-pair n low high))
         (negative-is (251 + (n - 108) / 256) ((n - 108) % 256) (pos 0 -ℤ pos n) (omega arith) (omega arith) (omega (arith, ints)))
-    by (inr low) (inr many) = subst (λ bytes. IsNumber bytes (whole (pos 0 -ℤ pos n))) (sym (below-word n many)) (word-is (65536 - n) (pos 0 -ℤ pos n) (word-high n some fits))
+    by (inr low) (inr many) =
+        subst (λ bytes. IsNumber bytes (whole (pos 0 -ℤ pos n))) (sym (below-word n many))
+        (word-is (65536 - n) (pos 0 -ℤ pos n) (word-high n some fits))
 
 whole-spells : (n : ℤ) → neg_ℤ (pos 32768) ≤ℤ n → n <ℤ pos 32768 → IsNumber (whole_text n) (whole n)
 whole-spells (pos n) low high = subst (λ bytes. IsNumber bytes (whole (pos n))) (is n) (above-spells n (omega (arith, ints, high)))
@@ -77,7 +84,8 @@ whole-spells (pos n) low high = subst (λ bytes. IsNumber bytes (whole (pos n)))
     is : (n : ℕ) → whole_above n ≡ whole_text (pos n)
     is n = grind (arith, ints)
 whole-spells (negsuc n) low high =
-    subst (λ bytes. IsNumber bytes (whole (negsuc n))) (is n) (subst (λ m. IsNumber (whole_below (suc n)) (whole m)) (value n) (below-spells (suc n) (omega arith) (omega (arith, ints, low))))
+    subst (λ bytes. IsNumber bytes (whole (negsuc n))) (is n)
+    (subst (λ m. IsNumber (whole_below (suc n)) (whole m)) (value n) (below-spells (suc n) (omega arith) (omega (arith, ints, low))))
   where
     is : (n : ℕ) → whole_below (suc n) ≡ whole_text (negsuc n)
     is n = grind (arith, ints)
@@ -102,7 +110,8 @@ bits-spells (pos n) held = subst (λ bytes. IsNumber bytes (pos n)) (is n) (long
 
     value : (n : ℕ) → n < 2147483648 → two_sided 2147483648 n ≡ pos n
     value n h = grind (arith, nat_tests)
-bits-spells (negsuc n) held = subst (λ bytes. IsNumber bytes (negsuc n)) (is n) (long-is (4294967295 - n) (negsuc n) (value n (omega (arith, ints, held.low))))
+bits-spells (negsuc n) held =
+    subst (λ bytes. IsNumber bytes (negsuc n)) (is n) (long-is (4294967295 - n) (negsuc n) (value n (omega (arith, ints, held.low))))
   where
     is : (n : ℕ) → 0xff ∷ four_bytes (4294967295 - n) ≡ bits_text (negsuc n)
     is n = grind (arith, ints)
@@ -121,12 +130,14 @@ whole-of bits h =
     zero x h = grind (arith, Decides-int_eq)
 
 in-range : (bits n : ℤ) → IsHeld bits → whole n ≡ bits → (neg_ℤ (pos 32768) ≤ℤ n) × (n <ℤ pos 32768)
-in-range bits n held is = let low = held.low in let high = held.high in (omega (arith, ints, is, low, high), omega (arith, ints, is, low, high))
+in-range bits n held is =
+    let low = held.low in let high = held.high in (omega (arith, ints, is, low, high), omega (arith, ints, is, low, high))
 
 pub spells : (bits : ℤ) → IsHeld bits → IsNumber (number_text bits) bits
 spells bits held = by (int_eq (int_rem bits (pos 65536)) (pos 0)) refl
   where
-    by : (b : Bool) → int_eq (int_rem bits (pos 65536)) (pos 0) ≡ b → IsNumber (text_by bits (cond b (Some (int_div bits (pos 65536))) None)) bits
+    by : (b : Bool) → int_eq (int_rem bits (pos 65536)) (pos 0) ≡ b →
+        IsNumber (text_by bits (cond b (Some (int_div bits (pos 65536))) None)) bits
     by true is =
         let n = int_div bits (pos 65536) in
         let same = whole-of bits is in
@@ -186,7 +197,8 @@ divided bits n is other =
 least : (bits : ℤ) (other : List ℕ) → All (λ byte. byte < 256) other → IsNumber other bits → length (number_text bits) ≤ length other
 least bits other bytes spelled = by (int_eq (int_rem bits (pos 65536)) (pos 0)) refl (class spelled bytes)
   where
-    by : (b : Bool) → int_eq (int_rem bits (pos 65536)) (pos 0) ≡ b → Class other bits → length (text_by bits (cond b (Some (int_div bits (pos 65536))) None)) ≤ length other
+    by : (b : Bool) → int_eq (int_rem bits (pos 65536)) (pos 0) ≡ b → Class other bits →
+        length (text_by bits (cond b (Some (int_div bits (pos 65536))) None)) ≤ length other
     by true is (one n e long low high) =
         let same : int_div bits (pos 65536) ≡ n = whole-same _ n (whole-of bits is ∙ e) in
         let short = short-one n low high in

@@ -46,11 +46,13 @@ pub endchar-spelled : IsPhrase (0x0e ∷ []) [] EndChar
 endchar-spelled = operator 0x0e EndChar (omega arith) refl
 
 -- numbers before an operator
-pub phrase-spelled : (nums : List ℤ) (code : List ℕ) (op : Operator) → AreHeld nums → IsPhrase code [] op → IsPhrase (numbers_text nums ++ code) nums op
+pub phrase-spelled : (nums : List ℤ) (code : List ℕ) (op : Operator) → AreHeld nums → IsPhrase code [] op →
+    IsPhrase (numbers_text nums ++ code) nums op
 phrase-spelled [] code op held is = is
 phrase-spelled (num ∷ nums) code op held is =
     subst (λ bytes. IsPhrase bytes (num ∷ nums) op) (sym (append_assoc (number_text num) (numbers_text nums) code))
     (after_number (number_text num) (numbers_text nums ++ code) num nums op (spells num held.0) (phrase-spelled nums code op held.1 is))
 
-pub said-spelled : (nums : List ℤ) (op : Operator) → AreHeld nums → IsAnswered (kind op) → IsPhrase (numbers_text nums ++ operator_text op) nums op
+pub said-spelled : (nums : List ℤ) (op : Operator) → AreHeld nums → IsAnswered (kind op) →
+    IsPhrase (numbers_text nums ++ operator_text op) nums op
 said-spelled nums op held is = phrase-spelled nums (operator_text op) op held (operator-spelled op is)

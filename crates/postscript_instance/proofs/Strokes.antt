@@ -23,19 +23,24 @@ curves-behind (a ∷ b ∷ c ∷ d ∷ e ∷ []) ys h = absurd (omega (arith, h)
 curves-behind (a ∷ b ∷ c ∷ d ∷ e ∷ f ∷ xs) ys h = ap (λ ss. Curve (by a b) (by c d) (by e f) ∷ ss) (curves-behind xs ys (omega (arith, h)))
 
 -- two lines in turn, and the axis is the first again
-pub turned-behind : (axis : Axis) (xs ys : List ℤ) → length xs % 2 ≡ 0 → lines_in_turn axis (xs ++ ys) ≡ lines_in_turn axis xs ++ lines_in_turn axis ys
+pub turned-behind : (axis : Axis) (xs ys : List ℤ) → length xs % 2 ≡ 0 →
+    lines_in_turn axis (xs ++ ys) ≡ lines_in_turn axis xs ++ lines_in_turn axis ys
 turned-behind axis [] ys h = refl
 turned-behind axis (a ∷ []) ys h = absurd (omega (arith, h))
-turned-behind Horizontal (a ∷ b ∷ xs) ys h = ap (λ ss. Line (along Horizontal a) ∷ Line (along Vertical b) ∷ ss) (turned-behind Horizontal xs ys (omega (arith, h)))
-turned-behind Vertical (a ∷ b ∷ xs) ys h = ap (λ ss. Line (along Vertical a) ∷ Line (along Horizontal b) ∷ ss) (turned-behind Vertical xs ys (omega (arith, h)))
+turned-behind Horizontal (a ∷ b ∷ xs) ys h =
+    ap (λ ss. Line (along Horizontal a) ∷ Line (along Vertical b) ∷ ss) (turned-behind Horizontal xs ys (omega (arith, h)))
+turned-behind Vertical (a ∷ b ∷ xs) ys h =
+    ap (λ ss. Line (along Vertical a) ∷ Line (along Horizontal b) ∷ ss) (turned-behind Vertical xs ys (omega (arith, h)))
 
 -- level curves: only the first may begin aside
-along-behind : (axis : Axis) (xs ys : List ℤ) → length xs % 4 ≡ 0 → curves_along axis (pos 0) (xs ++ ys) ≡ curves_along axis (pos 0) xs ++ curves_along axis (pos 0) ys
+along-behind : (axis : Axis) (xs ys : List ℤ) → length xs % 4 ≡ 0 → curves_along axis (pos 0)
+    (xs ++ ys) ≡ curves_along axis (pos 0) xs ++ curves_along axis (pos 0) ys
 along-behind axis [] ys h = refl
 along-behind axis (a ∷ []) ys h = absurd (omega (arith, h))
 along-behind axis (a ∷ b ∷ []) ys h = absurd (omega (arith, h))
 along-behind axis (a ∷ b ∷ c ∷ []) ys h = absurd (omega (arith, h))
-along-behind axis (a ∷ b ∷ c ∷ d ∷ xs) ys h = ap (λ ss. Curve (aside axis a (pos 0)) (by b c) (along axis d) ∷ ss) (along-behind axis xs ys (omega (arith, h)))
+along-behind axis (a ∷ b ∷ c ∷ d ∷ xs) ys h =
+    ap (λ ss. Curve (aside axis a (pos 0)) (by b c) (along axis d) ∷ ss) (along-behind axis xs ys (omega (arith, h)))
 
 aside-behind : (axis : Axis) (first : ℤ) (xs ys : List ℤ) → length xs % 4 ≡ 0 → 0 < length xs →
     curves_along axis first (xs ++ ys) ≡ curves_along axis first xs ++ curves_along axis (pos 0) ys
@@ -43,7 +48,8 @@ aside-behind axis first [] ys h some = absurd (omega (arith, some))
 aside-behind axis first (a ∷ []) ys h some = absurd (omega (arith, h))
 aside-behind axis first (a ∷ b ∷ []) ys h some = absurd (omega (arith, h))
 aside-behind axis first (a ∷ b ∷ c ∷ []) ys h some = absurd (omega (arith, h))
-aside-behind axis first (a ∷ b ∷ c ∷ d ∷ xs) ys h some = ap (λ ss. Curve (aside axis a first) (by b c) (along axis d) ∷ ss) (along-behind axis xs ys (omega (arith, h)))
+aside-behind axis first (a ∷ b ∷ c ∷ d ∷ xs) ys h some =
+    ap (λ ss. Curve (aside axis a first) (by b c) (along axis d) ∷ ss) (along-behind axis xs ys (omega (arith, h)))
 
 level-odd : (axis : Axis) (d : ℤ) (xs : List ℤ) → length xs % 2 ≡ 0 → curves_level axis (d ∷ xs) ≡ curves_along axis d xs
 level-odd axis d xs h = grind (arith, nat_tests)
@@ -52,7 +58,8 @@ level-even : (axis : Axis) (xs : List ℤ) → length xs % 2 ≡ 0 → curves_le
 level-even axis [] h = refl
 level-even axis (d ∷ xs) h = grind (arith, nat_tests)
 
-pub level-behind : (axis : Axis) (xs ys : List ℤ) → length xs % 4 ≡ 0 → length ys % 2 ≡ 0 → curves_level axis (xs ++ ys) ≡ curves_level axis xs ++ curves_level axis ys
+pub level-behind : (axis : Axis) (xs ys : List ℤ) → length xs % 4 ≡ 0 → length ys % 2 ≡ 0 →
+    curves_level axis (xs ++ ys) ≡ curves_level axis xs ++ curves_level axis ys
 level-behind axis xs ys h even =
     let long = length-append xs ys in
     level-even axis (xs ++ ys) (omega (arith, long, h, even)) ∙ along-behind axis xs ys (omega (arith, h, even))
@@ -78,7 +85,8 @@ alone-eights [] h = refl
 alone-eights (a ∷ []) h = absurd (omega (arith, h))
 alone-eights (a ∷ b ∷ xs) h = refl
 
-pub turning-behind : (axis : Axis) (xs ys : List ℤ) → length xs % 8 ≡ 0 → 2 ≤ length ys → curves_in_turn axis (xs ++ ys) ≡ curves_in_turn axis xs ++ curves_in_turn axis ys
+pub turning-behind : (axis : Axis) (xs ys : List ℤ) → length xs % 8 ≡ 0 → 2 ≤ length ys →
+    curves_in_turn axis (xs ++ ys) ≡ curves_in_turn axis xs ++ curves_in_turn axis ys
 turning-behind axis [] ys h many = refl
 turning-behind axis (a ∷ []) ys h many = absurd (omega (arith, h))
 turning-behind axis (a ∷ b ∷ []) ys h many = absurd (omega (arith, h))
@@ -94,14 +102,20 @@ turning-behind axis (a ∷ b ∷ c ∷ d ∷ e ∷ f ∷ g ∷ i ∷ xs) ys h ma
     let there = alone-eights xs less in
     turned axis (here ∙ sym there) (turning-behind axis xs ys less many)
   where
-    turned : (axis : Axis) → alone (xs ++ ys) ≡ alone xs → curves_in_turn axis (xs ++ ys) ≡ curves_in_turn axis xs ++ curves_in_turn axis ys →
-        curves_in_turn axis (a ∷ b ∷ c ∷ d ∷ e ∷ f ∷ g ∷ i ∷ xs ++ ys) ≡ curves_in_turn axis (a ∷ b ∷ c ∷ d ∷ e ∷ f ∷ g ∷ i ∷ xs) ++ curves_in_turn axis ys
+    turned : (axis : Axis) → alone (xs ++ ys) ≡ alone xs →
+        curves_in_turn axis (xs ++ ys) ≡ curves_in_turn axis xs ++ curves_in_turn axis ys →
+        curves_in_turn axis (a ∷ b ∷ c ∷ d ∷ e ∷ f ∷ g ∷ i ∷ xs ++ ys) ≡ curves_in_turn axis
+        (a ∷ b ∷ c ∷ d ∷ e ∷ f ∷ g ∷ i ∷ xs) ++ curves_in_turn axis ys
     turned Horizontal same rest =
-        ap (λ de. Curve (along Horizontal a) (by b c) (aside Vertical d (pos 0)) ∷ Curve (along Vertical e) (by f g) (aside Horizontal i de) ∷ curves_in_turn Horizontal (xs ++ ys)) same
-        ∙ ap (λ ss. Curve (along Horizontal a) (by b c) (aside Vertical d (pos 0)) ∷ Curve (along Vertical e) (by f g) (aside Horizontal i (alone xs)) ∷ ss) rest
+        ap (λ de. Curve (along Horizontal a) (by b c) (aside Vertical d (pos 0)) ∷ Curve (along Vertical e) (by f g)
+        (aside Horizontal i de) ∷ curves_in_turn Horizontal (xs ++ ys)) same
+        ∙ ap (λ ss. Curve (along Horizontal a) (by b c) (aside Vertical d (pos 0)) ∷ Curve (along Vertical e) (by f g)
+        (aside Horizontal i (alone xs)) ∷ ss) rest
     turned Vertical same rest =
-        ap (λ de. Curve (along Vertical a) (by b c) (aside Horizontal d (pos 0)) ∷ Curve (along Horizontal e) (by f g) (aside Vertical i de) ∷ curves_in_turn Vertical (xs ++ ys)) same
-        ∙ ap (λ ss. Curve (along Vertical a) (by b c) (aside Horizontal d (pos 0)) ∷ Curve (along Horizontal e) (by f g) (aside Vertical i (alone xs)) ∷ ss) rest
+        ap (λ de. Curve (along Vertical a) (by b c) (aside Horizontal d (pos 0)) ∷ Curve (along Horizontal e) (by f g)
+        (aside Vertical i de) ∷ curves_in_turn Vertical (xs ++ ys)) same
+        ∙ ap (λ ss. Curve (along Vertical a) (by b c) (aside Horizontal d (pos 0)) ∷ Curve (along Horizontal e) (by f g)
+        (aside Vertical i (alone xs)) ∷ ss) rest
 
 -- a line behind curves, and a curve behind lines: the last is the last of the rest
 front-longer : (xs ys : List ℤ) (k : ℕ) → k ≤ length ys → take (length (xs ++ ys) - k) (xs ++ ys) ≡ xs ++ take (length ys - k) ys

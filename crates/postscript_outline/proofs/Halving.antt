@@ -43,7 +43,8 @@ mean-below c k m n p q r s =
 dips-at-end : (c : Curve) (k : ℕ) → min c.from c.to < k → (m : ℕ) × (n : ℕ) × (0 < m + n) × (height c m n < k * cube (m + n))
 dips-at-end c k h = ⊎_elim (λ l. (1, 0, lit< tt, omega arith)) (λ l. (0, 1, lit< tt, omega arith)) (order c.from k)
 
-rises-at-end : (c : Curve) (k d : ℕ) → k < max c.from c.to + d → (m : ℕ) × (n : ℕ) × (0 < m + n) × (k * cube (m + n) < height c m n + d * cube (m + n))
+rises-at-end : (c : Curve) (k d : ℕ) → k < max c.from c.to + d →
+    (m : ℕ) × (n : ℕ) × (0 < m + n) × (k * cube (m + n) < height c m n + d * cube (m + n))
 rises-at-end c k d h = ⊎_elim (λ l. (1, 0, lit< tt, omega arith)) (λ l. (0, 1, lit< tt, omega arith)) (order k (c.from + d))
 
 pub hull-spans : (c : Curve) (s : Span) (unit l h : ℕ) → 0 < unit → IsNearLevel unit c
@@ -60,28 +61,32 @@ hull-spans c s unit l h some near least most low low' high high' = record {
 }
 
 -- the front is the curve up to its middle
-above-front : (c : Curve) (f : Span) (unit : ℕ) → Spans f (8 * unit) (front c) → (n k : ℕ) → f.low * unit * cube (n + k + n) ≤ height c (n + k) n
+above-front : (c : Curve) (f : Span) (unit : ℕ) → Spans f (8 * unit) (front c) → (n k : ℕ) →
+    f.low * unit * cube (n + k + n) ≤ height c (n + k) n
 above-front c f unit h n k =
     let a = h.above k (2 * n) in
     let b = height-front c k (2 * n) in
     let d : height c (2 * k + 2 * n) (2 * n) ≡ 8 * height c (n + k) n = omega arith in
     omega arith
 
-below-front : (c : Curve) (f : Span) (unit : ℕ) → Spans f (8 * unit) (front c) → (n k : ℕ) → height c (n + k) n ≤ f.high * unit * cube (n + k + n)
+below-front : (c : Curve) (f : Span) (unit : ℕ) → Spans f (8 * unit) (front c) → (n k : ℕ) →
+    height c (n + k) n ≤ f.high * unit * cube (n + k + n)
 below-front c f unit h n k =
     let a = h.below k (2 * n) in
     let b = height-front c k (2 * n) in
     let d : height c (2 * k + 2 * n) (2 * n) ≡ 8 * height c (n + k) n = omega arith in
     omega arith
 
-above-back : (c : Curve) (f : Span) (unit : ℕ) → Spans f (8 * unit) (back c) → (m k : ℕ) → f.low * unit * cube (m + (m + k)) ≤ height c m (m + k)
+above-back : (c : Curve) (f : Span) (unit : ℕ) → Spans f (8 * unit) (back c) → (m k : ℕ) →
+    f.low * unit * cube (m + (m + k)) ≤ height c m (m + k)
 above-back c f unit h m k =
     let a = h.above (2 * m) k in
     let b = height-back c (2 * m) k in
     let d : height c (2 * m) (2 * m + 2 * k) ≡ 8 * height c m (m + k) = omega arith in
     omega arith
 
-below-back : (c : Curve) (f : Span) (unit : ℕ) → Spans f (8 * unit) (back c) → (m k : ℕ) → height c m (m + k) ≤ f.high * unit * cube (m + (m + k))
+below-back : (c : Curve) (f : Span) (unit : ℕ) → Spans f (8 * unit) (back c) → (m k : ℕ) →
+    height c m (m + k) ≤ f.high * unit * cube (m + (m + k))
 below-back c f unit h m k =
     let a = h.below (2 * m) k in
     let b = height-back c (2 * m) k in
@@ -122,14 +127,17 @@ rises-back c high unit (m, n, some, h) = (m, m + 2 * n, omega arith, let e = hei
 
 dips-least : (c : Curve) (a b unit : ℕ) → Dips c a unit → Dips c b unit → Dips c (min a b) unit
 dips-least c a b unit p q =
-    ⊎_elim (λ l. subst (λ v. Dips c v unit) (let e : a ≡ min a b = omega arith in e) p) (λ l. subst (λ v. Dips c v unit) (let e : b ≡ min a b = omega arith in e) q) (order a b)
+    ⊎_elim (λ l. subst (λ v. Dips c v unit) (let e : a ≡ min a b = omega arith in e) p)
+    (λ l. subst (λ v. Dips c v unit) (let e : b ≡ min a b = omega arith in e) q) (order a b)
 
 rises-greatest : (c : Curve) (a b unit : ℕ) → Rises c a unit → Rises c b unit → Rises c (max a b) unit
 rises-greatest c a b unit p q =
-    ⊎_elim (λ l. subst (λ v. Rises c v unit) (let e : b ≡ max a b = omega arith in e) q) (λ l. subst (λ v. Rises c v unit) (let e : a ≡ max a b = omega arith in e) p) (order a b)
+    ⊎_elim (λ l. subst (λ v. Rises c v unit) (let e : b ≡ max a b = omega arith in e) q)
+    (λ l. subst (λ v. Rises c v unit) (let e : a ≡ max a b = omega arith in e) p) (order a b)
 
 -- from where to where both halves come, the whole does
-pub joined-spans : (c : Curve) (f b : Span) (unit : ℕ) → Spans f (8 * unit) (front c) → Spans b (8 * unit) (back c) → Spans (joined f b) unit c
+pub joined-spans : (c : Curve) (f b : Span) (unit : ℕ) → Spans f (8 * unit) (front c) → Spans b (8 * unit) (back c) →
+    Spans (joined f b) unit c
 joined-spans c f b unit p q = record {
   above = λ m n. ⊎_elim (λ l. above_after m n (n - m) (omega arith)) (λ l. above_before m n (m - n) (omega arith)) (order m n);
   below = λ m n. ⊎_elim (λ l. below_after m n (n - m) (omega arith)) (λ l. below_before m n (m - n) (omega arith)) (order m n);
@@ -144,16 +152,24 @@ joined-spans c f b unit p q = record {
 }
   where
     above_before : (m n k : ℕ) → m ≡ n + k → (joined f b).low * unit * cube (m + n) ≤ height c m n
-    above_before m n k e = subst (λ v. (joined f b).low * unit * cube (v + n) ≤ height c v n) (sym e) (under-least f.low b.low _ _ unit (above-front c f unit p n k))
+    above_before m n k e =
+        subst (λ v. (joined f b).low * unit * cube (v + n) ≤ height c v n) (sym e)
+        (under-least f.low b.low _ _ unit (above-front c f unit p n k))
 
     above_after : (m n k : ℕ) → n ≡ m + k → (joined f b).low * unit * cube (m + n) ≤ height c m n
-    above_after m n k e = subst (λ v. (joined f b).low * unit * cube (m + v) ≤ height c m v) (sym e) (under-least' f.low b.low _ _ unit (above-back c b unit q m k))
+    above_after m n k e =
+        subst (λ v. (joined f b).low * unit * cube (m + v) ≤ height c m v) (sym e)
+        (under-least' f.low b.low _ _ unit (above-back c b unit q m k))
 
     below_before : (m n k : ℕ) → m ≡ n + k → height c m n ≤ (joined f b).high * unit * cube (m + n)
-    below_before m n k e = subst (λ v. height c v n ≤ (joined f b).high * unit * cube (v + n)) (sym e) (over-greatest f.high b.high _ _ unit (below-front c f unit p n k))
+    below_before m n k e =
+        subst (λ v. height c v n ≤ (joined f b).high * unit * cube (v + n)) (sym e)
+        (over-greatest f.high b.high _ _ unit (below-front c f unit p n k))
 
     below_after : (m n k : ℕ) → n ≡ m + k → height c m n ≤ (joined f b).high * unit * cube (m + n)
-    below_after m n k e = subst (λ v. height c m v ≤ (joined f b).high * unit * cube (m + v)) (sym e) (over-greatest' f.high b.high _ _ unit (below-back c b unit q m k))
+    below_after m n k e =
+        subst (λ v. height c m v ≤ (joined f b).high * unit * cube (m + v)) (sym e)
+        (over-greatest' f.high b.high _ _ unit (below-back c b unit q m k))
 
 -- the parts of a unit, at one halving more
 pub more-parts : (unit h : ℕ) → 0 < h → unit * 8 ^ h ≡ 2 ^ 51 → 8 * unit * 8 ^ (h - 1) ≡ 2 ^ 51
@@ -177,16 +193,22 @@ within-back c unit h = record { from = omega arith; first = omega arith; second 
 
 -- each half bends a quarter as much, of eight times as many parts
 pub bent-front : (c : Curve) (h most : ℕ) → 0 < h → IsBent (2 ^ h) most c → IsBent (2 ^ (h - 1)) most (front c)
-bent-front c h most some is = by (2 ^ (h - 1)) (omega (arith, pow-suc 2 (h - 1), ap (λ v. 2 ^ v) (let e : h ≡ suc (h - 1) = omega arith in e)))
+bent-front c h most some is =
+    by (2 ^ (h - 1)) (omega (arith, pow-suc 2 (h - 1), ap (λ v. 2 ^ v) (let e : h ≡ suc (h - 1) = omega arith in e)))
   where
     by : (t : ℕ) → 2 ^ h ≡ 2 * t → IsBent t most (front c)
-    by t e = let b : IsBent (2 * t) most c = subst (λ v. IsBent v most c) e is in record { begin_up = omega arith; begin_down = omega arith; end_up = omega arith; end_down = omega arith }
+    by t e =
+        let b : IsBent (2 * t) most c = subst (λ v. IsBent v most c) e is in
+        record { begin_up = omega arith; begin_down = omega arith; end_up = omega arith; end_down = omega arith }
 
 pub bent-back : (c : Curve) (h most : ℕ) → 0 < h → IsBent (2 ^ h) most c → IsBent (2 ^ (h - 1)) most (back c)
-bent-back c h most some is = by (2 ^ (h - 1)) (omega (arith, pow-suc 2 (h - 1), ap (λ v. 2 ^ v) (let e : h ≡ suc (h - 1) = omega arith in e)))
+bent-back c h most some is =
+    by (2 ^ (h - 1)) (omega (arith, pow-suc 2 (h - 1), ap (λ v. 2 ^ v) (let e : h ≡ suc (h - 1) = omega arith in e)))
   where
     by : (t : ℕ) → 2 ^ h ≡ 2 * t → IsBent t most (back c)
-    by t e = let b : IsBent (2 * t) most c = subst (λ v. IsBent v most c) e is in record { begin_up = omega arith; begin_down = omega arith; end_up = omega arith; end_down = omega arith }
+    by t e =
+        let b : IsBent (2 * t) most c = subst (λ v. IsBent v most c) e is in
+        record { begin_up = omega arith; begin_down = omega arith; end_up = omega arith; end_down = omega arith }
 
 pub near-level : (c : Curve) (unit h : ℕ) → h ≡ 0 → unit * 8 ^ h ≡ 2 ^ 51 → IsBent (2 ^ h) (2 ^ 50) c → IsNearLevel unit c
 near-level c unit h none is bent =

@@ -28,11 +28,14 @@ raised c p q r s m n a b d e =
     let i = times s c.to (2 ^ 31) (n * n * n) e in
     omega (arith, ints)
 
-pub spans-reaches : (c : Curve) (span : Span) (low high p q r s : ℤ) → Raised p c.from → Raised q c.first → Raised r c.second → Raised s c.to
+pub spans-reaches : (c : Curve) (span : Span) (low high p q r s : ℤ) → Raised p c.from → Raised q c.first → Raised r c.second →
+    Raised s c.to
     → Raised low span.low → Raised high span.high → Spans span 1 c → Reaches low high p q r s
 spans-reaches c span low high p q r s a b d e l h is = record {
-  above = λ m n. let v = raised c p q r s m n a b d e in let w = times low span.low (2 ^ 31) ((m + n) * (m + n) * (m + n)) l in let i = is.above m n in omega (arith, ints);
-  below = λ m n. let v = raised c p q r s m n a b d e in let w = times high span.high (2 ^ 31) ((m + n) * (m + n) * (m + n)) h in let i = is.below m n in omega (arith, ints);
+  above = λ m n. let v = raised c p q r s m n a b d e in let w = times low span.low (2 ^ 31) ((m + n) * (m + n) * (m + n)) l in
+      let i = is.above m n in omega (arith, ints);
+  below = λ m n. let v = raised c p q r s m n a b d e in let w = times high span.high (2 ^ 31) ((m + n) * (m + n) * (m + n)) h in
+      let i = is.below m n in omega (arith, ints);
   dips =
       let m = is.dips.0 in let n = is.dips.1 in
       let v = raised c p q r s m n a b d e in

@@ -11,7 +11,8 @@ one_and_a_half : number (pos 98304) ≡ decimal 1 ++ (codes "." ++ (decimal 5 ++
 one_and_a_half = refl
 
 -- -0.0625
-minus_a_sixteenth : number (neg_ℤ (pos 4096)) ≡ codes "-" ++ (decimal 0 ++ (codes "." ++ (decimal 0 ++ (decimal 6 ++ (decimal 2 ++ (decimal 5 ++ []))))))
+minus_a_sixteenth : number (neg_ℤ (pos 4096)) ≡ codes
+    "-" ++ (decimal 0 ++ (codes "." ++ (decimal 0 ++ (decimal 6 ++ (decimal 2 ++ (decimal 5 ++ []))))))
 minus_a_sixteenth = refl
 
 -- a 65536th has sixteen digits, and the fraction ends there: 0.0000152587890625
@@ -24,5 +25,6 @@ three_quarters = refl
 whole : number (pos 65536000) ≡ decimal 1000 ++ []
 whole = refl
 
-line : segment (LineTo (point (pos 65536) (neg_ℤ (pos 65536)))) ≡ codes "L" ++ ((decimal 1 ++ []) ++ (codes " " ++ (codes "-" ++ (decimal 1 ++ []))))
+line : segment (LineTo (point (pos 65536) (neg_ℤ (pos 65536)))) ≡ codes
+    "L" ++ ((decimal 1 ++ []) ++ (codes " " ++ (codes "-" ++ (decimal 1 ++ []))))
 line = refl

@@ -59,34 +59,42 @@ any-right P [] ys some = some
 any-right P (x ∷ xs) ys some = let rest = any-right P xs ys some in (suc rest.0, rest.1, omega (arith, rest.2), rest.3, rest.4)
 
 -- a side of either is one of both
-any-either : {X : Type 0} (P : ℤ → X → Type 0) (xs ys : List X) (a b new : ℤ) → (new ≡ a) ⊎ (new ≡ b) → Any (P a) xs → Any (P b) ys → Any (P new) (xs ++ ys)
+any-either : {X : Type 0} (P : ℤ → X → Type 0) (xs ys : List X) (a b new : ℤ) → (new ≡ a) ⊎ (new ≡ b) → Any (P a) xs → Any (P b) ys →
+    Any (P new) (xs ++ ys)
 any-either P xs ys a b new (inl same) p q = subst (λ n. Any (P n) (xs ++ ys)) (sym same) (any-left (P a) xs ys p)
 any-either P xs ys a b new (inr same) p q = subst (λ n. Any (P n) (xs ++ ys)) (sym same) (any-right (P b) xs ys q)
 
-bounded-both : (b c : Bounds) (xs ys : List Arc) → TightlyBounded b xs → TightlyBounded c ys → TightlyBounded (record { low = lower b.low c.low; high = upper b.high c.high }) (xs ++ ys)
+bounded-both : (b c : Bounds) (xs ys : List Arc) → TightlyBounded b xs → TightlyBounded c ys →
+    TightlyBounded (record { low = lower b.low c.low; high = upper b.high c.high }) (xs ++ ys)
 bounded-both b c xs ys p q = record {
-  within = All-append (Contains (record { low = lower b.low c.low; high = upper b.high c.high })) xs ys (λ k d lt. wider-left b c _ (p.within k d lt)) (λ k d lt. wider-right b c _ (q.within k d lt));
+  within = All-append (Contains (record { low = lower b.low c.low; high = upper b.high c.high })) xs ys
+      (λ k d lt. wider-left b c _ (p.within k d lt)) (λ k d lt. wider-right b c _ (q.within k d lt));
   left = any-either (DipsTo (λ p. p.x)) xs ys _ _ _ (least b.low.x c.low.x).2 p.left q.left;
   right = any-either (RisesTo (λ p. p.x)) xs ys _ _ _ (greatest b.high.x c.high.x).2 p.right q.right;
   bottom = any-either (DipsTo (λ p. p.y)) xs ys _ _ _ (least b.low.y c.low.y).2 p.bottom q.bottom;
   top = any-either (RisesTo (λ p. p.y)) xs ys _ _ _ (greatest b.high.y c.high.y).2 p.top q.top;
 }
 
-pub tight-both : (b c : Option Bounds) (xs ys : List Arc) → IsTightBoundsOf b xs → IsTightBoundsOf c ys → IsTightBoundsOf (both b c) (xs ++ ys)
+pub tight-both : (b c : Option Bounds) (xs ys : List Arc) → IsTightBoundsOf b xs → IsTightBoundsOf c ys → IsTightBoundsOf (both b c)
+    (xs ++ ys)
 tight-both None c xs ys p q = subst (λ v. IsTightBoundsOf c (v ++ ys)) (sym p) q
 tight-both (Some b) None xs ys p q = subst (λ v. TightlyBounded b (xs ++ v)) (sym q) (subst (TightlyBounded b) (sym (append-nil xs)) p)
 tight-both (Some b) (Some c) xs ys p q = bounded-both b c xs ys p q
 
-pub surrounds : (l r b t l' r' b' t' : ℤ) (a : Arc) → l' ≡ l → r' ≡ r → b' ≡ b → t' ≡ t → Reaches l r a.from.x a.first.x a.second.x a.to.x → Reaches b t a.from.y a.first.y a.second.y a.to.y
+pub surrounds : (l r b t l' r' b' t' : ℤ) (a : Arc) → l' ≡ l → r' ≡ r → b' ≡ b → t' ≡ t →
+    Reaches l r a.from.x a.first.x a.second.x a.to.x → Reaches b t a.from.y a.first.y a.second.y a.to.y
     → Surrounds (record { low = point l' b'; high = point r' t' }) a
 surrounds l r b t l' r' b' t' a el er eb et p q = record {
-  across = subst (λ v. Reaches v r' a.from.x a.first.x a.second.x a.to.x) (sym el) (subst (λ v. Reaches l v a.from.x a.first.x a.second.x a.to.x) (sym er) p);
-  upwards = subst (λ v. Reaches v t' a.from.y a.first.y a.second.y a.to.y) (sym eb) (subst (λ v. Reaches b v a.from.y a.first.y a.second.y a.to.y) (sym et) q);
+  across = subst (λ v. Reaches v r' a.from.x a.first.x a.second.x a.to.x) (sym el)
+      (subst (λ v. Reaches l v a.from.x a.first.x a.second.x a.to.x) (sym er) p);
+  upwards = subst (λ v. Reaches v t' a.from.y a.first.y a.second.y a.to.y) (sym eb)
+      (subst (λ v. Reaches b v a.from.y a.first.y a.second.y a.to.y) (sym et) q);
 }
 
 pub of-curve : (b : Bounds) (a : Arc) → Surrounds b a → TightlyBounded b (a ∷ [])
 of-curve b a is = record {
-  within = All-push (Contains b) [] a (All-nil (Contains b)) (record { left = is.across.above; right = is.across.below; bottom = is.upwards.above; top = is.upwards.below });
+  within = All-push (Contains b) [] a (All-nil (Contains b))
+      (record { left = is.across.above; right = is.across.below; bottom = is.upwards.above; top = is.upwards.below });
   left = Any-push (DipsTo (λ p. p.x) b.low.x) [] a (record { near = is.across.dips; within = is.across.low_within });
   right = Any-push (RisesTo (λ p. p.x) b.high.x) [] a (record { near = is.across.rises; within = is.across.high_within });
   bottom = Any-push (DipsTo (λ p. p.y) b.low.y) [] a (record { near = is.upwards.dips; within = is.upwards.low_within });
@@ -94,11 +102,16 @@ of-curve b a is = record {
 }
 
 -- tight bounds that take in segments, one after another
-pub tight-taken : (segments : List Segment) (old new : TightBounds) (curves : List Arc) → IsTightBoundsOf old.bounds curves → Receives TakesIn old segments new → IsTightBoundsOf new.bounds (curves ++ arcs old.at segments)
-tight-taken [] old new curves h is = subst (IsTightBoundsOf new.bounds) (sym (append-nil curves)) (subst (λ v. IsTightBoundsOf v.bounds curves) (sym is) h)
+pub tight-taken : (segments : List Segment) (old new : TightBounds) (curves : List Arc) → IsTightBoundsOf old.bounds curves →
+    Receives TakesIn old segments new → IsTightBoundsOf new.bounds (curves ++ arcs old.at segments)
+tight-taken [] old new curves h is =
+    subst (IsTightBoundsOf new.bounds) (sym (append-nil curves)) (subst (λ v. IsTightBoundsOf v.bounds curves) (sym is) h)
 tight-taken (segment ∷ segments) old new curves h is =
     let next = is.0 in
     let step = is.1 in
     let drawn = curves ++ arcs_of old.at segment in
-    let grown = subst (λ v. IsTightBoundsOf v drawn) (sym step.bounds_are) (tight-both old.bounds step.more curves (arcs_of old.at segment) h step.tight) in
-    subst (IsTightBoundsOf new.bounds) (ap (λ v. drawn ++ arcs v segments) step.stands ∙ append_assoc curves (arcs_of old.at segment) (arcs (after old.at segment) segments)) (tight-taken segments next new drawn grown is.2)
+    let grown = subst (λ v. IsTightBoundsOf v drawn) (sym step.bounds_are)
+    (tight-both old.bounds step.more curves (arcs_of old.at segment) h step.tight) in
+    subst (IsTightBoundsOf new.bounds)
+    (ap (λ v. drawn ++ arcs v segments) step.stands ∙ append_assoc curves (arcs_of old.at segment) (arcs (after old.at segment) segments))
+    (tight-taken segments next new drawn grown is.2)

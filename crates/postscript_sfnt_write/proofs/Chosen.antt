@@ -23,7 +23,8 @@ record Encoding (bytes : List ℕ) (at platform encoding place : ℕ) : Type 0 w
   encoding_is : number_at bytes (at + 2) 2 ≡ encoding
   place_is : number_at bytes (at + 4) 4 ≡ place
 
-encoding_stands : {bytes : List ℕ} (at platform encoding place : ℕ) → platform < 2 ^ 16 → encoding < 2 ^ 16 → place < 2 ^ 32 → Stands (encoding_text platform encoding place) bytes at → Encoding bytes at platform encoding place
+encoding_stands : {bytes : List ℕ} (at platform encoding place : ℕ) → platform < 2 ^ 16 → encoding < 2 ^ 16 → place < 2 ^ 32 →
+    Stands (encoding_text platform encoding place) bytes at → Encoding bytes at platform encoding place
 unfolding encoding_text
 encoding_stands {bytes = bytes} at platform encoding place p e o s =
     let b : List ℕ = uint16 encoding ++ uint32 place in
@@ -60,16 +61,19 @@ two s =
     let at12 = stands_second (encoding_text 0 3 20) (encoding_text 3 1 20) 8 (length-encoding 0 3 20) at4 in
     record {
       counted = uint16_stands 2 (omega arith) (stands_first (uint16 2) b at2);
-      first = encoding_stands 4 0 3 20 (omega arith) (omega arith) (omega arith) (stands_first (encoding_text 0 3 20) (encoding_text 3 1 20) at4);
+      first = encoding_stands 4 0 3 20 (omega arith) (omega arith) (omega arith)
+          (stands_first (encoding_text 0 3 20) (encoding_text 3 1 20) at4);
       second = encoding_stands 12 3 1 20 (omega arith) (omega arith) (omega arith) at12;
     }
 
-ranked : {cmap : List ℕ} (i at platform encoding place : ℕ) → 4 + i * 8 ≡ at → Encoding cmap at platform encoding place → rank_at cmap i ≡ rank platform encoding
+ranked : {cmap : List ℕ} (i at platform encoding place : ℕ) → 4 + i * 8 ≡ at → Encoding cmap at platform encoding place →
+    rank_at cmap i ≡ rank platform encoding
 ranked {cmap = cmap} i at platform encoding place e it =
     ap (λ k. rank (number_at cmap k 2) (number_at cmap (k + 2) 2)) e
     ∙ ap (λ k. rank k (number_at cmap (at + 2) 2)) it.platform_is ∙ ap (rank platform) it.encoding_is
 
-placed : {cmap : List ℕ} (i at platform encoding place : ℕ) → 4 + i * 8 ≡ at → Encoding cmap at platform encoding place → place_at cmap i ≡ place
+placed : {cmap : List ℕ} (i at platform encoding place : ℕ) → 4 + i * 8 ≡ at → Encoding cmap at platform encoding place →
+    place_at cmap i ≡ place
 placed {cmap = cmap} i at platform encoding place e it = ap (λ k. number_at cmap (k + 4) 4) e ∙ it.place_is
 
 -- the second of two is taken
@@ -140,7 +144,8 @@ four behind small s =
       counted = uint16_stands 4 (omega arith) (stands_first (uint16 4) b at2);
       first = encoding_stands 4 0 3 36 (omega arith) (omega arith) (omega arith) (stands_first (encoding_text 0 3 36) c at4);
       second = encoding_stands 12 0 4 behind (omega arith) (omega arith) small (stands_first (encoding_text 0 4 behind) d at12);
-      third = encoding_stands 20 3 1 36 (omega arith) (omega arith) (omega arith) (stands_first (encoding_text 3 1 36) (encoding_text 3 10 behind) at20);
+      third = encoding_stands 20 3 1 36 (omega arith) (omega arith) (omega arith)
+          (stands_first (encoding_text 3 1 36) (encoding_text 3 10 behind) at20);
       fourth = encoding_stands 28 3 10 behind (omega arith) (omega arith) small at28;
     }
 
@@ -152,7 +157,12 @@ record Ranks4 (cmap : List ℕ) : Type 0 where
 
 large_taken : (cmap : List ℕ) (behind : ℕ) → Four cmap behind → 36 ≤ length cmap → behind + 2 ≤ length cmap → IsTaken cmap behind
 large_taken cmap behind it long within =
-    let r : Ranks4 cmap = record { r0 = ranked 0 4 0 3 36 refl it.first; r1 = ranked 1 12 0 4 behind refl it.second; r2 = ranked 2 20 3 1 36 refl it.third; r3 = ranked 3 28 3 10 behind refl it.fourth } in
+    let r : Ranks4 cmap = record {
+      r0 = ranked 0 4 0 3 36 refl it.first;
+      r1 = ranked 1 12 0 4 behind refl it.second;
+      r2 = ranked 2 20 3 1 36 refl it.third;
+      r3 = ranked 3 28 3 10 behind refl it.fourth;
+    } in
     let p3 : place_at cmap 3 ≡ behind = placed 3 28 3 10 behind refl it.fourth in
     let many : records_of cmap ≡ 4 = it.counted in
     let top = r.r3 in
@@ -223,7 +233,8 @@ tells4 table ms n (Trimmed it) format counted tell cmap at e is char glyph maps 
     absurd (omega (arith, f, g, format))
 
 tells12 : (table : List ℕ) (ms : List Mapping) (map : CharacterMap) → number_at table 0 2 ≡ 12 →
-    ((char glyph : ℕ) → IsGlyphOf (first12 table) (last12 table) (gives12 table) (number_at table 12 4) char glyph → IsGlyphIn ms char glyph) →
+    ((char glyph : ℕ) → IsGlyphOf (first12 table) (last12 table) (gives12 table)
+    (number_at table 12 4) char glyph → IsGlyphIn ms char glyph) →
     (cmap : List ℕ) (at : ℕ) → drop at cmap ≡ table → IsMapAt cmap at map → Tells map ms
 tells12 table ms (Groups it) format tell cmap at e is char glyph maps =
     let same : it.table.now ≡ table = is.bytes ∙ e in
@@ -243,7 +254,8 @@ length-small : length small_text ≡ 20
 unfolding small_text encoding_text uint16 uint32
 length-small = refl
 
-pub small_answer : (cmap : List ℕ) (gs : List Group) (ms : List Mapping) → CharsRise ms → AreBelow ms → gs ≡ groups (ms ++ end ∷ []) → length gs < 8002 → AllFit (ms ++ end ∷ []) → IsSmall cmap gs → Answer cmap ms
+pub small_answer : (cmap : List ℕ) (gs : List Group) (ms : List Mapping) → CharsRise ms → AreBelow ms → gs ≡ groups (ms ++ end ∷ []) →
+    length gs < 8002 → AllFit (ms ++ end ∷ []) → IsSmall cmap gs → Answer cmap ms
 small_answer cmap gs ms rise below is few fit text =
     let body = head4_text (length gs) text.selector ++ rows_text gs in
     let s = whole cmap (small_text ++ body) text.text in
@@ -270,14 +282,16 @@ length-head : (count selector : ℕ) → length (head4_text count selector) ≡ 
 unfolding head4_text uint16
 length-head count selector = refl
 
-pub large_answer : (cmap : List ℕ) (low gs : List Group) (ms : List Mapping) → CharsRise ms → gs ≡ groups ms → length low < 8002 → 16 + length gs * 12 < 2 ^ 32 → AllFit ms → GroupsFit gs → IsLarge cmap low gs → Answer cmap ms
+pub large_answer : (cmap : List ℕ) (low gs : List Group) (ms : List Mapping) → CharsRise ms → gs ≡ groups ms → length low < 8002 →
+    16 + length gs * 12 < 2 ^ 32 → AllFit ms → GroupsFit gs → IsLarge cmap low gs → Answer cmap ms
 large_answer cmap low gs ms rise is few small fit fits text =
     let behind : ℕ = 52 + length low * 8 in
     let head : List ℕ = head4_text (length low) text.selector ++ rows_text low in
     let body : List ℕ = format12_text gs in
     let s = whole cmap (large_text behind ++ (head ++ body)) text.text in
     let at36 = stands_second (large_text behind) (head ++ body) 36 (length-large behind) s in
-    let long : length head ≡ 16 + length low * 8 = length-append (head4_text (length low) text.selector) (rows_text low) ∙ (let a = length-head (length low) text.selector in let b = length-rows_text low in omega (arith, a, b)) in
+    let long : length head ≡ 16 + length low * 8 = length-append (head4_text (length low) text.selector) (rows_text low)
+    ∙ (let a = length-head (length low) text.selector in let b = length-rows_text low in omega (arith, a, b)) in
     let there = stands_second head body (16 + length low * 8) long at36 in
     let on : 0 + 36 + (16 + length low * 8) ≡ behind = omega arith in
     let here : Stands body (drop behind cmap) 0 = stands_dropped body behind (subst (λ k. Stands body cmap k) on there) in
@@ -287,7 +301,8 @@ large_answer cmap low gs ms rise is few small fit fits text =
     let room = h.room in
     let counted = h.counted in
     let rest = length-drop behind cmap in
-    let taken = large_taken cmap behind (four behind (omega (arith, few)) (stands_first (large_text behind) (head ++ body) s)) (omega (arith, room, rest)) (omega (arith, room, rest)) in
+    let taken = large_taken cmap behind (four behind (omega (arith, few)) (stands_first (large_text behind) (head ++ body) s))
+    (omega (arith, room, rest)) (omega (arith, room, rest)) in
     record {
       read = readable cmap behind taken (inr (inl (h.format, omega (arith, room, counted))));
       told = λ i map chosen at. tells12 (drop behind cmap) ms map h.format

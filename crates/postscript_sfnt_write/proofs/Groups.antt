@@ -21,10 +21,12 @@ pub grouped_done : (g : Group) (ms : List Mapping) (i : ℕ) → length ms ≤ i
 unfolding grouped
 grouped_done g ms i h = at_drop_all (grouped g) ms i h
 
-pub rest_more : (g : Group) (ms : List Mapping) (i : ℕ) → i < length ms → grouped g (drop i ms) ≡ grouped g (get_or ms i no_mapping ∷ drop (i + 1) ms)
+pub rest_more : (g : Group) (ms : List Mapping) (i : ℕ) → i < length ms →
+    grouped g (drop i ms) ≡ grouped g (get_or ms i no_mapping ∷ drop (i + 1) ms)
 rest_more g ms i h = at_drop_more (grouped g) ms i no_mapping h
 
-pub groups_more : (gs : List Group) (i : ℕ) → i < length gs → groups_text (drop i gs) ≡ group_text (get_or gs i no_group) ++ groups_text (drop (i + 1) gs)
+pub groups_more : (gs : List Group) (i : ℕ) → i < length gs →
+    groups_text (drop i gs) ≡ group_text (get_or gs i no_group) ++ groups_text (drop (i + 1) gs)
 unfolding groups_text
 groups_more gs i h = at_drop_more groups_text gs i no_group h
 
@@ -32,7 +34,8 @@ pub groups_done : (gs : List Group) (i : ℕ) → length gs ≤ i → groups_tex
 unfolding groups_text
 groups_done gs i h = at_drop_all groups_text gs i h
 
-pub row_more : (row : Row) (gs : List Group) (i : ℕ) → i < length gs → row_text row (drop i gs) ≡ uint16 (row_number row (get_or gs i no_group)) ++ row_text row (drop (i + 1) gs)
+pub row_more : (row : Row) (gs : List Group) (i : ℕ) → i < length gs →
+    row_text row (drop i gs) ≡ uint16 (row_number row (get_or gs i no_group)) ++ row_text row (drop (i + 1) gs)
 unfolding row_text
 row_more row gs i h = at_drop_more (row_text row) gs i no_group h
 
@@ -96,7 +99,8 @@ goes : (g : Group) (m : Mapping) → goes_on g m ≡ true → GoesOn g m
 goes g m e = record { next = grind (arith, nat_tests); glyph = grind (arith, nat_tests) }
 
 longer-gives : (g : Group) (m : Mapping) (char glyph : ℕ) → goes_on g m ≡ true → Gives g char glyph → Gives (longer g m.char) char glyph
-longer-gives g m char glyph e gives = let on = (goes g m e).next in let to = gives.to in record { from = gives.from; to = omega (arith, on, to); is = gives.is }
+longer-gives g m char glyph e gives =
+    let on = (goes g m e).next in let to = gives.to in record { from = gives.from; to = omega (arith, on, to); is = gives.is }
 
 -- the two cases of one more character
 cases : (g : Group) (m : Mapping) (ms : List Mapping) (P : List Group → Type 0) → (goes_on g m ≡ true → P (grouped (longer g m.char) ms)) →
@@ -119,12 +123,14 @@ own_gives : (m : Mapping) → Gives (group_of m) m.char m.glyph
 own_gives m = record { from = omega arith; to = omega arith; is = refl }
 
 longer_own : (g : Group) (m : Mapping) → g.start ≤ g.end → goes_on g m ≡ true → Gives (longer g m.char) m.char m.glyph
-longer_own g m whole e = let next = (goes g m e).next in record { from = omega (arith, next, whole); to = omega arith; is = (goes g m e).glyph }
+longer_own g m whole e =
+    let next = (goes g m e).next in record { from = omega (arith, next, whole); to = omega arith; is = (goes g m e).glyph }
 
 longer_whole : (g : Group) (m : Mapping) → g.start ≤ g.end → goes_on g m ≡ true → g.start ≤ m.char
 longer_whole g m whole e = let next = (goes g m e).next in omega (arith, next, whole)
 
-pub each_gives : (g : Group) (ms : List Mapping) (i : ℕ) (m : Mapping) → g.start ≤ g.end → IsMapping ms i m → OneGives (grouped g ms) m.char m.glyph
+pub each_gives : (g : Group) (ms : List Mapping) (i : ℕ) (m : Mapping) → g.start ≤ g.end → IsMapping ms i m →
+    OneGives (grouped g ms) m.char m.glyph
 each_gives g [] i m whole e = absurd (cc)
 each_gives g (u ∷ us) zero m whole e =
     subst (λ (x : Mapping). OneGives (grouped g (u ∷ us)) x.char x.glyph) (same_mapping u m e)
@@ -149,7 +155,8 @@ behind : (m : Mapping) (ms : List Mapping) (char glyph : ℕ) → HasMapping ms 
 behind m ms char glyph h = record { i = suc h.i; mapping = h.mapping; there = h.there; char_is = h.char_is; glyph_is = h.glyph_is }
 
 -- what the longer group gives, the group or the character that it goes on with gives
-shorter : (g : Group) (m : Mapping) (ms : List Mapping) (char glyph : ℕ) → goes_on g m ≡ true → Gives (longer g m.char) char glyph → Gives g char glyph ⊎ HasMapping (m ∷ ms) char glyph
+shorter : (g : Group) (m : Mapping) (ms : List Mapping) (char glyph : ℕ) → goes_on g m ≡ true → Gives (longer g m.char) char glyph →
+    Gives g char glyph ⊎ HasMapping (m ∷ ms) char glyph
 shorter g m ms char glyph e gives = by (char == m.char) refl
   where
     by : (b : Bool) → (char == m.char) ≡ b → Gives g char glyph ⊎ HasMapping (m ∷ ms) char glyph
@@ -164,7 +171,8 @@ shorter g m ms char glyph e gives = by (char == m.char) refl
         let to = gives.to in
         inl (record { from = gives.from; to = omega (arith, next, to, other); is = gives.is })
 
-own_else : (g : Group) (m : Mapping) (ms : List Mapping) (char glyph : ℕ) → Gives (group_of m) char glyph → Gives g char glyph ⊎ HasMapping (m ∷ ms) char glyph
+own_else : (g : Group) (m : Mapping) (ms : List Mapping) (char glyph : ℕ) → Gives (group_of m) char glyph →
+    Gives g char glyph ⊎ HasMapping (m ∷ ms) char glyph
 own_else g m ms char glyph here =
     let from = here.from in
     let to = here.to in
@@ -172,11 +180,13 @@ own_else g m ms char glyph here =
     inr (record { i = 0; mapping = m; there = refl; char_is = omega (arith, from, to); glyph_is = omega (arith, from, to, is) })
 
 -- in the first of groups, or in a later one
-first_or : (g h : Group) (gs : List Group) (i : ℕ) (P : Type 0) → IsGroup (g ∷ gs) i h → (g ≡ h → P) → ((k : ℕ) → i ≡ suc k → IsGroup gs k h → P) → P
+first_or : (g h : Group) (gs : List Group) (i : ℕ) (P : Type 0) → IsGroup (g ∷ gs) i h → (g ≡ h → P) →
+    ((k : ℕ) → i ≡ suc k → IsGroup gs k h → P) → P
 first_or g h gs zero P e first rest = first (same_group g h e)
 first_or g h gs (suc i) P e first rest = rest i refl e
 
-pub none_else : (g : Group) (ms : List Mapping) (i : ℕ) (h : Group) (char glyph : ℕ) → Gives h char glyph → IsGroup (grouped g ms) i h → Gives g char glyph ⊎ HasMapping ms char glyph
+pub none_else : (g : Group) (ms : List Mapping) (i : ℕ) (h : Group) (char glyph : ℕ) → Gives h char glyph → IsGroup (grouped g ms) i h →
+    Gives g char glyph ⊎ HasMapping ms char glyph
 unfolding grouped
 none_else g [] zero h char glyph gives e = inl (subst (λ (x : Group). Gives x char glyph) (sym (same_group g h e)) gives)
 none_else g [] (suc i) h char glyph gives e = absurd (cc)
@@ -207,9 +217,11 @@ rest_rise m ms rise i j a b less x y = rise (suc i) (suc j) a b (omega arith) x 
 rest_follow : (m : Mapping) (ms : List Mapping) → CharsRise (m ∷ ms) → (k : ℕ) (n : Mapping) → IsMapping ms k n → m.char < n.char
 rest_follow m ms rise k n e = rise 0 (suc k) m n (omega arith) refl e
 
-pub all_behind : (g : Group) (ms : List Mapping) (i : ℕ) (h : Group) → g.start ≤ g.end → Follow g ms → CharsRise ms → IsGroup (grouped g ms) i h → IsBehind g.start h
+pub all_behind : (g : Group) (ms : List Mapping) (i : ℕ) (h : Group) → g.start ≤ g.end → Follow g ms → CharsRise ms →
+    IsGroup (grouped g ms) i h → IsBehind g.start h
 unfolding grouped
-all_behind g [] zero h whole follow rise e = subst (λ (x : Group). IsBehind g.start x) (same_group g h e) (record { whole = whole; from = omega arith })
+all_behind g [] zero h whole follow rise e =
+    subst (λ (x : Group). IsBehind g.start x) (same_group g h e) (record { whole = whole; from = omega arith })
 all_behind g [] (suc i) h whole follow rise e = absurd (cc)
 all_behind g (m ∷ ms) i h whole follow rise e =
     let far : g.end < m.char = follow 0 m refl in
@@ -225,7 +237,8 @@ all_behind g (m ∷ ms) i h whole follow rise e =
     record { whole = it.whole; from = omega (arith, from, far, whole) }))
     e
 
-pub all_apart : (g : Group) (ms : List Mapping) (i j : ℕ) (a b : Group) → g.start ≤ g.end → Follow g ms → CharsRise ms → i < j → IsGroup (grouped g ms) i a → IsGroup (grouped g ms) j b → a.end < b.start
+pub all_apart : (g : Group) (ms : List Mapping) (i j : ℕ) (a b : Group) → g.start ≤ g.end → Follow g ms → CharsRise ms → i < j →
+    IsGroup (grouped g ms) i a → IsGroup (grouped g ms) j b → a.end < b.start
 unfolding grouped
 all_apart g [] i zero a b whole follow rise less x y = absurd (omega arith)
 all_apart g [] i (suc j) a b whole follow rise less x y = absurd (cc)
@@ -267,7 +280,9 @@ say (m ∷ ms) rise = record {
 }
   where
     each : (i : ℕ) (n : Mapping) → IsMapping (m ∷ ms) i n → OneGives (grouped (group_of m) ms) n.char n.glyph
-    each zero n e = subst (λ (x : Mapping). OneGives (grouped (group_of m) ms) x.char x.glyph) (same_mapping m n e) (first_gives (group_of m) ms m.char m.glyph (own_gives m))
+    each zero n e =
+        subst (λ (x : Mapping). OneGives (grouped (group_of m) ms) x.char x.glyph) (same_mapping m n e)
+        (first_gives (group_of m) ms m.char m.glyph (own_gives m))
     each (suc i) n e = each_gives (group_of m) ms i n (omega arith) e
 
     only : (char glyph : ℕ) → Gives (group_of m) char glyph ⊎ HasMapping ms char glyph → HasMapping (m ∷ ms) char glyph

@@ -20,7 +20,8 @@ pub record Are (first last : ℕ → ℕ) (gives : (i char : ℕ) → ℕ) (coun
   pub to : (i : ℕ) (g : Group) → IsGroup gs i g → last i ≡ g.end
   pub tell : (i : ℕ) (g : Group) (char glyph : ℕ) → IsGroup gs i g → Gives g char glyph → glyph < 65536 → gives i char ≡ glyph
 
-is_first : (first last : ℕ → ℕ) (gives : (i char : ℕ) → ℕ) (count : ℕ) (gs : List Group) (ms : List Mapping) (char i : ℕ) (g : Group) → Are first last gives count gs → Say gs ms →
+is_first : (first last : ℕ → ℕ) (gives : (i char : ℕ) → ℕ) (count : ℕ) (gs : List Group) (ms : List Mapping) (char i : ℕ) (g : Group) →
+    Are first last gives count gs → Say gs ms →
     IsGroup gs i g → g.start ≤ char → char ≤ g.end → IsFirst first last count char i
 is_first first last gives count gs ms char i g are say there low high = record {
   holds = record {
@@ -37,7 +38,8 @@ is_first first last gives count gs ms char i g are say there low high = record {
       absurd (omega (arith, apart, e, to, low));
 }
 
-lacks : (first last : ℕ → ℕ) (gives : (i char : ℕ) → ℕ) (count : ℕ) (gs : List Group) (ms : List Mapping) (char : ℕ) → Are first last gives count gs → Say gs ms →
+lacks : (first last : ℕ → ℕ) (gives : (i char : ℕ) → ℕ) (count : ℕ) (gs : List Group) (ms : List Mapping) (char : ℕ) →
+    Are first last gives count gs → Say gs ms →
     ((i : ℕ) (m : Mapping) → IsMapping ms i m → m.char ≡ char → ⊥) → (i : ℕ) → Holds first last count i char → ⊥
 lacks first last gives count gs ms char are say none i held =
     let listed = held.listed in
@@ -47,10 +49,12 @@ lacks first last gives count gs ms char are say none i held =
     let b = are.to i one.0 one.1 in
     let from = held.from in
     let to = held.to in
-    let has = say.none i one.0 char (one.0.glyph + (char - one.0.start)) one.1 (record { from = omega (arith, a, from); to = omega (arith, b, to); is = omega (arith, a, from) }) in
+    let has = say.none i one.0 char (one.0.glyph + (char - one.0.start)) one.1
+    (record { from = omega (arith, a, from); to = omega (arith, b, to); is = omega (arith, a, from) }) in
     none has.i has.mapping has.there has.char_is
 
-pub told_glyph : (first last : ℕ → ℕ) (gives : (i char : ℕ) → ℕ) (count : ℕ) (gs : List Group) (ms : List Mapping) (char glyph : ℕ) → Are first last gives count gs → Say gs ms → AllFit ms →
+pub told_glyph : (first last : ℕ → ℕ) (gives : (i char : ℕ) → ℕ) (count : ℕ) (gs : List Group) (ms : List Mapping) (char glyph : ℕ) →
+    Are first last gives count gs → Say gs ms → AllFit ms →
     IsGlyphOf first last gives count char glyph → IsGlyphIn ms char glyph
 told_glyph first last gives count gs ms char glyph are say fit of = record {
   given = λ i m there e.
@@ -60,8 +64,10 @@ told_glyph first last gives count gs ms char glyph are say fit of = record {
       let high = it.to in
       let is = it.is in
       let small = (fit i m there).glyph in
-      of.held one.i (is_first first last gives count gs ms char one.i one.group are say one.there (omega (arith, low, e)) (omega (arith, high, e)))
-      ∙ are.tell one.i one.group char m.glyph one.there (record { from = omega (arith, low, e); to = omega (arith, high, e); is = omega (arith, is, e) }) small;
+      of.held one.i (is_first first last gives count gs ms char one.i one.group are say one.there (omega (arith, low, e))
+      (omega (arith, high, e)))
+      ∙ are.tell one.i one.group char m.glyph one.there
+      (record { from = omega (arith, low, e); to = omega (arith, high, e); is = omega (arith, is, e) }) small;
   lost = λ none. of.lost (lacks first last gives count gs ms char are say none);
 }
 
@@ -79,16 +85,19 @@ length-groups_text (g ∷ gs) =
     let h = length-groups_text gs in
     omega (arith, e, f, h)
 
-groups_stand : {bytes : List ℕ} (at : ℕ) (gs : List Group) (i : ℕ) (g : Group) → IsGroup gs i g → Stands (groups_text gs) bytes at → Stands (group_text g) bytes (at + i * 12)
+groups_stand : {bytes : List ℕ} (at : ℕ) (gs : List Group) (i : ℕ) (g : Group) → IsGroup gs i g → Stands (groups_text gs) bytes at →
+    Stands (group_text g) bytes (at + i * 12)
 unfolding groups_text
 groups_stand at [] i g e s = absurd (cc)
 groups_stand {bytes = bytes} at (u ∷ us) zero g e s =
     let same : u ≡ g = cc in
     let here : at ≡ at + 0 * 12 = omega arith in
-    subst (λ k. Stands (group_text g) bytes k) here (subst (λ (x : Group). Stands (group_text x) bytes at) same (stands_first (group_text u) (groups_text us) s))
+    subst (λ k. Stands (group_text g) bytes k) here
+    (subst (λ (x : Group). Stands (group_text x) bytes at) same (stands_first (group_text u) (groups_text us) s))
 groups_stand {bytes = bytes} at (u ∷ us) (suc i) g e s =
     let on : at + 12 + i * 12 ≡ at + suc i * 12 = omega arith in
-    subst (λ k. Stands (group_text g) bytes k) on (groups_stand (at + 12) us i g e (stands_second (group_text u) (groups_text us) 12 (length-group_text u) s))
+    subst (λ k. Stands (group_text g) bytes k) on
+    (groups_stand (at + 12) us i g e (stands_second (group_text u) (groups_text us) 12 (length-group_text u) s))
 
 -- what a group says
 record Said (bytes : List ℕ) (at : ℕ) (g : Group) : Type 0 where
@@ -143,7 +152,8 @@ header12 table gs small s =
 gives_small : (n : ℕ) → n < 65536 → (if nat_lt n 65536 then n else 0) ≡ n
 gives_small n small = ap (λ b. if b then n else 0) (lt-ltb n 65536 small)
 
-pub are12 : (table : List ℕ) (gs : List Group) → GroupsFit gs → Header12 table gs → Are (first12 table) (last12 table) (gives12 table) (number_at table 12 4) gs
+pub are12 : (table : List ℕ) (gs : List Group) → GroupsFit gs → Header12 table gs → Are (first12 table) (last12 table) (gives12 table)
+    (number_at table 12 4) gs
 are12 table gs fit h = record {
   counted = h.counted;
   from = λ i g there. (one i g there).start;

@@ -25,16 +25,19 @@ length-row_text row (g ∷ gs) =
     let h = length-row_text row gs in
     omega (arith, e, f, h)
 
-row_stands : {bytes : List ℕ} (at : ℕ) (row : Row) (gs : List Group) (i : ℕ) (g : Group) → IsGroup gs i g → Stands (row_text row gs) bytes at → Stands (uint16 (row_number row g)) bytes (at + i * 2)
+row_stands : {bytes : List ℕ} (at : ℕ) (row : Row) (gs : List Group) (i : ℕ) (g : Group) → IsGroup gs i g →
+    Stands (row_text row gs) bytes at → Stands (uint16 (row_number row g)) bytes (at + i * 2)
 unfolding row_text
 row_stands at row [] i g e s = absurd (cc)
 row_stands {bytes = bytes} at row (u ∷ us) zero g e s =
     let same : u ≡ g = cc in
     let here : at ≡ at + 0 * 2 = omega arith in
-    subst (λ k. Stands (uint16 (row_number row g)) bytes k) here (subst (λ (x : Group). Stands (uint16 (row_number row x)) bytes at) same (stands_first (uint16 (row_number row u)) (row_text row us) s))
+    subst (λ k. Stands (uint16 (row_number row g)) bytes k) here
+    (subst (λ (x : Group). Stands (uint16 (row_number row x)) bytes at) same (stands_first (uint16 (row_number row u)) (row_text row us) s))
 row_stands {bytes = bytes} at row (u ∷ us) (suc i) g e s =
     let on : at + 2 + i * 2 ≡ at + suc i * 2 = omega arith in
-    subst (λ k. Stands (uint16 (row_number row g)) bytes k) on (row_stands (at + 2) row us i g e (stands_second (uint16 (row_number row u)) (row_text row us) 2 (length-uint16 (row_number row u)) s))
+    subst (λ k. Stands (uint16 (row_number row g)) bytes k) on
+    (row_stands (at + 2) row us i g e (stands_second (uint16 (row_number row u)) (row_text row us) 2 (length-uint16 (row_number row u)) s))
 
 row_small : (row : Row) (g : Group) → row_number row g < 2 ^ 16
 row_small End g = omega arith
@@ -42,7 +45,8 @@ row_small Start g = omega arith
 row_small Delta g = omega arith
 row_small Offset g = omega arith
 
-row_said : {bytes : List ℕ} (at : ℕ) (row : Row) (gs : List Group) (i : ℕ) (g : Group) → IsGroup gs i g → Stands (row_text row gs) bytes at → number_at bytes (at + i * 2) 2 ≡ row_number row g
+row_said : {bytes : List ℕ} (at : ℕ) (row : Row) (gs : List Group) (i : ℕ) (g : Group) → IsGroup gs i g →
+    Stands (row_text row gs) bytes at → number_at bytes (at + i * 2) 2 ≡ row_number row g
 row_said at row gs i g e s = uint16_stands (row_number row g) (row_small row g) (row_stands at row gs i g e s)
 
 pub length-rows_text : (gs : List Group) → length (rows_text gs) ≡ 2 + length gs * 8
@@ -94,7 +98,8 @@ head4 table count selector few s =
       counted = uint16_stands (count * 2) (omega arith) (stands_first (uint16 (count * 2)) e at6);
     }
 
-pub map4 : (table : List ℕ) (gs : List Group) (selector : ℕ) → length gs < 8002 → Stands (head4_text (length gs) selector ++ rows_text gs) table 0 → Map4 table gs
+pub map4 : (table : List ℕ) (gs : List Group) (selector : ℕ) → length gs < 8002 →
+    Stands (head4_text (length gs) selector ++ rows_text gs) table 0 → Map4 table gs
 unfolding rows_text
 map4 table gs selector few s =
     let n : ℕ = length gs in
@@ -129,31 +134,41 @@ pub record AreLow (gs : List Group) : Type 0 where
   pub ends : (i : ℕ) (g : Group) → IsGroup gs i g → g.end < 65536
 
 pub low_groups : (gs : List Group) (ms : List Mapping) → Say gs ms → ((i : ℕ) (m : Mapping) → IsMapping ms i m → m.char < 65536) → AreLow gs
-low_groups gs ms say low = record { starts = λ i g e. (let less = at_end i g e in let whole = say.whole i g e in omega (arith, less, whole)); ends = at_end }
+low_groups gs ms say low =
+    record { starts = λ i g e. (let less = at_end i g e in let whole = say.whole i g e in omega (arith, less, whole)); ends = at_end }
   where
     at_end : (i : ℕ) (g : Group) → IsGroup gs i g → g.end < 65536
     at_end i g e =
         let whole = say.whole i g e in
-        let has = say.none i g g.end (g.glyph + (g.end - g.start)) e (record { from = whole; to = omega arith; is = omega (arith, whole) }) in
+        let has = say.none i g g.end (g.glyph + (g.end - g.start)) e
+        (record { from = whole; to = omega arith; is = omega (arith, whole) }) in
         let less = low has.i has.mapping has.there in
         let same = has.char_is in
         omega (arith, less, same)
 
-zero_offset : (table : List ℕ) (count i char : ℕ) → offset4 table count i ≡ 0 → gives4 table count i char ≡ (char + delta4 table count i) % 65536
+zero_offset : (table : List ℕ) (count i char : ℕ) → offset4 table count i ≡ 0 →
+    gives4 table count i char ≡ (char + delta4 table count i) % 65536
 zero_offset table count i char e =
-    ap (λ b. if b then (char + delta4 table count i) % 65536 else if listed4 table (place4 table count i char) == 0 then 0 else (listed4 table (place4 table count i char) + delta4 table count i) % 65536) (eq-eqb (offset4 table count i) 0 e)
+    ap (λ b. if b then (char + delta4 table count i) % 65536 else if listed4 table
+    (place4 table count i char) == 0 then 0 else (listed4 table (place4 table count i char) + delta4 table count i) % 65536)
+    (eq-eqb (offset4 table count i) 0 e)
 
-pub are4 : (table : List ℕ) (gs : List Group) → AreLow gs → Map4 table gs → Are (first4 table (length gs)) (last4 table) (gives4 table (length gs)) (length gs) gs
+pub are4 : (table : List ℕ) (gs : List Group) → AreLow gs → Map4 table gs → Are (first4 table (length gs)) (last4 table)
+    (gives4 table (length gs)) (length gs) gs
 are4 table gs low m = record {
   counted = refl;
-  from = λ i g e. row_said (16 + length gs * 2) Start gs i g e m.starts ∙ (let less = low.starts i g e in let same : g.start % 65536 ≡ g.start = omega (arith, less) in same);
-  to = λ i g e. row_said 14 End gs i g e m.ends ∙ (let less = low.ends i g e in let same : g.end % 65536 ≡ g.end = omega (arith, less) in same);
+  from = λ i g e. row_said (16 + length gs * 2) Start gs i g e m.starts
+      ∙ (let less = low.starts i g e in let same : g.start % 65536 ≡ g.start = omega (arith, less) in same);
+  to = λ i g e. row_said 14 End gs i g e m.ends
+      ∙ (let less = low.ends i g e in let same : g.end % 65536 ≡ g.end = omega (arith, less) in same);
   tell = λ i g char glyph e gives small.
       let none = row_said (16 + length gs * 6) Offset gs i g e m.offsets in
-      let delta : delta4 table (length gs) i ≡ (g.glyph + 65536 - g.start % 65536) % 65536 = row_said (16 + length gs * 4) Delta gs i g e m.deltas in
+      let delta : delta4 table (length gs) i ≡ (g.glyph + 65536 - g.start % 65536) % 65536 = row_said
+      (16 + length gs * 4) Delta gs i g e m.deltas in
       let less = low.starts i g e in
       let is = gives.is in
-      zero_offset table (length gs) i char none ∙ (let sum : (char + delta4 table (length gs) i) % 65536 ≡ glyph = omega (arith, delta, less, is, small) in sum);
+      zero_offset table (length gs) i char none
+      ∙ (let sum : (char + delta4 table (length gs) i) % 65536 ≡ glyph = omega (arith, delta, less, is, small) in sum);
 }
 
 -- the character that ends all segments
@@ -166,7 +181,8 @@ pub end_in : (ms : List Mapping) → IsMapping (ms ++ end ∷ []) (length ms) en
 end_in [] = refl
 end_in (u ∷ us) = end_in us
 
-pub in_either : (ms : List Mapping) (i : ℕ) (m : Mapping) → IsMapping (ms ++ end ∷ []) i m → IsMapping ms i m ⊎ ((i ≡ length ms) × (end ≡ m))
+pub in_either : (ms : List Mapping) (i : ℕ) (m : Mapping) → IsMapping (ms ++ end ∷ []) i m →
+    IsMapping ms i m ⊎ ((i ≡ length ms) × (end ≡ m))
 in_either [] zero m e = inr (refl, (let same : Some end ≡ Some m = e in cc))
 in_either [] (suc i) m e = absurd (cc)
 in_either (u ∷ us) zero m e = inl e

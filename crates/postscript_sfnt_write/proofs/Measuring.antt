@@ -17,7 +17,8 @@ use Rattle.postscript_sfnt_write.proofs.Standing.{Stands, length-uint16, stands_
 abbrev pub none : Metric
 none = record { advance = 0; bearing = pos 0 }
 
-pub metrics_more : (metrics : List Metric) (i : ℕ) → i < length metrics → metrics_text (drop i metrics) ≡ metric_text (get_or metrics i none) ++ metrics_text (drop (i + 1) metrics)
+pub metrics_more : (metrics : List Metric) (i : ℕ) → i < length metrics →
+    metrics_text (drop i metrics) ≡ metric_text (get_or metrics i none) ++ metrics_text (drop (i + 1) metrics)
 unfolding metrics_text
 metrics_more metrics i h = at_drop_more metrics_text metrics i none h
 
@@ -48,28 +49,34 @@ length-metrics_text (m ∷ ms) =
     let g = length-metrics_text ms in
     omega (arith, e, f, g)
 
-metrics_stand : {bytes : List ℕ} (at : ℕ) (metrics : List Metric) (i : ℕ) (m : Metric) → IsMetric metrics i m → Stands (metrics_text metrics) bytes at → Stands (metric_text m) bytes (at + i * 4)
+metrics_stand : {bytes : List ℕ} (at : ℕ) (metrics : List Metric) (i : ℕ) (m : Metric) → IsMetric metrics i m →
+    Stands (metrics_text metrics) bytes at → Stands (metric_text m) bytes (at + i * 4)
 unfolding metrics_text
 metrics_stand at [] i m e s = absurd (cc)
 metrics_stand {bytes = bytes} at (u ∷ us) zero m e s =
     let same : u ≡ m = cc in
     let here : at ≡ at + 0 * 4 = omega arith in
-    subst (λ k. Stands (metric_text m) bytes k) here (subst (λ (x : Metric). Stands (metric_text x) bytes at) same (stands_first (metric_text u) (metrics_text us) s))
+    subst (λ k. Stands (metric_text m) bytes k) here
+    (subst (λ (x : Metric). Stands (metric_text x) bytes at) same (stands_first (metric_text u) (metrics_text us) s))
 metrics_stand {bytes = bytes} at (u ∷ us) (suc i) m e s =
     let on : at + 4 + i * 4 ≡ at + suc i * 4 = omega arith in
-    subst (λ k. Stands (metric_text m) bytes k) on (metrics_stand (at + 4) us i m e (stands_second (metric_text u) (metrics_text us) 4 (length-metric_text u) s))
+    subst (λ k. Stands (metric_text m) bytes k) on
+    (metrics_stand (at + 4) us i m e (stands_second (metric_text u) (metrics_text us) 4 (length-metric_text u) s))
 
 -- what is told of a glyph
 record Told (bytes : List ℕ) (i : ℕ) (m : Metric) : Type 0 where
   advance : number_at bytes (i * 4) 2 ≡ m.advance
   bearing : number_at bytes (i * 4 + 2) 2 ≡ cast_unsigned w16 m.bearing
 
-told : (bytes : List ℕ) (metrics : List Metric) → bytes ≡ metrics_text metrics → AllFit metrics → (i : ℕ) (m : Metric) → IsMetric metrics i m → Told bytes i m
+told : (bytes : List ℕ) (metrics : List Metric) → bytes ≡ metrics_text metrics → AllFit metrics → (i : ℕ) (m : Metric) →
+    IsMetric metrics i m → Told bytes i m
 unfolding metric_text
 told bytes metrics text fit i m e =
-    let whole : Stands (metrics_text metrics) bytes 0 = record { within = omega arith; behind = []; there = text ∙ sym (append-nil (metrics_text metrics)) } in
+    let whole : Stands (metrics_text metrics) bytes
+    0 = record { within = omega arith; behind = []; there = text ∙ sym (append-nil (metrics_text metrics)) } in
     let zero_on : 0 + i * 4 ≡ i * 4 = omega arith in
-    let here : Stands (metric_text m) bytes (i * 4) = subst (λ k. Stands (metric_text m) bytes k) zero_on (metrics_stand 0 metrics i m e whole) in
+    let here : Stands (metric_text m) bytes (i * 4) = subst (λ k. Stands (metric_text m) bytes k) zero_on
+    (metrics_stand 0 metrics i m e whole) in
     let a : List ℕ = uint16 m.advance in
     let b : List ℕ = uint16 (cast_unsigned w16 m.bearing) in
     record {
@@ -95,19 +102,22 @@ can_be_read bytes metrics text hhea word some =
     record { counted = word; some = some; room = omega (arith, long) }
 
 -- a table with another number
-pub has_word : (place n : ℕ) (old new : List ℕ) → place + 2 ≤ length old → n < 2 ^ 16 → new ≡ take place old ++ (uint16 n ++ drop (place + 2) old) → IsWord new place n
+pub has_word : (place n : ℕ) (old new : List ℕ) → place + 2 ≤ length old → n < 2 ^ 16 →
+    new ≡ take place old ++ (uint16 n ++ drop (place + 2) old) → IsWord new place n
 has_word place n old new room small text =
     let a : List ℕ = take place old in
     let b : List ℕ = uint16 n ++ drop (place + 2) old in
     let front : length a ≡ place = length-take-le place old (omega arith) in
     let whole : Stands (a ++ b) new 0 = record { within = omega arith; behind = []; there = text ∙ sym (append-nil (a ++ b)) } in
     let on : 0 + place ≡ place = omega arith in
-    let here : Stands (uint16 n) new place = subst (λ k. Stands (uint16 n) new k) on (stands_first (uint16 n) (drop (place + 2) old) (stands_second a b place front whole)) in
+    let here : Stands (uint16 n) new place = subst (λ k. Stands (uint16 n) new k) on
+    (stands_first (uint16 n) (drop (place + 2) old) (stands_second a b place front whole)) in
     let within = stands_within (uint16 n) here in
     let two = length-uint16 n in
     record { within = omega (arith, within, two); value = sym (uint16_stands n small here) }
 
-pub keeps_but : (place n : ℕ) (old new : List ℕ) → place + 2 ≤ length old → new ≡ take place old ++ (uint16 n ++ drop (place + 2) old) → KeepsBut place old new
+pub keeps_but : (place n : ℕ) (old new : List ℕ) → place + 2 ≤ length old → new ≡ take place old ++ (uint16 n ++ drop (place + 2) old) →
+    KeepsBut place old new
 keeps_but place n old new room text =
     let a : List ℕ = take place old in
     let c : List ℕ = drop (place + 2) old in
@@ -120,7 +130,8 @@ keeps_but place n old new room text =
     record {
       size = ap length text ∙ (let long : length (a ++ (uint16 n ++ c)) ≡ length old = omega (arith, front, e, f, g, two) in long);
       before = ap (take place) text ∙ take_at a (uint16 n ++ c) place front;
-      behind = ap (drop (place + 2)) (text ∙ sym (append_assoc a (uint16 n) c)) ∙ drop_at (a ++ uint16 n) c (place + 2) (omega (arith, head, front, two));
+      behind = ap (drop (place + 2)) (text ∙ sym (append_assoc a (uint16 n) c))
+          ∙ drop_at (a ++ uint16 n) c (place + 2) (omega (arith, head, front, two));
     }
 
 -- a table `post` of version 3.0

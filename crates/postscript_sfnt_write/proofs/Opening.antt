@@ -28,12 +28,15 @@ parts ts bytes w =
     let h = header_text (length ts) w.selector in
     let r = records_text (12 + length ts * 16) ts in
     let t = tables_text w.adjustment ts in
-    let whole : Stands ((h ++ r) ++ t) bytes 0 = record { within = omega arith; behind = []; there = w.text ∙ sym (append-nil ((h ++ r) ++ t)) } in
-    let e : length (h ++ r) ≡ 12 + length ts * 16 = length-append h r ∙ (let a = length-header_text (length ts) w.selector in let b = length-records_text (12 + length ts * 16) ts in omega (arith, a, b)) in
+    let whole : Stands ((h ++ r) ++ t) bytes
+    0 = record { within = omega arith; behind = []; there = w.text ∙ sym (append-nil ((h ++ r) ++ t)) } in
+    let e : length (h ++ r) ≡ 12 + length ts * 16 = length-append h r
+    ∙ (let a = length-header_text (length ts) w.selector in let b = length-records_text (12 + length ts * 16) ts in omega (arith, a, b)) in
     record {
       header = stands_first h r (stands_first (h ++ r) t whole);
       records = stands_second h r 12 (length-header_text (length ts) w.selector) (stands_first (h ++ r) t whole);
-      tables = (let none : 0 + (12 + length ts * 16) ≡ 12 + length ts * 16 = omega arith in subst (λ m. Stands t bytes m) none (stands_second (h ++ r) t (12 + length ts * 16) e whole));
+      tables = (let none : 0 + (12 + length ts * 16) ≡ 12 + length ts * 16 = omega arith in
+          subst (λ m. Stands t bytes m) none (stands_second (h ++ r) t (12 + length ts * 16) e whole));
       size = ap length w.text ∙ length-append (h ++ r) t ∙ (let b = length-tables_text w.adjustment ts in omega (arith, e, b));
     }
 
@@ -48,7 +51,8 @@ record Header (bytes : List ℕ) (count selector : ℕ) : Type 0 where
   logarithm : number_at bytes 8 2 ≡ selector
   shift : number_at bytes 10 2 ≡ count * 16 - 2 ^ selector * 16
 
-header_stands : {bytes : List ℕ} (count selector : ℕ) → count < 4096 → IsSelector count selector → Stands (header_text count selector) bytes 0 → Header bytes count selector
+header_stands : {bytes : List ℕ} (count selector : ℕ) → count < 4096 → IsSelector count selector →
+    Stands (header_text count selector) bytes 0 → Header bytes count selector
 unfolding header_text
 header_stands count selector few is s =
     let r : ℕ = 2 ^ selector * 16 in
@@ -75,7 +79,8 @@ record Fields (bytes : List ℕ) (at place : ℕ) (t : Table) : Type 0 where
   offset : number_at bytes (at + 8) 4 ≡ place
   size : number_at bytes (at + 12) 4 ≡ length t.bytes.now
 
-fields : {bytes : List ℕ} (at place : ℕ) (t : Table) → t.tag < 2 ^ 32 → place < 2 ^ 32 → length t.bytes.now < 2 ^ 32 → Stands (record_text place t) bytes at → Fields bytes at place t
+fields : {bytes : List ℕ} (at place : ℕ) (t : Table) → t.tag < 2 ^ 32 → place < 2 ^ 32 → length t.bytes.now < 2 ^ 32 →
+    Stands (record_text place t) bytes at → Fields bytes at place t
 unfolding record_text
 fields {bytes = bytes} at place t tagged low small s =
     let c : List ℕ = uint32 (length t.bytes.now) in
@@ -100,12 +105,14 @@ record Told (ts : List Table) (bytes : List ℕ) (i : ℕ) (t : Table) : Type 0 
   offset : offset_at bytes 0 i ≡ place_in (12 + length ts * 16) ts i
   within : place_in (12 + length ts * 16) ts i + room_of (length t.bytes.now) ≤ length bytes
 
-told : (ts : List Table) (bytes : List ℕ) (n selector : ℕ) → CanStand ts → AreTagged ts → Parts ts bytes n selector → (i : ℕ) (t : Table) → IsGiven ts i t → Told ts bytes i t
+told : (ts : List Table) (bytes : List ℕ) (n selector : ℕ) → CanStand ts → AreTagged ts → Parts ts bytes n selector → (i : ℕ)
+    (t : Table) → IsGiven ts i t → Told ts bytes i t
 told ts bytes n selector can tagged p i t e =
     let place : ℕ = place_in (12 + length ts * 16) ts i in
     let within : place + room_of (length t.bytes.now) ≤ 12 + length ts * 16 + rooms ts = place_within (12 + length ts * 16) ts i t e in
     let fits = can.fits in
-    let f : Fields bytes (12 + i * 16) place t = fields (12 + i * 16) place t (tagged i t e) (omega (arith, within, fits)) (omega (arith, within, fits))
+    let f : Fields bytes (12 + i * 16) place t = fields (12 + i * 16) place t (tagged i t e) (omega (arith, within, fits))
+    (omega (arith, within, fits))
     (records_stand (12 + length ts * 16) 12 ts i t e p.records) in
     record {
       told = record { tag = f.tag; sum = f.sum; size = f.size };
@@ -114,15 +121,18 @@ told ts bytes n selector can tagged p i t e =
     }
 
 -- the bytes between two places
-between : (bytes text : List ℕ) (from to place : ℕ) → from ≡ place → to - from ≡ length text → Stands text bytes place → slice_range bytes from to ≡ text
-between bytes text from to place e f s = ap (λ m. take m (drop from bytes)) f ∙ ap (λ m. take (length text) (drop m bytes)) e ∙ stands_slice text s
+between : (bytes text : List ℕ) (from to place : ℕ) → from ≡ place → to - from ≡ length text → Stands text bytes place →
+    slice_range bytes from to ≡ text
+between bytes text from to place e f s =
+    ap (λ m. take m (drop from bytes)) f ∙ ap (λ m. take (length text) (drop m bytes)) e ∙ stands_slice text s
 
 -- a table, and the zeros behind it
 first_stands : {bytes : List ℕ} {place : ℕ} (n : ℕ) (t : Table) → Stands (table_text n t) bytes place → Stands (in_file n t) bytes place
 unfolding table_text
 first_stands n t s = stands_first (in_file n t) (zeros (length t.bytes.now)) s
 
-zeros_stand : {bytes : List ℕ} {place : ℕ} (n : ℕ) (t : Table) → Stands (table_text n t) bytes place → Stands (zeros (length t.bytes.now)) bytes (place + length t.bytes.now)
+zeros_stand : {bytes : List ℕ} {place : ℕ} (n : ℕ) (t : Table) → Stands (table_text n t) bytes place →
+    Stands (zeros (length t.bytes.now)) bytes (place + length t.bytes.now)
 unfolding table_text
 zeros_stand n t s = stands_second (in_file n t) (zeros (length t.bytes.now)) (length t.bytes.now) (length-in_file n t) s
 
@@ -141,7 +151,8 @@ pub listed : (ts : List Table) (bytes : List ℕ) → CanStand ts → IsWritten 
 listed ts bytes can w i t e = (told ts bytes w.adjustment w.selector can w.tagged (parts ts bytes w) i t e).told
 
 -- where a face that is read from the file begins, and how many tables it has
-begins : (bytes : List ℕ) (count : ℕ) → Opens bytes count → number_at bytes 0 4 ≡ 0x4f54544f → (start : ℕ) → IsFace bytes 0 start → start ≡ 0
+begins : (bytes : List ℕ) (count : ℕ) → Opens bytes count → number_at bytes 0 4 ≡ 0x4f54544f → (start : ℕ) → IsFace bytes 0 start →
+    start ≡ 0
 begins bytes count it version start face = elim face [
   | inl only ↦ only.begins
   | inr other ↦ (let tag = other.header.tag in absurd (omega (arith, version, tag)))
@@ -193,7 +204,9 @@ lent ts bytes can w face of = record {
                 let named : tag_at bytes 0 k ≡ t.tag = names.named in
                 absurd (omega (arith, lower, is, named));
           };
-          slice = sym (between bytes (in_file w.adjustment t) (offset_at bytes 0 i) (offset_at bytes 0 i + length_at bytes 0 i) (place_in (12 + length ts * 16) ts i) off (omega (arith, size, long))
+          slice =
+              sym (between bytes (in_file w.adjustment t) (offset_at bytes 0 i) (offset_at bytes 0 i + length_at bytes 0 i)
+              (place_in (12 + length ts * 16) ts i) off (omega (arith, size, long))
               (first_stands w.adjustment t (tables_stand w.adjustment (12 + length ts * 16) ts i t e p.tables)));
         }
 
@@ -227,9 +240,12 @@ packed ts bytes can w = record {
     all = told ts bytes w.adjustment w.selector can w.tagged p
 
     ends : (i : ℕ) (t : Table) → IsGiven ts i t → end_of bytes i ≡ place_in (12 + length ts * 16) ts i + room_of (length t.bytes.now)
-    ends i t e = ap (λ m. m + room_of (length_at bytes 0 i)) (all i t e).offset ∙ ap (λ m. place_in (12 + length ts * 16) ts i + room_of m) (all i t e).told.size
+    ends i t e =
+        ap (λ m. m + room_of (length_at bytes 0 i)) (all i t e).offset
+        ∙ ap (λ m. place_in (12 + length ts * 16) ts i + room_of m) (all i t e).told.size
 
-    none : (i : ℕ) (t : Table) → IsGiven ts i t → All (λ byte. byte ≡ 0) (slice_range bytes (offset_at bytes 0 i + length_at bytes 0 i) (end_of bytes i))
+    none : (i : ℕ) (t : Table) → IsGiven ts i t → All (λ byte. byte ≡ 0)
+        (slice_range bytes (offset_at bytes 0 i + length_at bytes 0 i) (end_of bytes i))
     none i t e =
         let off = (all i t e).offset in
         let size = (all i t e).told.size in
@@ -237,8 +253,10 @@ packed ts bytes can w = record {
         let many = length-replicate {A = ℕ} (room_of (length t.bytes.now) - length t.bytes.now) 0 in
         let there = zeros_stand w.adjustment t (tables_stand w.adjustment (12 + length ts * 16) ts i t e p.tables) in
         let slice : slice_range bytes (offset_at bytes 0 i + length_at bytes 0 i) (end_of bytes i) ≡ zeros (length t.bytes.now) =
-        between bytes (zeros (length t.bytes.now)) (offset_at bytes 0 i + length_at bytes 0 i) (end_of bytes i) (place_in (12 + length ts * 16) ts i + length t.bytes.now) (omega (arith, off, size)) (omega (arith, off, size, end, many)) there in
-        subst (All (λ byte. byte ≡ 0)) (sym slice) (All-replicate (λ byte. byte ≡ 0) (room_of (length t.bytes.now) - length t.bytes.now) 0 refl)
+        between bytes (zeros (length t.bytes.now)) (offset_at bytes 0 i + length_at bytes 0 i) (end_of bytes i)
+        (place_in (12 + length ts * 16) ts i + length t.bytes.now) (omega (arith, off, size)) (omega (arith, off, size, end, many)) there in
+        subst (All (λ byte. byte ≡ 0)) (sym slice)
+        (All-replicate (λ byte. byte ≡ 0) (room_of (length t.bytes.now) - length t.bytes.now) 0 refl)
 
 pub searched : (ts : List Table) (bytes : List ℕ) → CanStand ts → IsWritten ts bytes → 0 < length ts → IsSearched bytes (length ts)
 searched ts bytes can w some =

@@ -80,13 +80,17 @@ unfolding header_text uint16 uint32
 length-header_text count selector = refl
 
 -- places
-pub place_within : (place : ℕ) (ts : List Table) (i : ℕ) (t : Table) → IsGiven ts i t → place_in place ts i + room_of (length t.bytes.now) ≤ place + rooms ts
+pub place_within : (place : ℕ) (ts : List Table) (i : ℕ) (t : Table) → IsGiven ts i t →
+    place_in place ts i + room_of (length t.bytes.now) ≤ place + rooms ts
 unfolding place_in rooms
 place_within place [] i t e = absurd (cc)
-place_within place (u ∷ us) zero t e = let same : room_of (length u.bytes.now) ≡ room_of (length t.bytes.now) = ap (λ (x : Table). room_of (length x.bytes.now)) (same_table u t e) in omega (arith, same)
+place_within place (u ∷ us) zero t e =
+    let same : room_of (length u.bytes.now) ≡ room_of (length t.bytes.now) = ap (λ (x : Table). room_of (length x.bytes.now))
+    (same_table u t e) in omega (arith, same)
 place_within place (u ∷ us) (suc i) t e = let within = place_within (place + room_of (length u.bytes.now)) us i t e in omega (arith, within)
 
-pub place_next : (place : ℕ) (ts : List Table) (i : ℕ) (t : Table) → IsGiven ts i t → place_in place ts (suc i) ≡ place_in place ts i + room_of (length t.bytes.now)
+pub place_next : (place : ℕ) (ts : List Table) (i : ℕ) (t : Table) → IsGiven ts i t →
+    place_in place ts (suc i) ≡ place_in place ts i + room_of (length t.bytes.now)
 unfolding place_in
 place_next place [] i t e = absurd (cc)
 place_next place (u ∷ us) zero t e = first us ∙ ap (λ (x : Table). place + room_of (length x.bytes.now)) (same_table u t e)
@@ -113,14 +117,16 @@ place_aligned place (t ∷ ts) zero h = h
 place_aligned place (t ∷ ts) (suc i) h = place_aligned (place + room_of (length t.bytes.now)) ts i (omega arith)
 
 -- what stands there
-pub records_stand : {bytes : List ℕ} (place at : ℕ) (ts : List Table) (i : ℕ) (t : Table) → IsGiven ts i t → Stands (records_text place ts) bytes at →
+pub records_stand : {bytes : List ℕ} (place at : ℕ) (ts : List Table) (i : ℕ) (t : Table) → IsGiven ts i t →
+    Stands (records_text place ts) bytes at →
     Stands (record_text (place_in place ts i) t) bytes (at + i * 16)
 unfolding records_text place_in
 records_stand place at [] i t e s = absurd (cc)
 records_stand {bytes = bytes} place at (u ∷ us) zero t e s =
     let none : at ≡ at + 0 * 16 = omega arith in
     subst (λ m. Stands (record_text place t) bytes m) none
-    (subst (λ (x : Table). Stands (record_text place x) bytes at) (same_table u t e) (stands_first (record_text place u) (records_text (place + room_of (length u.bytes.now)) us) s))
+    (subst (λ (x : Table). Stands (record_text place x) bytes at) (same_table u t e)
+    (stands_first (record_text place u) (records_text (place + room_of (length u.bytes.now)) us) s))
 records_stand {bytes = bytes} place at (u ∷ us) (suc i) t e s =
     let on : at + 16 + i * 16 ≡ at + suc i * 16 = omega arith in
     subst (λ m. Stands (record_text (place_in (place + room_of (length u.bytes.now)) us i) t) bytes m) on

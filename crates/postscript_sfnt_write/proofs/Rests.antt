@@ -20,7 +20,8 @@ unfolding rooms
 rooms_done tables i h = at_drop_all rooms tables i h
 
 pub records_more : (place : ℕ) (tables : List Table) (i : ℕ) → i < length tables →
-    records_text place (drop i tables) ≡ record_text place (get_or tables i empty) ++ records_text (place + room_of (length (get_or tables i empty).bytes.now)) (drop (i + 1) tables)
+    records_text place (drop i tables) ≡ record_text place (get_or tables i empty) ++ records_text
+    (place + room_of (length (get_or tables i empty).bytes.now)) (drop (i + 1) tables)
 unfolding records_text
 records_more place tables i h = at_drop_more (records_text place) tables i empty h
 

@@ -35,13 +35,15 @@ stands_within {bytes = bytes} {place = place} text s =
     omega (arith, length-drop place bytes)
 
 -- what stands behind the first of two texts, of so many bytes
-pub stands_second : {bytes : List ℕ} {place : ℕ} (a b : List ℕ) (n : ℕ) → length a ≡ n → Stands (a ++ b) bytes place → Stands b bytes (place + n)
+pub stands_second : {bytes : List ℕ} {place : ℕ} (a b : List ℕ) (n : ℕ) → length a ≡ n → Stands (a ++ b) bytes place →
+    Stands b bytes (place + n)
 stands_second {bytes = bytes} {place = place} a b n e s =
     let long : place + length a ≤ length bytes = stands_within a (stands_first a b s) in
     let there : Stands b bytes (place + length a) = record {
       within = long;
       behind = s.behind;
-      there = sym (drop-drop (length a) place bytes) ∙ ap (drop (length a)) (s.there ∙ append_assoc a b s.behind) ∙ drop-append_seam a (b ++ s.behind);
+      there = sym (drop-drop (length a) place bytes) ∙ ap (drop (length a)) (s.there ∙ append_assoc a b s.behind)
+          ∙ drop-append_seam a (b ++ s.behind);
     } in
     subst (λ m. Stands b bytes (place + m)) e there
 
@@ -62,9 +64,11 @@ value-uint16 n small = let e = from_be_bytes-to_be_bytes_2 n small in omega (ari
 pub uint32_stands : {bytes : List ℕ} {place : ℕ} (n : ℕ) → n < 2 ^ 32 → Stands (uint32 n) bytes place → number_at bytes place 4 ≡ n
 unfolding number_at
 uint32_stands {bytes = bytes} {place = place} n small s =
-    ap (λ m. big_endian (take m (drop place bytes))) (sym (length-uint32 n)) ∙ ap big_endian (stands_slice (uint32 n) s) ∙ value-uint32 n small
+    ap (λ m. big_endian (take m (drop place bytes))) (sym (length-uint32 n)) ∙ ap big_endian (stands_slice (uint32 n) s)
+    ∙ value-uint32 n small
 
 pub uint16_stands : {bytes : List ℕ} {place : ℕ} (n : ℕ) → n < 2 ^ 16 → Stands (uint16 n) bytes place → number_at bytes place 2 ≡ n
 unfolding number_at
 uint16_stands {bytes = bytes} {place = place} n small s =
-    ap (λ m. big_endian (take m (drop place bytes))) (sym (length-uint16 n)) ∙ ap big_endian (stands_slice (uint16 n) s) ∙ value-uint16 n small
+    ap (λ m. big_endian (take m (drop place bytes))) (sym (length-uint16 n)) ∙ ap big_endian (stands_slice (uint16 n) s)
+    ∙ value-uint16 n small

@@ -27,7 +27,8 @@ words_append (p ∷ q ∷ r ∷ s ∷ rest) b h =
     let n : ℕ = big_endian (p ∷ q ∷ r ∷ s ∷ []) in
     let f : sum (n ∷ words (rest ++ b)) ≡ n + sum (words (rest ++ b)) = sum-cons n (words (rest ++ b)) in
     let g : sum (n ∷ words rest) ≡ n + sum (words rest) = sum-cons n (words rest) in
-    f ∙ ap (λ m. n + m) e ∙ (let on : n + (sum (words rest) + sum (words b)) ≡ n + sum (words rest) + sum (words b) = omega arith in on) ∙ ap (λ m. m + sum (words b)) (sym g)
+    f ∙ ap (λ m. n + m) e ∙ (let on : n + (sum (words rest) + sum (words b)) ≡ n + sum (words rest) + sum (words b) = omega arith in on)
+    ∙ ap (λ m. m + sum (words b)) (sym g)
 
 pub length-uint32 : (n : ℕ) → length (uint32 n) ≡ 4
 unfolding uint32
@@ -42,7 +43,8 @@ unfolding uint32 words
 words-uint32 n b small = sum-cons (big_endian (uint32 n)) (words b) ∙ ap (λ m. m + sum (words b)) (value-uint32 n small)
 
 -- a table with a number for the whole file
-pub with_number : (n : ℕ) (table : Table) → adjusts table ≡ true → in_file n table ≡ take 8 table.bytes.now ++ (uint32 n ++ drop 12 table.bytes.now)
+pub with_number : (n : ℕ) (table : Table) → adjusts table ≡ true →
+    in_file n table ≡ take 8 table.bytes.now ++ (uint32 n ++ drop 12 table.bytes.now)
 with_number n table e = ap (λ b. if b then take 8 table.bytes.now ++ (uint32 n ++ drop 12 table.bytes.now) else table.bytes.now) e
 
 pub with_none : (n : ℕ) (table : Table) → adjusts table ≡ false → in_file n table ≡ table.bytes.now
@@ -53,11 +55,14 @@ adjusts-long table e = grind (arith, nat_tests)
 
 -- its sum
 pub sum_with : (n : ℕ) (bytes behind : List ℕ) → n < 2 ^ 32 → 11 < length bytes →
-    sum (words ((take 8 bytes ++ (uint32 n ++ drop 12 bytes)) ++ behind)) ≡ sum (words (take 8 bytes)) + (n + sum (words (drop 12 bytes ++ behind)))
+    sum (words ((take 8 bytes ++ (uint32 n ++ drop 12 bytes)) ++ behind)) ≡ sum
+    (words (take 8 bytes)) + (n + sum (words (drop 12 bytes ++ behind)))
 sum_with n bytes behind small long =
     let eight : length (take 8 bytes) ≡ 8 = length-take-le 8 bytes (omega arith) in
     let whole : length (take 8 bytes) % 4 ≡ 0 = omega arith in
-    ap (λ xs. sum (words xs)) (append_assoc (take 8 bytes) (uint32 n ++ drop 12 bytes) behind ∙ ap (λ xs. take 8 bytes ++ xs) (append_assoc (uint32 n) (drop 12 bytes) behind))
+    ap (λ xs. sum (words xs))
+    (append_assoc (take 8 bytes) (uint32 n ++ drop 12 bytes) behind
+    ∙ ap (λ xs. take 8 bytes ++ xs) (append_assoc (uint32 n) (drop 12 bytes) behind))
     ∙ words_append (take 8 bytes) (uint32 n ++ (drop 12 bytes ++ behind)) whole
     ∙ ap (λ m. sum (words (take 8 bytes)) + m) (words-uint32 n (drop 12 bytes ++ behind) small)
 

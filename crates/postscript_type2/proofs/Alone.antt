@@ -25,27 +25,36 @@ same-front (b ∷ v) fits = ap₂ (λ t n. cond t (1 + n) 0) (other-alone b fits
 
 -- which of eight bytes are others
 abbrev pub others : List ℕ → ℕ
-others v = mask_l (map (top 7) (zip2 (λ a b. cond (ltb a b) 255 0) (zip2 (λ a b. (a + (256 - b)) % 256) v (replicate 8 247)) (replicate 8 41))) % 2 ^ 64
+others v =
+    mask_l (map (top 7) (zip2 (λ a b. cond (ltb a b) 255 0) (zip2 (λ a b. (a + (256 - b)) % 256) v (replicate 8 247)) (replicate 8 41))) %
+    2 ^ 64
 
 others-are : (v : List ℕ) → length v ≡ 8 → others v ≡ mask_l (map other v)
 others-are v long =
-    ap (λ l. mask_l (map (top 7) (zip2 (λ a b. cond (ltb a b) 255 0) l (replicate 8 41))) % 2 ^ 64) (zip2_splat (λ a b. (a + (256 - b)) % 256) v 8 247 long)
+    ap (λ l. mask_l (map (top 7) (zip2 (λ a b. cond (ltb a b) 255 0) l (replicate 8 41))) % 2 ^ 64)
+    (zip2_splat (λ a b. (a + (256 - b)) % 256) v 8 247 long)
     ∙ bitmask_splat w8 ltb (map (λ b. (b + 9) % 256) v) 8 41 (length-map v (λ b. (b + 9) % 256) ∙ long) (omega arith)
     ∙ ap mask_l (map-map (λ b. ltb b 41) (λ b. (b + 9) % 256) v)
 
-first-other : (v : List ℕ) → length v ≡ 8 → Each1 (Fits w8) v → cond (eqb (others v) 0) 8 (count_trailing_zeros 64 (others v)) ≡ prefix_len is_alone v
+first-other : (v : List ℕ) → length v ≡ 8 → Each1 (Fits w8) v →
+    cond (eqb (others v) 0) 8 (count_trailing_zeros 64 (others v)) ≡ prefix_len is_alone v
 first-other v long fits =
-    ap (λ m. cond (eqb m 0) 8 (count_trailing_zeros 64 m)) (others-are v long) ∙ first_set_mask_l other v 8 long (omega arith) ∙ same-front v fits
+    ap (λ m. cond (eqb m 0) 8 (count_trailing_zeros 64 m)) (others-are v long) ∙ first_set_mask_l other v 8 long (omega arith)
+    ∙ same-front v fits
 
 pub all-alone : (v : List ℕ) → length v ≡ 8 → Each1 (Fits w8) v → others v ≡ 0 → 8 ≡ prefix_len is_alone v
 all-alone v long fits none = sym (ap (λ m. cond (eqb m 0) 8 (count_trailing_zeros 64 m)) none) ∙ first-other v long fits
 
 pub some-alone : (v : List ℕ) → length v ≡ 8 → Each1 (Fits w8) v → others v ≢ 0 → count_trailing_zeros 64 (others v) ≡ prefix_len is_alone v
-some-alone v long fits some = sym (ap (λ t. cond t 8 (count_trailing_zeros 64 (others v))) (ne_eqb (others v) 0 some)) ∙ first-other v long fits
+some-alone v long fits some =
+    sym (ap (λ t. cond t 8 (count_trailing_zeros 64 (others v))) (ne_eqb (others v) 0 some)) ∙ first-other v long fits
 
 -- the operands that stay of eight
-pub kept : (stack : List ℤ) (bytes : List ℕ) (n len : ℕ) → len ≡ length stack + n → take len (stack ++ map alone bytes) ≡ stack ++ map alone (take n bytes)
-kept stack bytes n len is = ap (λ k. take k (stack ++ map alone bytes)) is ∙ take-append-add stack (map alone bytes) n ∙ ap (λ xs. stack ++ xs) (take-map alone n bytes)
+pub kept : (stack : List ℤ) (bytes : List ℕ) (n len : ℕ) → len ≡ length stack + n →
+    take len (stack ++ map alone bytes) ≡ stack ++ map alone (take n bytes)
+kept stack bytes n len is =
+    ap (λ k. take k (stack ++ map alone bytes)) is ∙ take-append-add stack (map alone bytes) n
+    ∙ ap (λ xs. stack ++ xs) (take-map alone n bytes)
 
 -- those of the next eight bytes
 pub within : (n : ℕ) (bytes : List ℕ) → prefix_len is_alone (take n bytes) ≤ prefix_len is_alone bytes
@@ -53,7 +62,8 @@ within zero bytes = omega arith
 within (suc n) [] = omega arith
 within (suc n) (b ∷ bytes) = by_first (is_alone b) (within n bytes)
   where
-    by_first : (t : Bool) → prefix_len is_alone (take n bytes) ≤ prefix_len is_alone bytes → cond t (1 + prefix_len is_alone (take n bytes)) 0 ≤ cond t (1 + prefix_len is_alone bytes) 0
+    by_first : (t : Bool) → prefix_len is_alone (take n bytes) ≤ prefix_len is_alone bytes →
+        cond t (1 + prefix_len is_alone (take n bytes)) 0 ≤ cond t (1 + prefix_len is_alone bytes) 0
     by_first true ih = omega (arith, ih)
     by_first false ih = omega arith
 
@@ -78,7 +88,8 @@ front-alone (suc n) k stack [] few = absurd (omega arith)
 front-alone (suc n) k stack (b ∷ bytes) few = by_first (is_alone b) refl few (front-alone n (k + 1) (stack ++ alone b ∷ []) bytes)
   where
     by_first : (t : Bool) → is_alone b ≡ t → suc n ≤ cond t (1 + prefix_len is_alone bytes) 0 →
-        (n ≤ prefix_len is_alone bytes → fronted ((stack ++ alone b ∷ []) ++ map alone (take n bytes)) (k + 1 + n) (phrase (drop n bytes)) ≡ fronted (stack ++ alone b ∷ []) (k + 1) (phrase bytes)) →
+        (n ≤ prefix_len is_alone bytes → fronted ((stack ++ alone b ∷ []) ++ map alone (take n bytes)) (k + 1 + n)
+        (phrase (drop n bytes)) ≡ fronted (stack ++ alone b ∷ []) (k + 1) (phrase bytes)) →
         fronted (stack ++ alone b ∷ map alone (take n bytes)) (k + suc n) (phrase (drop n bytes)) ≡ fronted stack k (phrase (b ∷ bytes))
     by_first false is few ih = absurd (omega (arith, few))
     by_first true is few ih =

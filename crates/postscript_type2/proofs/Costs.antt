@@ -42,7 +42,8 @@ stride-by-has : (lists : Lists) (b : ℕ) (r : List ℕ) (st : State) (p : Parse
 stride-by-has lists b r st (NoPhrase e) = tt
 stride-by-has lists b r st (Complete numbers op more) = moved-has op more b r (pushed numbers st) _
 
-next-has : (lists : Lists) (left : ℕ) (behind : ℕ → List ℕ) (cs : List (List ℕ)) (s : Stride) → StrideHasByte s → HasByte (next_still lists left behind cs s).trace
+next-has : (lists : Lists) (left : ℕ) (behind : ℕ → List ℕ) (cs : List (List ℕ)) (s : Stride) → StrideHasByte s →
+    HasByte (next_still lists left behind cs s).trace
 next-has lists left behind cs (On said None st more) h = h
 next-has lists left behind cs (On said (Some answer) st more) h = h
 next-has lists zero behind cs (Into said routine st more) h = h
@@ -56,7 +57,8 @@ next-has lists left behind cs (Faults e) h = tt
 pub has-byte : (lists : Lists) (left : ℕ) (bytes : List ℕ) (cs : List (List ℕ)) (st : State) → HasByte (still lists left bytes cs st).trace
 has-byte lists left [] cs st = subst (λ (run : Run). HasByte run.trace) (sym (still_end lists left cs st)) tt
 has-byte lists left (b ∷ r) cs st =
-    subst (λ (run : Run). HasByte run.trace) (sym (still_step lists left b r cs st)) (next-has lists left (λ more. drop more r) cs (stride lists (b ∷ r) st) (stride-by-has lists b r st (phrase (b ∷ r))))
+    subst (λ (run : Run). HasByte run.trace) (sym (still_step lists left b r cs st))
+    (next-has lists left (λ more. drop more r) cs (stride lists (b ∷ r) st) (stride-by-has lists b r st (phrase (b ∷ r))))
 
 pub has : (machine : Machine) → HasByte (still_of machine).trace
 has machine = has-byte (lists_of machine.lists) machine.left machine.routine machine.callers (state_of machine.state)

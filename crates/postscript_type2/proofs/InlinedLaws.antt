@@ -32,7 +32,12 @@ pieced-length op bytes k phrases = grind (arith, within-past, length-append)
 pub no-longer : InlinedIsNoLonger
 no-longer [] = omega arith
 no-longer (said ∷ trace) =
-    omega (arith, pieced-length said.operator said.bytes (kind said.operator) (inlined trace), no-longer trace, length-append (flat_bytes said) (flat_text trace))
+    omega (
+      arith,
+      pieced-length said.operator said.bytes (kind said.operator) (inlined trace),
+      no-longer trace,
+      length-append (flat_bytes said) (flat_text trace),
+    )
 
 -- a phrase has more bytes than numbers
 number-some : (number : List ℕ) (x : ℤ) → IsNumber number x → 0 < length number
@@ -41,7 +46,8 @@ number-some number x h0 = grind arith
 phrase-long : (bytes : List ℕ) (numbers : List ℤ) (op : Operator) → IsPhrase bytes numbers op → length numbers < length bytes
 phrase-long bytes numbers op (spellings.operator code op' short is) = omega arith
 phrase-long bytes numbers op (spellings.escaped_operator second op' is) = omega arith
-phrase-long bytes numbers op (spellings.after_number number more x xs op' n p) = grind (arith, number-some, length-append, phrase-long more xs op' p, length-append number more)
+phrase-long bytes numbers op (spellings.after_number number more x xs op' n p) =
+    grind (arith, number-some, length-append, phrase-long more xs op' p, length-append number more)
 
 -- so one with a number has a last one
 some-last : (bytes : List ℕ) → 1 < length bytes → (front : List ℕ) × (before_last (without_operator bytes) ≡ Some front)
@@ -57,16 +63,20 @@ pieced-operators op bytes k is spells phrases = grind (arith, phrase-long, lengt
 
 inlined-operators : (trace : List Phrase) → All SpellsItsNumber trace → operators (inlined trace) ≡ filter is_flat (operators trace)
 inlined-operators [] spells = refl
-inlined-operators (said ∷ trace) spells = pieced-operators said.operator said.bytes (kind said.operator) refl (All-head SpellsItsNumber said trace spells) (inlined trace)
-    ∙ ap (λ ops. cond (is_flat said.operator) (said.operator ∷ ops) ops) (inlined-operators trace (All-tail SpellsItsNumber said trace spells))
+inlined-operators (said ∷ trace) spells =
+    pieced-operators said.operator said.bytes (kind said.operator) refl (All-head SpellsItsNumber said trace spells) (inlined trace)
+    ∙ ap (λ ops. cond (is_flat said.operator) (said.operator ∷ ops) ops)
+    (inlined-operators trace (All-tail SpellsItsNumber said trace spells))
 
 pub adds-none : (lists : Lists) (code : List ℕ) → fault_of (run_of lists code).end ≡ None →
     (other : Lists) → AddsNoOperator other (inlined_text (run_of lists code).trace) (run_of lists code)
-adds-none lists code none other spells = ap (λ r. operators r.trace) (run-is lists code none other) ∙ inlined-operators (run_of lists code).trace spells
+adds-none lists code none other spells =
+    ap (λ r. operators r.trace) (run-is lists code none other) ∙ inlined-operators (run_of lists code).trace spells
 
 -- the same of a result that is the inlined text
 pub adds-result : {V E : Type 0} (items : V → List ℕ) (lists : Lists) (code : List ℕ) (r : Result V E) →
     OnOk r (fault_of (run_of lists code).end ≡ None) → IfOk r (λ v. items v ≡ inlined_text (run_of lists code).trace) →
     IfOk r (λ v. (other : Lists) → AddsNoOperator other (items v) (run_of lists code))
-adds-result items lists code (Ok v) none is = λ other. subst (λ bytes. AddsNoOperator other bytes (run_of lists code)) (sym is) (adds-none lists code none other)
+adds-result items lists code (Ok v) none is =
+    λ other. subst (λ bytes. AddsNoOperator other bytes (run_of lists code)) (sym is) (adds-none lists code none other)
 adds-result items lists code (Err e) none is = tt

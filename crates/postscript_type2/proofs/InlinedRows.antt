@@ -31,14 +31,16 @@ of_code = refl
 length_of_code : inlined_len (run_of with_calls code).trace ≡ 12
 length_of_code = refl
 
-inlined_tells : Tells no_lists shorter ((HStem, n 1 ∷ n 2 ∷ []) ∷ (HintMask, []) ∷ (HMoveTo, n 1 ∷ []) ∷ (RLineTo, n 2 ∷ n 4 ∷ []) ∷ [], None, Some (n 3))
+inlined_tells : Tells no_lists shorter
+    ((HStem, n 1 ∷ n 2 ∷ []) ∷ (HintMask, []) ∷ (HMoveTo, n 1 ∷ []) ∷ (RLineTo, n 2 ∷ n 4 ∷ []) ∷ [], None, Some (n 3))
 inlined_tells = meant _ _ refl
 
 of_inlined : inlined_text (run_of no_lists shorter).trace ≡ shorter
 of_inlined = refl
 
 -- the last number in each of its forms: of one byte, of two, of three and of five
-last_of_each : before_last (0x8c ∷ 0xf7 ∷ 0x00 ∷ 0x1c ∷ 0x00 ∷ 0x20 ∷ 0xff ∷ 0x00 ∷ 0x20 ∷ 0x1c ∷ 0x00 ∷ []) ≡ Some (0x8c ∷ 0xf7 ∷ 0x00 ∷ 0x1c ∷ 0x00 ∷ 0x20 ∷ [])
+last_of_each : before_last (0x8c ∷ 0xf7 ∷ 0x00 ∷ 0x1c ∷ 0x00 ∷ 0x20 ∷ 0xff ∷ 0x00 ∷ 0x20 ∷ 0x1c ∷ 0x00 ∷ []) ≡ Some
+    (0x8c ∷ 0xf7 ∷ 0x00 ∷ 0x1c ∷ 0x00 ∷ 0x20 ∷ [])
 last_of_each = refl
 
 before_word : before_last (0x8c ∷ 0xfb ∷ 0x8c ∷ 0x1c ∷ 0x00 ∷ 0x20 ∷ []) ≡ Some (0x8c ∷ 0xfb ∷ 0x8c ∷ [])
@@ -54,9 +56,11 @@ none_at_all : before_last [] ≡ None
 none_at_all = refl
 
 -- the number of the call was added before it, by an operator: the top is dropped in its place
-by_a_sum : inlined_text (run_of with_calls (0x20 ∷ 0x8b ∷ 0x0c ∷ 0x0a ∷ 0x0a ∷ 0x0e ∷ [])).trace ≡ 0x20 ∷ 0x8b ∷ 0x0c ∷ 0x0a ∷ 0x0c ∷ 0x12 ∷ 0x13 ∷ 0x80 ∷ 0x8c ∷ 0x16 ∷ 0x8d ∷ 0x0e ∷ []
+by_a_sum : inlined_text (run_of with_calls
+    (0x20 ∷ 0x8b ∷ 0x0c ∷ 0x0a ∷ 0x0a ∷ 0x0e ∷ [])).trace ≡ 0x20 ∷ 0x8b ∷ 0x0c ∷ 0x0a ∷ 0x0c ∷ 0x12 ∷ 0x13 ∷ 0x80 ∷ 0x8c ∷ 0x16 ∷ 0x8d ∷ 0x0e ∷ []
 by_a_sum = refl
 
 -- a run that is used up behind a return: no operator takes what is left
-used_up : inlined_text (run_of with_calls (0x8c ∷ 0x8d ∷ 0x01 ∷ 0x20 ∷ 0x0a ∷ [])).trace ≡ 0x8c ∷ 0x8d ∷ 0x01 ∷ 0x13 ∷ 0x80 ∷ 0x8c ∷ 0x16 ∷ []
+used_up : inlined_text (run_of with_calls
+    (0x8c ∷ 0x8d ∷ 0x01 ∷ 0x20 ∷ 0x0a ∷ [])).trace ≡ 0x8c ∷ 0x8d ∷ 0x01 ∷ 0x13 ∷ 0x80 ∷ 0x8c ∷ 0x16 ∷ []
 used_up = refl

@@ -34,10 +34,12 @@ flat_of_code = refl
 length_of_code : flat_len (run_of with_calls code).trace ≡ 21
 length_of_code = refl
 
-code_tells : Tells with_calls code ((HStem, n 1 ∷ n 2 ∷ []) ∷ (HintMask, []) ∷ (HMoveTo, n 1 ∷ []) ∷ (RLineTo, n 2 ∷ n 4 ∷ []) ∷ [], None, Some (n 3))
+code_tells : Tells with_calls code
+    ((HStem, n 1 ∷ n 2 ∷ []) ∷ (HintMask, []) ∷ (HMoveTo, n 1 ∷ []) ∷ (RLineTo, n 2 ∷ n 4 ∷ []) ∷ [], None, Some (n 3))
 code_tells = meant _ _ refl
 
-flat_tells : Tells no_lists flat ((HStem, n 1 ∷ n 2 ∷ []) ∷ (HintMask, []) ∷ (HMoveTo, n 1 ∷ []) ∷ (RLineTo, n 2 ∷ n 4 ∷ []) ∷ [], None, Some (n 3))
+flat_tells : Tells no_lists flat
+    ((HStem, n 1 ∷ n 2 ∷ []) ∷ (HintMask, []) ∷ (HMoveTo, n 1 ∷ []) ∷ (RLineTo, n 2 ∷ n 4 ∷ []) ∷ [], None, Some (n 3))
 flat_tells = meant _ _ refl
 
 flat_of_flat : flat_text (run_of no_lists flat).trace ≡ flat

@@ -26,7 +26,8 @@ past-is (suc k) (b ∷ r) = grind (arith, map-two, past-is k r)
 abbrev Passes : {A : Type 0} → ℕ → Reading A → Type 0
 Passes {A} n reading = (r : List ℕ) (x : A) (next : ℕ) → reading r 0 ≡ Got x next → next ≡ n
 
-if-passes : {A : Type 0} (b : Bool) (first second : Reading A) (m n : ℕ) → Passes m first → Passes n second → Passes (if b then m else n) (if b then first else second)
+if-passes : {A : Type 0} (b : Bool) (first second : Reading A) (m n : ℕ) → Passes m first → Passes n second → Passes (if b then m else n)
+    (if b then first else second)
 if-passes true first second m n one two = one
 if-passes false first second m n one two = two
 
@@ -45,7 +46,9 @@ no-number : (n : ℕ) → Passes n (fault {A = ℤ} malformed_number)
 no-number n r x next is = absurd (cc)
 
 abbrev counted : ℕ → ℕ
-counted first = if first == 0x1c then 2 else if nat_lt first 0x20 then 0 else if nat_lt first 0xf7 then 0 else if nat_lt first 0xfb then 1 else if nat_lt first 0xff then 1 else 4
+counted first =
+    if first == 0x1c then 2 else if nat_lt first 0x20 then 0 else if nat_lt first 0xf7 then 0 else if nat_lt first
+    0xfb then 1 else if nat_lt first 0xff then 1 else 4
 
 -- a number has the bytes that its first one tells
 spelled-passes : (first : ℕ) → Passes (counted first) (spelled first)
@@ -79,7 +82,8 @@ LastOf k r (NoPhrase e) = Unit {0}
 skip : (k b : ℕ) (r : List ℕ) (p : Parsed) → LastOf k r p → LastOf (suc k) (b ∷ r) (passed p)
 skip k b r p l = grind arith
 
-number-last : (b : ℕ) (r : List ℕ) (x : ℤ) (j : ℕ) → is_number b ≡ true → spelled b r 0 ≡ Got x j → (numbers : List ℤ) (more : ℕ) (o : Option (List ℕ)) → Last j r numbers more o →
+number-last : (b : ℕ) (r : List ℕ) (x : ℤ) (j : ℕ) → is_number b ≡ true → spelled b r 0 ≡ Got x j → (numbers : List ℤ) (more : ℕ)
+    (o : Option (List ℕ)) → Last j r numbers more o →
     HasLast 0 (b ∷ r) (x ∷ numbers) (unless_last b o)
 number-last b r x j t e numbers more None l = record {
   before = [];
@@ -96,11 +100,14 @@ number-last b r x j t e numbers more (Some front) l = record {
   passes = omega arith;
   stands = ap (λ xs. b ∷ xs) l.stands;
   fronts = λ y.
-      ap (λ xs. phrase_after 0 (b ∷ (xs ++ y))) l.stands ∙ number-first b (take (length front) r ++ y) x j t (spelled-prompt b r y (length front) x j e l.passes)
-      ∙ ap (λ xs. with_number x (phrase_after j (xs ++ y))) (sym l.stands) ∙ ap (with_number x) (l.fronts y) ∙ with-fronted x l.before (length front) (phrase y);
+      ap (λ xs. phrase_after 0 (b ∷ (xs ++ y))) l.stands
+      ∙ number-first b (take (length front) r ++ y) x j t (spelled-prompt b r y (length front) x j e l.passes)
+      ∙ ap (λ xs. with_number x (phrase_after j (xs ++ y))) (sym l.stands) ∙ ap (with_number x) (l.fronts y)
+      ∙ with-fronted x l.before (length front) (phrase y);
 }
 
-more-last : (b : ℕ) (r : List ℕ) (x : ℤ) (j : ℕ) → is_number b ≡ true → spelled b r 0 ≡ Got x j → (p : Parsed) → LastOf j r p → LastOf 0 (b ∷ r) (with_number x p)
+more-last : (b : ℕ) (r : List ℕ) (x : ℤ) (j : ℕ) → is_number b ≡ true → spelled b r 0 ≡ Got x j → (p : Parsed) → LastOf j r p →
+    LastOf 0 (b ∷ r) (with_number x p)
 more-last b r x j t e (NoPhrase f) l = tt
 more-last b r x j t e (Complete numbers op more) l = λ short.
     number-last b r x j t e numbers more (before_last_past (behind_first b) (take more r)) (subst-behind (behind-is b r x j e) short)
@@ -134,6 +141,7 @@ last (suc k) (b ∷ r) = skip k b r (phrase_after k r) (last k r)
 last zero (b ∷ r) = head-by b r (λ j. last j r) (is_number b) refl
 
 -- the phrase at the front
-pub last-number : (r : List ℕ) (numbers : List ℤ) (op : Operator) (more : ℕ) → phrase r ≡ Complete numbers op more → stands_flat (kind op) ≡ false →
+pub last-number : (r : List ℕ) (numbers : List ℤ) (op : Operator) (more : ℕ) → phrase r ≡ Complete numbers op more →
+    stands_flat (kind op) ≡ false →
     Last 0 r numbers more (before_last_past 0 (take more r))
 last-number r numbers op more is = subst (LastOf 0 r) is (last 0 r)

@@ -14,7 +14,8 @@ use Rattle.postscript_type2.proofs.Fronts.{number-first}
 
 -- a reading that looks at no byte past its next place
 abbrev IsPrompt : {A : Type 0} → Reading A → Type 0
-IsPrompt {A} reading = (r y : List ℕ) (m : ℕ) (x : A) (next : ℕ) → reading r 0 ≡ Got x next → next ≤ m → reading (take m r ++ y) 0 ≡ Got x next
+IsPrompt {A} reading =
+    (r y : List ℕ) (m : ℕ) (x : A) (next : ℕ) → reading r 0 ≡ Got x next → next ≤ m → reading (take m r ++ y) 0 ≡ Got x next
 
 if-prompt : {A : Type 0} (b : Bool) (first second : Reading A) → IsPrompt first → IsPrompt second → IsPrompt (if b then first else second)
 if-prompt true first second one two = one
@@ -57,11 +58,19 @@ long-entry flat short more h is = grind arith
 long-later : (flat short more : Bool) → (flat || short) && more ≡ true → more ≡ true
 long-later flat short more h = grind arith
 
-long-in : (entries : List (ℕ × Operator)) (code : ℕ) (op : Operator) → all_short entries ≡ true → 0x0c00 ≤ code → lookup entries code ≡ Some op → stands_flat (kind op) ≡ true
+long-in : (entries : List (ℕ × Operator)) (code : ℕ) (op : Operator) → all_short entries ≡ true → 0x0c00 ≤ code →
+    lookup entries code ≡ Some op → stands_flat (kind op) ≡ true
 unfolding all_short
 long-in [] code op t h e = absurd (cc)
 long-in (entry ∷ entries) code op t h e =
-    grind (arith, long-later, all_short, nat_tests, long-entry, long-in entries code op (long-later (stands_flat (kind entry.1)) (nat_lt entry.0 0x0c00) (all_short entries) t) h)
+    grind (
+      arith,
+      long-later,
+      all_short,
+      nat_tests,
+      long-entry,
+      long-in entries code op (long-later (stands_flat (kind entry.1)) (nat_lt entry.0 0x0c00) (all_short entries) t) h,
+    )
 
 pub long-flat : (second : ℕ) (op : Operator) → operator_of (0x0c00 + second) ≡ Some op → stands_flat (kind op) ≡ true
 unfolding all_short
@@ -85,7 +94,8 @@ Local k r (NoPhrase e) = Unit {0}
 skip : (k b : ℕ) (r : List ℕ) (p : Parsed) → Local k r p → Local (suc k) (b ∷ r) (passed p)
 skip k b r p l = grind arith
 
-more-number : (b : ℕ) (r : List ℕ) (x : ℤ) (j : ℕ) → is_number b ≡ true → spelled b r 0 ≡ Got x j → (p : Parsed) → Local j r p → Local 0 (b ∷ r) (with_number x p)
+more-number : (b : ℕ) (r : List ℕ) (x : ℤ) (j : ℕ) → is_number b ≡ true → spelled b r 0 ≡ Got x j → (p : Parsed) → Local j r p →
+    Local 0 (b ∷ r) (with_number x p)
 more-number b r x j t e (NoPhrase f) l = tt
 more-number b r x j t e (Complete numbers op more) l = record {
   passes = omega arith;
@@ -94,20 +104,24 @@ more-number b r x j t e (Complete numbers op more) l = record {
       number-first b (take (suc more) r ++ y) x j t (spelled-prompt b r y (suc more) x j e (let h : j ≤ more = l.passes in omega arith))
       ∙ ap (with_number x) (l.stands y);
   fronts = λ short y.
-      number-first b (take more r ++ y) x j t (spelled-prompt b r y more x j e l.passes) ∙ ap (with_number x) (l.fronts short y) ∙ with-fronted x numbers more (phrase y);
+      number-first b (take more r ++ y) x j t (spelled-prompt b r y more x j e l.passes) ∙ ap (with_number x) (l.fronts short y)
+      ∙ with-fronted x numbers more (phrase y);
 }
 
 number-by : (b : ℕ) (r : List ℕ) → is_number b ≡ true → ((j : ℕ) → Local j r (phrase_after j r)) → (o : Outcome ℤ) → spelled b r 0 ≡ o →
     Local 0 (b ∷ r) (numbered o (λ j. phrase_after j r))
 number-by b r t ih o e = grind (arith, more-number)
 
-long-by : (b c : ℕ) (r : List ℕ) → is_number b ≡ false → (b == 0x0c) ≡ true → (o : Option Operator) → operator_of (0x0c00 + c) ≡ o → Local 0 (b ∷ c ∷ r) (with_operator 1 o)
+long-by : (b c : ℕ) (r : List ℕ) → is_number b ≡ false → (b == 0x0c) ≡ true → (o : Option Operator) → operator_of (0x0c00 + c) ≡ o →
+    Local 0 (b ∷ c ∷ r) (with_operator 1 o)
 long-by b c r t u o h = grind (arith, nat_tests)
 
-short-by : (b : ℕ) (r : List ℕ) → is_number b ≡ false → (b == 0x0c) ≡ false → (o : Option Operator) → operator_of b ≡ o → Local 0 (b ∷ r) (with_operator 0 o)
+short-by : (b : ℕ) (r : List ℕ) → is_number b ≡ false → (b == 0x0c) ≡ false → (o : Option Operator) → operator_of b ≡ o → Local 0 (b ∷ r)
+    (with_operator 0 o)
 short-by b r t u o h = grind arith
 
-ending-by : (b : ℕ) (r : List ℕ) → is_number b ≡ false → (long : Bool) → (b == 0x0c) ≡ long → Local 0 (b ∷ r) (if long then escaped r else with_operator 0 (operator_of b))
+ending-by : (b : ℕ) (r : List ℕ) → is_number b ≡ false → (long : Bool) → (b == 0x0c) ≡ long → Local 0 (b ∷ r)
+    (if long then escaped r else with_operator 0 (operator_of b))
 ending-by b [] t true u = tt
 ending-by b (c ∷ r) t true u = long-by b c r t u (operator_of (0x0c00 + c)) refl
 ending-by b r t false u = short-by b r t u (operator_of b) refl

@@ -12,7 +12,8 @@ use Rattle.postscript_type2.proofs.PhraseLaws.{reads-number, form, Stands, IsCut
 use Rattle.postscript_type2.proofs.Slices.{at-place, past-end}
 
 -- the first byte, and what stands behind it
-pub at-first : (bytes : List ℕ) (place b : ℕ) (r : List ℕ) → b ∷ r ≡ drop place bytes → number bytes place ≡ later (place + 1) (spelled b r 0)
+pub at-first : (bytes : List ℕ) (place b : ℕ) (r : List ℕ) → b ∷ r ≡ drop place bytes → number bytes place ≡ later (place + 1)
+    (spelled b r 0)
 unfolding number
 at-first bytes place b r e =
     let left = length-drop place bytes in
@@ -20,7 +21,8 @@ at-first bytes place b r e =
     let one : big_endian (take 1 (drop place bytes)) ≡ b = ap (λ xs. big_endian (take 1 xs)) (sym e) ∙ (omega arith) in
     let there : drop (place + 1) bytes ≡ r = sym (drop-drop 1 place bytes) ∙ ap (drop 1) (sym e) in
     let read = at-place 1 bytes place (omega arith) in
-    ap (λ o. after o (λ first at. spelled first bytes at)) read ∙ ap (λ first. spelled first bytes (place + 1)) one ∙ spelled-local b bytes (place + 1) ∙ ap (λ r. later (place + 1) (spelled b r 0)) there
+    ap (λ o. after o (λ first at. spelled first bytes at)) read ∙ ap (λ first. spelled first bytes (place + 1)) one
+    ∙ spelled-local b bytes (place + 1) ∙ ap (λ r. later (place + 1) (spelled b r 0)) there
 
 all : (bytes : List ℕ) (place : ℕ) (bits : ℤ) (next : ℕ) → IsNumberAt bytes place bits next → number bytes place ≡ Got bits next
 all bytes place bits next h =
@@ -28,7 +30,8 @@ all bytes place bits next h =
     let b = r.0 in
     let s = r.1 in
     let tail = drop (length h.spelling) (drop place bytes) in
-    let parts : b ∷ (s ++ tail) ≡ drop place bytes = ap (λ xs. xs ++ tail) (sym r.2) ∙ ap (λ xs. xs ++ tail) (sym h.stands) ∙ take-append-drop (length h.spelling) (drop place bytes) in
+    let parts : b ∷ (s ++ tail) ≡ drop place bytes = ap (λ xs. xs ++ tail) (sym r.2) ∙ ap (λ xs. xs ++ tail) (sym h.stands)
+    ∙ take-append-drop (length h.spelling) (drop place bytes) in
     let long : length h.spelling ≡ suc (length s) = ap length r.2 in
     let behind = h.behind in
     let last : place + 1 + length s ≡ next = omega arith in
@@ -42,7 +45,8 @@ only : (bytes : List ℕ) (place : ℕ) (bits : ℤ) (next : ℕ) → number byt
 unfolding number
 only bytes place bits next e = by (drop place bytes) refl
   where
-    found : (b : ℕ) (r : List ℕ) → b ∷ r ≡ drop place bytes → Stands b r ⊎ IsCut b r → later (place + 1) (spelled b r 0) ≡ Got bits next → IsNumberAt bytes place bits next
+    found : (b : ℕ) (r : List ℕ) → b ∷ r ≡ drop place bytes → Stands b r ⊎ IsCut b r → later (place + 1) (spelled b r 0) ≡ Got bits next →
+        IsNumberAt bytes place bits next
     found b r h (inl (more, x, read, is, within)) got =
         let same : Got x (place + 1 + more) ≡ Got bits next = sym (ap (later (place + 1)) read) ∙ got in
         let value : x ≡ bits = cc in
@@ -54,16 +58,20 @@ only bytes place bits next e = by (drop place bytes) refl
           stands = ap (take (suc (length (take more r)))) (sym h) ∙ ap (λ n. b ∷ take n r) taken;
           behind = omega arith;
         }
-    found b r h (inr (missing, x, read, other, is)) got = let never : Fault unexpected_eof ≡ Got bits next = sym (ap (later (place + 1)) read) ∙ got in absurd (cc)
+    found b r h (inr (missing, x, read, other, is)) got =
+        let never : Fault unexpected_eof ≡ Got bits next = sym (ap (later (place + 1)) read) ∙ got in absurd (cc)
 
-    tested : (b : ℕ) (r : List ℕ) (t : Bool) → is_number b ≡ t → b ∷ r ≡ drop place bytes → later (place + 1) (spelled b r 0) ≡ Got bits next → IsNumberAt bytes place bits next
+    tested : (b : ℕ) (r : List ℕ) (t : Bool) → is_number b ≡ t → b ∷ r ≡ drop place bytes → later (place + 1)
+        (spelled b r 0) ≡ Got bits next → IsNumberAt bytes place bits next
     tested b r true t h got = found b r h (number-at b r (form b t)) got
-    tested b r false t h got = let never : Fault malformed_number ≡ Got bits next = sym (ap (later (place + 1)) (no-number b r t)) ∙ got in absurd (cc)
+    tested b r false t h got =
+        let never : Fault malformed_number ≡ Got bits next = sym (ap (later (place + 1)) (no-number b r t)) ∙ got in absurd (cc)
 
     by : (rest : List ℕ) → rest ≡ drop place bytes → IsNumberAt bytes place bits next
     by [] h =
         let left : 0 ≡ length bytes - place = ap length h ∙ length-drop place bytes in
-        let ended : end ≡ Got bits next = sym (ap (λ o. after o (λ first at. spelled first bytes at)) (past-end 1 bytes place (omega arith))) ∙ e in absurd (cc)
+        let ended : end ≡ Got bits next = sym
+        (ap (λ o. after o (λ first at. spelled first bytes at)) (past-end 1 bytes place (omega arith))) ∙ e in absurd (cc)
     by (b ∷ r) h = tested b r (is_number b) refl h (sym (at-first bytes place b r h) ∙ e)
 
 pub reads_numbers : ReadsNumbers

@@ -53,7 +53,8 @@ reads-bits : (b : ℕ) (r : List ℕ) → 0xff ≤ b → spelled b r 0 ≡ four 
 reads-bits b r low = grind arith
 
 -- the bytes behind the first one, where they are there and where they are cut
-unsigned-there : (n : ℕ) (f : ℕ → ℤ) (bytes : List ℕ) → n ≤ length bytes → (unsigned n >>= λ v. pure (f v)) bytes 0 ≡ Got (f (big_endian (take n bytes))) n
+unsigned-there : (n : ℕ) (f : ℕ → ℤ) (bytes : List ℕ) → n ≤ length bytes →
+    (unsigned n >>= λ v. pure (f v)) bytes 0 ≡ Got (f (big_endian (take n bytes))) n
 unfolding unsigned slice
 unsigned-there n f bytes h = grind arith
 
@@ -66,21 +67,25 @@ is-number b h = either (b == 0x1c) (nat_lt 0x1f b) (lt-ltb 0x1f b (omega (arith,
 
 -- a number is read, whatever follows it
 abbrev pub ReadsSo : List ℕ → ℤ → Type 0
-ReadsSo number x = (b : ℕ) × (s : List ℕ) × (number ≡ b ∷ s) × (is_number b ≡ true) × ((tail : List ℕ) → spelled b (s ++ tail) 0 ≡ Got x (length s))
+ReadsSo number x =
+    (b : ℕ) × (s : List ℕ) × (number ≡ b ∷ s) × (is_number b ≡ true) × ((tail : List ℕ) → spelled b (s ++ tail) 0 ≡ Got x (length s))
 
 pub reads-number : (number : List ℕ) (x : ℤ) → IsNumber number x → ReadsSo number x
-reads-number number x (spellings.of_two_bytes a b) = (0x1c, a ∷ b ∷ [], refl, refl, λ tail. unsigned-there 2 (λ n. whole (two_sided 0x8000 n)) (a ∷ b ∷ tail) (omega arith))
+reads-number number x (spellings.of_two_bytes a b) =
+    (0x1c, a ∷ b ∷ [], refl, refl, λ tail. unsigned-there 2 (λ n. whole (two_sided 0x8000 n)) (a ∷ b ∷ tail) (omega arith))
 reads-number number x (spellings.small b low high) = (b, [], refl, is-number b low, λ tail. reads-small b tail low high)
 reads-number number x (spellings.positive b second low high) =
     (b, second ∷ [], refl, is-number b (omega (arith, low)), λ tail. reads-above b (second ∷ tail) low high ∙ by_one b second tail)
   where
     by_one : (b second : ℕ) (tail : List ℕ) → one_above b (second ∷ tail) 0 ≡ Got (whole (above b second)) 1
-    by_one b second tail = unsigned-there 1 (λ s. whole (above b s)) (second ∷ tail) (omega arith) ∙ ap (λ s. Got (whole (above b s)) 1) (omega arith)
+    by_one b second tail =
+        unsigned-there 1 (λ s. whole (above b s)) (second ∷ tail) (omega arith) ∙ ap (λ s. Got (whole (above b s)) 1) (omega arith)
 reads-number number x (spellings.negative b second low high) =
     (b, second ∷ [], refl, is-number b (omega (arith, low)), λ tail. reads-below b (second ∷ tail) low high ∙ by_one b second tail)
   where
     by_one : (b second : ℕ) (tail : List ℕ) → one_below b (second ∷ tail) 0 ≡ Got (whole (below b second)) 1
-    by_one b second tail = unsigned-there 1 (λ s. whole (below b s)) (second ∷ tail) (omega arith) ∙ ap (λ s. Got (whole (below b s)) 1) (omega arith)
+    by_one b second tail =
+        unsigned-there 1 (λ s. whole (below b s)) (second ∷ tail) (omega arith) ∙ ap (λ s. Got (whole (below b s)) 1) (omega arith)
 reads-number number x (spellings.of_bits b a c d e low) = (
   b,
   a ∷ c ∷ d ∷ e ∷ [],
@@ -93,7 +98,8 @@ pub same-next : (x y : ℤ) (m n : ℕ) → Got x m ≡ Got y n → m ≡ n
 same-next x y m n h = cc
 
 -- the same by the first byte
-spelled-front : (b : ℕ) (s : List ℕ) (x : ℤ) → IsNumber (b ∷ s) x → (tail : List ℕ) → (is_number b ≡ true) × (spelled b (s ++ tail) 0 ≡ Got x (length s))
+spelled-front : (b : ℕ) (s : List ℕ) (x : ℤ) → IsNumber (b ∷ s) x → (tail : List ℕ) →
+    (is_number b ≡ true) × (spelled b (s ++ tail) 0 ≡ Got x (length s))
 spelled-front b s x is tail = grind (arith, reads-number)
 
 -- the forms of a first byte
@@ -116,18 +122,47 @@ number-at b r (inl e) = subst (λ c. Stands c r ⊎ IsCut c r) (sym e) (at_two r
   where
     at_two : (r : List ℕ) → Stands 0x1c r ⊎ IsCut 0x1c r
     at_two [] = inr (0 ∷ 0 ∷ [], _, unsigned-cut 2 (λ n. whole (two_sided 0x8000 n)) [] (omega arith), λ e. cc, spellings.of_two_bytes 0 0)
-    at_two (a ∷ []) = inr (0 ∷ [], _, unsigned-cut 2 (λ n. whole (two_sided 0x8000 n)) (a ∷ []) (omega arith), λ e. cc, spellings.of_two_bytes a 0)
-    at_two (a ∷ c ∷ t) = inl (2, _, unsigned-there 2 (λ n. whole (two_sided 0x8000 n)) (a ∷ c ∷ t) (omega arith), spellings.of_two_bytes a c, omega arith)
+    at_two (a ∷ []) =
+        inr (0 ∷ [], _, unsigned-cut 2 (λ n. whole (two_sided 0x8000 n)) (a ∷ []) (omega arith), λ e. cc, spellings.of_two_bytes a 0)
+    at_two (a ∷ c ∷ t) =
+        inl (2, _, unsigned-there 2 (λ n. whole (two_sided 0x8000 n)) (a ∷ c ∷ t) (omega arith), spellings.of_two_bytes a c, omega arith)
 number-at b r (inr (inl h)) = inl (0, _, reads-small b r h.0 h.1, spellings.small b h.0 h.1, omega arith)
-number-at b [] (inr (inr (inl h))) = inr (0 ∷ [], _, reads-above b [] h.0 h.1 ∙ unsigned-cut 1 (λ s. whole (above b s)) [] (omega arith), λ e. cc, spellings.positive b 0 h.0 h.1)
+number-at b [] (inr (inr (inl h))) =
+    inr (
+      0 ∷ [],
+      _,
+      reads-above b [] h.0 h.1 ∙ unsigned-cut 1 (λ s. whole (above b s)) [] (omega arith),
+      λ e. cc,
+      spellings.positive b 0 h.0 h.1,
+    )
 number-at b (s ∷ t) (inr (inr (inl h))) =
     let n : big_endian (s ∷ []) ≡ s = omega arith in
-    inl (1, _, reads-above b (s ∷ t) h.0 h.1 ∙ unsigned-there 1 (λ s. whole (above b s)) (s ∷ t) (omega arith) ∙ ap (λ s. Got (whole (above b s)) 1) n, spellings.positive b s h.0 h.1, omega arith)
+    inl (
+      1,
+      _,
+      reads-above b (s ∷ t) h.0 h.1 ∙ unsigned-there 1 (λ s. whole (above b s)) (s ∷ t) (omega arith)
+          ∙ ap (λ s. Got (whole (above b s)) 1) n,
+      spellings.positive b s h.0 h.1,
+      omega arith,
+    )
 number-at b [] (inr (inr (inr (inl h)))) =
-    inr (0 ∷ [], _, reads-below b [] h.0 h.1 ∙ unsigned-cut 1 (λ s. whole (below b s)) [] (omega arith), λ e. cc, spellings.negative b 0 h.0 h.1)
+    inr (
+      0 ∷ [],
+      _,
+      reads-below b [] h.0 h.1 ∙ unsigned-cut 1 (λ s. whole (below b s)) [] (omega arith),
+      λ e. cc,
+      spellings.negative b 0 h.0 h.1,
+    )
 number-at b (s ∷ t) (inr (inr (inr (inl h)))) =
     let n : big_endian (s ∷ []) ≡ s = omega arith in
-    inl (1, _, reads-below b (s ∷ t) h.0 h.1 ∙ unsigned-there 1 (λ s. whole (below b s)) (s ∷ t) (omega arith) ∙ ap (λ s. Got (whole (below b s)) 1) n, spellings.negative b s h.0 h.1, omega arith)
+    inl (
+      1,
+      _,
+      reads-below b (s ∷ t) h.0 h.1 ∙ unsigned-there 1 (λ s. whole (below b s)) (s ∷ t) (omega arith)
+          ∙ ap (λ s. Got (whole (below b s)) 1) n,
+      spellings.negative b s h.0 h.1,
+      omega arith,
+    )
 number-at b r (inr (inr (inr (inr h)))) = at_four r
   where
     cut : (r : List ℕ) → length r < 4 → spelled b r 0 ≡ Fault unexpected_eof
@@ -139,7 +174,13 @@ number-at b r (inr (inr (inr (inr h)))) = at_four r
     at_four (a ∷ c ∷ []) = inr (0 ∷ 0 ∷ [], _, cut (a ∷ c ∷ []) (omega arith), λ e. cc, spellings.of_bits b a c 0 0 h)
     at_four (a ∷ c ∷ d ∷ []) = inr (0 ∷ [], _, cut (a ∷ c ∷ d ∷ []) (omega arith), λ e. cc, spellings.of_bits b a c d 0 h)
     at_four (a ∷ c ∷ d ∷ e ∷ t) =
-        inl (4, _, reads-bits b (a ∷ c ∷ d ∷ e ∷ t) h ∙ unsigned-there 4 (two_sided 0x80000000) (a ∷ c ∷ d ∷ e ∷ t) (omega arith), spellings.of_bits b a c d e h, omega arith)
+        inl (
+          4,
+          _,
+          reads-bits b (a ∷ c ∷ d ∷ e ∷ t) h ∙ unsigned-there 4 (two_sided 0x80000000) (a ∷ c ∷ d ∷ e ∷ t) (omega arith),
+          spellings.of_bits b a c d e h,
+          omega arith,
+        )
 
 -- a number before a phrase, or before what is none
 number-before : (number : List ℕ) (x : ℤ) → IsNumber number x → (tail : List ℕ) →
@@ -151,14 +192,16 @@ number-before number x is tail =
       length s,
       ap length read.2,
       ap (λ bytes. phrase (bytes ++ tail)) read.2 ∙ number-first b (s ++ tail) x (length s) read.3 (read.4 tail)
-          ∙ ap (with_number x) (phrase-from (length s) (s ++ tail) ∙ ap (λ rest. fronted [] (length s) (phrase rest)) (drop-append_seam s tail)),
+          ∙ ap (with_number x) (phrase-from (length s) (s ++ tail)
+          ∙ ap (λ rest. fronted [] (length s) (phrase rest)) (drop-append_seam s tail)),
     )
 
 -- an operator of one byte begins no number and is no escape
 pub no-number : (code : ℕ) (op : Operator) → code < 0x20 → operator_of code ≡ Some op → (is_number code ≡ false) × ((code == 0x0c) ≡ false)
 no-number code op low is = grind (arith, nat_tests)
 
-one-byte : (code : ℕ) (behind : List ℕ) → is_number code ≡ false → (code == 0x0c) ≡ false → phrase (code ∷ behind) ≡ with_operator 0 (operator_of code)
+one-byte : (code : ℕ) (behind : List ℕ) → is_number code ≡ false → (code == 0x0c) ≡ false →
+    phrase (code ∷ behind) ≡ with_operator 0 (operator_of code)
 one-byte code behind e f = grind arith
 
 pub reads-phrase : (p : List ℕ) (xs : List ℤ) (op : Operator) → IsPhrase p xs op → (behind : List ℕ) →
@@ -179,7 +222,8 @@ reads-phrase p xs op (spellings.after_number number more x xs' op' is later) beh
     )
 
 -- a cut number
-cut-phrase : (bytes missing w : List ℕ) (x : ℤ) → bytes ≢ [] → missing ≢ [] → w ≡ bytes ++ missing → IsNumber w x → phrase bytes ≡ NoPhrase unexpected_eof
+cut-phrase : (bytes missing w : List ℕ) (x : ℤ) → bytes ≢ [] → missing ≢ [] → w ≡ bytes ++ missing → IsNumber w x →
+    phrase bytes ≡ NoPhrase unexpected_eof
 cut-phrase [] missing w x some more e is = absurd (some refl)
 cut-phrase (b ∷ r) [] w x some more e is = absurd (more refl)
 cut-phrase (b ∷ r) (m ∷ ms) w x some more e is = by_read (number-at b r (form b begins))
@@ -191,13 +235,16 @@ cut-phrase (b ∷ r) (m ∷ ms) w x some more e is = by_read (number-at b r (for
     begins = (spelled-front b (r ++ m ∷ ms) x whole []).0
 
     by_read : Stands b r ⊎ IsCut b r → phrase (b ∷ r) ≡ NoPhrase unexpected_eof
-    by_read (inr cut) = ap (λ v. cond v (numbered (spelled b r 0) (λ more. phrase_after more r)) (ending b r)) begins ∙ ap (λ o. numbered o (λ more. phrase_after more r)) cut.2
+    by_read (inr cut) =
+        ap (λ v. cond v (numbered (spelled b r 0) (λ more. phrase_after more r)) (ending b r)) begins
+        ∙ ap (λ o. numbered o (λ more. phrase_after more r)) cut.2
     by_read (inl there) =
         let more = there.0 in
         let short = (spelled-front b (take more r) there.1 there.3 (drop more r ++ m ∷ ms)).1 in
         let long = (spelled-front b (r ++ m ∷ ms) x whole []).1 in
         let bytes : take more r ++ (drop more r ++ m ∷ ms) ≡ (r ++ m ∷ ms) ++ [] =
-        sym (append_assoc (take more r) (drop more r) (m ∷ ms)) ∙ ap (λ front. front ++ m ∷ ms) (take-append-drop more r) ∙ sym (append-nil (r ++ m ∷ ms)) in
+        sym (append_assoc (take more r) (drop more r) (m ∷ ms)) ∙ ap (λ front. front ++ m ∷ ms) (take-append-drop more r)
+        ∙ sym (append-nil (r ++ m ∷ ms)) in
         let same : Got there.1 (length (take more r)) ≡ Got x (length (r ++ m ∷ ms)) = sym short ∙ ap (λ l. spelled b l 0) bytes ∙ long in
         let ends : length (take more r) ≡ length (r ++ m ∷ ms) = same-next there.1 x (length (take more r)) (length (r ++ m ∷ ms)) same in
         let front : length (take more r) ≡ more = length-take-le more r there.4 in
@@ -208,8 +255,10 @@ cut-phrase (b ∷ r) (m ∷ ms) w x some more e is = by_read (number-at b r (for
 pub reads-no_phrase : (bytes : List ℕ) (e : Refusal) → HasNoPhrase bytes e → phrase bytes ≡ NoPhrase e
 reads-no_phrase bytes e spellings.no_operator = refl
 reads-no_phrase bytes e spellings.lone_escape = refl
-reads-no_phrase bytes e (spellings.cut_number bytes' missing x some more is) = cut-phrase bytes' missing (bytes' ++ missing) x some more refl is
-reads-no_phrase bytes e (spellings.no_such_operator code rest low other number is) = grind (arith, cut-phrase, one-byte, no-number_by, ne_eqb, number-before)
+reads-no_phrase bytes e (spellings.cut_number bytes' missing x some more is) =
+    cut-phrase bytes' missing (bytes' ++ missing) x some more refl is
+reads-no_phrase bytes e (spellings.no_such_operator code rest low other number is) =
+    grind (arith, cut-phrase, one-byte, no-number_by, ne_eqb, number-before)
 reads-no_phrase bytes e (spellings.no_such_escape second rest is) = ap (with_operator 1) is
 reads-no_phrase bytes e (spellings.behind_number number rest x e' is none) =
     let before = number-before number x is rest in
@@ -220,9 +269,12 @@ abbrev Spells : List ℕ → Parsed → Type 0
 Spells bytes (Complete xs op more) = IsPhrase (take (more + 1) bytes) xs op × (length (take (more + 1) bytes) ≡ more + 1)
 Spells bytes (NoPhrase e) = HasNoPhrase bytes e
 
-number-spells : (b : ℕ) (r : List ℕ) (more : ℕ) (x : ℤ) → IsNumber (b ∷ take more r) x → more ≤ length r → (q : Parsed) → Spells (drop more r) q →
+number-spells : (b : ℕ) (r : List ℕ) (more : ℕ) (x : ℤ) → IsNumber (b ∷ take more r) x → more ≤ length r → (q : Parsed) →
+    Spells (drop more r) q →
     Spells (b ∷ r) (with_number x (fronted [] more q))
-number-spells b r more x is room (NoPhrase e) none = subst (λ bytes. HasNoPhrase (b ∷ bytes) e) (take-append-drop more r) (spellings.behind_number (b ∷ take more r) (drop more r) x e is none)
+number-spells b r more x is room (NoPhrase e) none =
+    subst (λ bytes. HasNoPhrase (b ∷ bytes) e) (take-append-drop more r)
+    (spellings.behind_number (b ∷ take more r) (drop more r) x e is none)
 number-spells b r more x is room (Complete xs op n) spelled =
     let number = b ∷ take more r in
     let rest = drop more r in
@@ -230,11 +282,15 @@ number-spells b r more x is room (Complete xs op n) spelled =
     let count : suc (more + n) + 1 ≡ length number + (n + 1) = omega (arith, long) in
     let whole : number ++ rest ≡ b ∷ r = ap (λ bytes. b ∷ bytes) (take-append-drop more r) in
     let front : take (suc (more + n) + 1) (b ∷ r) ≡ number ++ take (n + 1) rest =
-    ap (λ bytes. take (suc (more + n) + 1) bytes) (sym whole) ∙ ap (λ k. take k (number ++ rest)) count ∙ take-append-add number rest (n + 1) in
-    let all : length (number ++ take (n + 1) rest) ≡ length number + length (take (n + 1) rest) = length-append number (take (n + 1) rest) in
+    ap (λ bytes. take (suc (more + n) + 1) bytes) (sym whole) ∙ ap (λ k. take k (number ++ rest)) count
+    ∙ take-append-add number rest (n + 1) in
+    let all : length (number ++ take (n + 1) rest) ≡ length number + length (take (n + 1) rest) = length-append number
+    (take (n + 1) rest) in
     let tail : length (take (n + 1) rest) ≡ n + 1 = spelled.1 in
-    let size : length (number ++ take (n + 1) rest) ≡ suc (more + n) + 1 = omega (arith, all, tail, long) in
-    (subst (λ bytes. IsPhrase bytes (x ∷ xs) op) (sym front) (spellings.after_number number (take (n + 1) rest) x xs op is spelled.0), ap length front ∙ size)
+    let size : length (number ++ take (n + 1) rest) ≡ suc (more + n) + 1 = omega (arith, all, tail, long) in (
+      subst (λ bytes. IsPhrase bytes (x ∷ xs) op) (sym front) (spellings.after_number number (take (n + 1) rest) x xs op is spelled.0),
+      ap length front ∙ size,
+    )
 
 operator-spells : (b : ℕ) (r : List ℕ) → is_number b ≡ false → Spells (b ∷ r) (ending b r)
 operator-spells b r other = by_escape (b == 0x0c) refl
@@ -242,7 +298,8 @@ operator-spells b r other = by_escape (b == 0x0c) refl
     low : b < 0x20
     low = omega (arith, ltb-false 0x1f b (neither (b == 0x1c) (nat_lt 0x1f b) other).1)
 
-    by_second : (second : ℕ) (t : List ℕ) (o : Option Operator) → operator_of (0x0c00 + second) ≡ o → Spells (0x0c ∷ second ∷ t) (with_operator 1 o)
+    by_second : (second : ℕ) (t : List ℕ) (o : Option Operator) → operator_of (0x0c00 + second) ≡ o → Spells (0x0c ∷ second ∷ t)
+        (with_operator 1 o)
     by_second second t (Some op) is = (spellings.escaped_operator second op is, refl)
     by_second second t None is = spellings.no_such_escape second t is
 
@@ -252,7 +309,8 @@ operator-spells b r other = by_escape (b == 0x0c) refl
 
     by_code : (o : Option Operator) → operator_of b ≡ o → (b == 0x0c) ≡ false → Spells (b ∷ r) (with_operator 0 o)
     by_code (Some op) is e = (spellings.operator b op low is, refl)
-    by_code None is e = spellings.no_such_operator b r low (eqb-false b 0x0c e) (eqb-false b 0x1c (neither (b == 0x1c) (nat_lt 0x1f b) other).0) is
+    by_code None is e =
+        spellings.no_such_operator b r low (eqb-false b 0x0c e) (eqb-false b 0x1c (neither (b == 0x1c) (nat_lt 0x1f b) other).0) is
 
     by_escape : (t : Bool) → (b == 0x0c) ≡ t → Spells (b ∷ r) (if t then escaped r else with_operator 0 (operator_of b))
     by_escape true e = subst (λ c. Spells (c ∷ r) (escaped r)) (sym (eqb-true b 0x0c e)) (by_rest r)
@@ -262,15 +320,19 @@ phrase-spells : (n : ℕ) (bytes : List ℕ) → length bytes ≤ n → Spells b
 phrase-spells n [] few = spellings.no_operator
 phrase-spells zero (b ∷ r) few = absurd (omega arith)
 phrase-spells (suc n) (b ∷ r) few =
-    by_first (λ more. phrase-spells n (drop more r) (let l : length (drop more r) ≡ length r - more = length-drop more r in omega (arith, l, few))) (is_number b) refl
+    by_first (λ more. phrase-spells n (drop more r)
+    (let l : length (drop more r) ≡ length r - more = length-drop more r in omega (arith, l, few))) (is_number b) refl
   where
-    by_number : ((more : ℕ) → Spells (drop more r) (phrase (drop more r))) → Stands b r ⊎ IsCut b r → Spells (b ∷ r) (numbered (spelled b r 0) (λ more. phrase_after more r))
+    by_number : ((more : ℕ) → Spells (drop more r) (phrase (drop more r))) → Stands b r ⊎ IsCut b r → Spells (b ∷ r)
+        (numbered (spelled b r 0) (λ more. phrase_after more r))
     by_number ih (inl there) =
         let more = there.0 in
-        subst (Spells (b ∷ r)) (sym (ap (λ o. numbered o (λ more. phrase_after more r)) there.2 ∙ ap (with_number there.1) (phrase-from more r)))
+        subst (Spells (b ∷ r)) (sym
+        (ap (λ o. numbered o (λ more. phrase_after more r)) there.2 ∙ ap (with_number there.1) (phrase-from more r)))
         (number-spells b r more there.1 there.3 there.4 (phrase (drop more r)) (ih more))
     by_number ih (inr cut) =
-        subst (Spells (b ∷ r)) (sym (ap (λ o. numbered o (λ more. phrase_after more r)) cut.2)) (spellings.cut_number (b ∷ r) cut.0 cut.1 (λ e. cc) cut.3 cut.4)
+        subst (Spells (b ∷ r)) (sym (ap (λ o. numbered o (λ more. phrase_after more r)) cut.2))
+        (spellings.cut_number (b ∷ r) cut.0 cut.1 (λ e. cc) cut.3 cut.4)
 
     by_first : ((more : ℕ) → Spells (drop more r) (phrase (drop more r))) → (t : Bool) → is_number b ≡ t →
         Spells (b ∷ r) (if t then numbered (spelled b r 0) (λ more. phrase_after more r) else ending b r)
@@ -287,12 +349,14 @@ no_phrase-spelled bytes e is = subst (Spells bytes) is (phrase-spells (length by
 pub phrase-law : PhraseIsRead
 phrase-law bytes xs op more = (there, λ h. back h.0 h.1 h.2 h.3 h.4)
   where
-    there : phrase bytes ≡ Complete xs op more → (front : List ℕ) × (behind : List ℕ) × (bytes ≡ front ++ behind) × (length front ≡ more + 1) × IsPhrase front xs op
+    there : phrase bytes ≡ Complete xs op more →
+        (front : List ℕ) × (behind : List ℕ) × (bytes ≡ front ++ behind) × (length front ≡ more + 1) × IsPhrase front xs op
     there is =
         let spelled = phrase-spelled bytes xs op more is in
         (take (more + 1) bytes, drop (more + 1) bytes, sym (take-append-drop (more + 1) bytes), spelled.1, spelled.0)
 
-    back : (front behind : List ℕ) → bytes ≡ front ++ behind → length front ≡ more + 1 → IsPhrase front xs op → phrase bytes ≡ Complete xs op more
+    back : (front behind : List ℕ) → bytes ≡ front ++ behind → length front ≡ more + 1 → IsPhrase front xs op →
+        phrase bytes ≡ Complete xs op more
     back front behind whole long is =
         let read = reads-phrase front xs op is behind in
         let l : length front ≡ read.0 + 1 = read.1 in

@@ -13,7 +13,8 @@ no_lists = record { global = []; local = [] }
 
 -- the end of the glyph alone
 end_alone : IsRunOf no_lists (0x0e ∷ []) (record { answers = []; trace = by EndChar (0x0e ∷ []) ∷ []; end = Finished [] None })
-end_alone = finishes 0 (0x0e ∷ []) [] [] EndChar start [] None (Finished [] None) (record { spelled = operator 0x0e EndChar (lit< tt) refl; does = refl }) (in_outermost [])
+end_alone = finishes 0 (0x0e ∷ []) [] [] EndChar start [] None (Finished [] None)
+    (record { spelled = operator 0x0e EndChar (lit< tt) refl; does = refl }) (in_outermost [])
 
 -- a subroutine that moves by one and returns
 abbrev moving : List ℕ
@@ -27,9 +28,19 @@ call_and_end : IsRunOf (record { global = []; local = moving ∷ [] }) (0x20 ∷
 })
 call_and_end =
     calls 0 (0x20 ∷ 0x0a ∷ []) (0x0e ∷ []) (whole (neg_ℤ (pos 107)) ∷ []) CallSubr start moving [] _ _ (cleared 0 None start) _ _ _
-    (record { spelled = after_number (0x20 ∷ []) (0x0a ∷ []) (whole (neg_ℤ (pos 107))) [] CallSubr (small 0x20 (lit≤ tt) (lit< tt)) (operator 0x0a CallSubr (lit< tt) refl); does = refl })
+    (record {
+      spelled = after_number (0x20 ∷ []) (0x0a ∷ []) (whole (neg_ℤ (pos 107))) [] CallSubr (small 0x20 (lit≤ tt) (lit< tt))
+          (operator 0x0a CallSubr (lit< tt) refl);
+      does = refl;
+    })
     (lit< tt)
     (clears 1 (0x8c ∷ 0x16 ∷ []) [] (0x0b ∷ []) (whole (pos 1) ∷ []) HMoveTo start (whole (pos 1) ∷ []) [] 0 None _ _ _
-    (record { spelled = after_number (0x8c ∷ []) (0x16 ∷ []) (whole (pos 1)) [] HMoveTo (small 0x8c (lit≤ tt) (lit< tt)) (operator 0x16 HMoveTo (lit< tt) refl); does = refl })
-    (returns 1 (0x0b ∷ []) [] [] Return (cleared 0 None start) (record { spelled = operator 0x0b Return (lit< tt) refl; does = refl }) (lit< tt)))
-    (finishes 0 (0x0e ∷ []) [] [] EndChar (cleared 0 None start) [] None (Finished [] None) (record { spelled = operator 0x0e EndChar (lit< tt) refl; does = refl }) (in_outermost []))
+    (record {
+      spelled = after_number (0x8c ∷ []) (0x16 ∷ []) (whole (pos 1)) [] HMoveTo (small 0x8c (lit≤ tt) (lit< tt))
+          (operator 0x16 HMoveTo (lit< tt) refl);
+      does = refl;
+    })
+    (returns 1 (0x0b ∷ []) [] [] Return (cleared 0 None start) (record { spelled = operator 0x0b Return (lit< tt) refl; does = refl })
+    (lit< tt)))
+    (finishes 0 (0x0e ∷ []) [] [] EndChar (cleared 0 None start) [] None (Finished [] None)
+    (record { spelled = operator 0x0e EndChar (lit< tt) refl; does = refl }) (in_outermost []))

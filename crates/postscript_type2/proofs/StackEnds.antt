@@ -30,10 +30,12 @@ pub ending : (xs : List ℤ) → Ending xs
 ending [] = nothing
 ending (a ∷ xs) = with_front a xs (ending xs)
 
-pub popped : {B : Type 0} (e : Refusal) (beneath : List ℤ) (x : ℤ) (next : ℤ → Work B) → (pop e >>= next) (beneath ++ x ∷ []) ≡ next x beneath
+pub popped : {B : Type 0} (e : Refusal) (beneath : List ℤ) (x : ℤ) (next : ℤ → Work B) → (pop e >>= next)
+    (beneath ++ x ∷ []) ≡ next x beneath
 popped e beneath x next = grind (arith, nat_tests, common_steps, get-seam, take-append_seam, length-append)
 
-pub whole-popped : {B : Type 0} (beneath : List ℤ) (n : ℤ) (next : ℤ → Work B) → (whole_operand >>= next) (beneath ++ whole n ∷ []) ≡ next n beneath
+pub whole-popped : {B : Type 0} (beneath : List ℤ) (n : ℤ) (next : ℤ → Work B) → (whole_operand >>= next)
+    (beneath ++ whole n ∷ []) ≡ next n beneath
 whole-popped beneath n next = grind (arith, popped, to_int-whole)
 
 pub two-last : (beneath : List ℤ) (a b : ℤ) → beneath ++ (a ∷ b ∷ []) ≡ (beneath ++ a ∷ []) ++ b ∷ []
@@ -42,14 +44,16 @@ two-last beneath a b = sym (append_assoc beneath (a ∷ []) (b ∷ []))
 pub one-last : (f : ℤ → Result ℤ Refusal) (beneath : List ℤ) (a : ℤ) → one_to_one f (beneath ++ a ∷ []) ≡ (given (f a) >>= push) beneath
 one-last f beneath a = popped expected_operand beneath a (λ a. given (f a) >>= push)
 
-pub two-lasts : (f : ℤ → ℤ → Result ℤ Refusal) (beneath : List ℤ) (a b : ℤ) → two_to_one f (beneath ++ (a ∷ b ∷ [])) ≡ (given (f a b) >>= push) beneath
+pub two-lasts : (f : ℤ → ℤ → Result ℤ Refusal) (beneath : List ℤ) (a b : ℤ) →
+    two_to_one f (beneath ++ (a ∷ b ∷ [])) ≡ (given (f a b) >>= push) beneath
 two-lasts f beneath a b = grind (arith, two-last, popped)
 
 -- four popped one after the other
 four-last : (beneath : List ℤ) (p q v w : ℤ) → beneath ++ (p ∷ q ∷ v ∷ w ∷ []) ≡ (((beneath ++ p ∷ []) ++ q ∷ []) ++ v ∷ []) ++ w ∷ []
 four-last beneath p q v w = simp append_assoc
 
-pub choice-last : (beneath : List ℤ) (p q v w : ℤ) → choice (beneath ++ (p ∷ q ∷ v ∷ w ∷ [])) ≡ Ok (tt, beneath ++ (if int_le v w then p else q) ∷ [])
+pub choice-last : (beneath : List ℤ) (p q v w : ℤ) →
+    choice (beneath ++ (p ∷ q ∷ v ∷ w ∷ [])) ≡ Ok (tt, beneath ++ (if int_le v w then p else q) ∷ [])
 choice-last beneath p q v w = grind (arith, four-last, popped)
 
 pub removal-last : (beneath : List ℤ) (a : ℤ) → removal (beneath ++ a ∷ []) ≡ Ok (tt, beneath)
@@ -59,12 +63,14 @@ pub exchange-last : (beneath : List ℤ) (a b : ℤ) → exchange (beneath ++ (a
 exchange-last beneath a b = grind (arith, two-last, popped)
 
 -- an operand so far down, and where none is
-pub below-there : (beneath : List ℤ) (x : ℤ) (above : List ℤ) → operand_below (length above) (beneath ++ x ∷ above) ≡ Ok (x, beneath ++ x ∷ above)
+pub below-there : (beneath : List ℤ) (x : ℤ) (above : List ℤ) → operand_below (length above)
+    (beneath ++ x ∷ above) ≡ Ok (x, beneath ++ x ∷ above)
 below-there beneath x above =
     let all : length (beneath ++ x ∷ above) ≡ length beneath + length (x ∷ above) = length-append beneath (x ∷ above) in
     let there : length (beneath ++ x ∷ above) - 1 - length above ≡ length beneath = omega (arith, all) in
     let test : nat_lt (length above) (length (beneath ++ x ∷ above)) ≡ true = grind (arith, nat_tests) in
-    let found : slice_get (beneath ++ x ∷ above) (length (beneath ++ x ∷ above) - 1 - length above) ≡ Some x = rw there (get-seam beneath x above) in
+    let found : slice_get (beneath ++ x ∷ above) (length (beneath ++ x ∷ above) - 1 - length above) ≡ Some x = rw there
+    (get-seam beneath x above) in
     ap (λ o. given (ok_or o expected_more_operands) (beneath ++ x ∷ above))
     (ap (λ b. if b then slice_get (beneath ++ x ∷ above) (length (beneath ++ x ∷ above) - 1 - length above) else None) test ∙ found)
 

@@ -9,4 +9,5 @@ exactly-taken m n h = greatest-is (exactly m) n m h (grind (arith, nat_tests)) (
 
 -- fours, and one more where it is there
 pub fours-taken : (n : ℕ) → 4 ≤ n → greatest curves_of_four n ≡ Some (n - (n % 4 - 1))
-fours-taken n h = greatest-is curves_of_four n (n - (n % 4 - 1)) (omega arith) (grind (arith, nat_tests)) (λ j above below. grind (arith, nat_tests))
+fours-taken n h =
+    greatest-is curves_of_four n (n - (n % 4 - 1)) (omega arith) (grind (arith, nat_tests)) (λ j above below. grind (arith, nat_tests))

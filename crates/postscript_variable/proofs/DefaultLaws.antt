@@ -14,7 +14,8 @@ zero-sum : (deltas : List ℤ) (scalars : List ℕ) → AreZero scalars → sum_
 zero-sum [] scalars h = refl
 zero-sum (delta ∷ deltas) [] h = refl
 zero-sum (delta ∷ deltas) (scalar ∷ scalars) h =
-    ap (λ s. scaled delta s +ℤ sum_of deltas scalars) h.0 ∙ ap (λ p. p +ℤ sum_of deltas scalars) (zero-scaled delta) ∙ ap (λ s. pos 0 +ℤ s) (zero-sum deltas scalars h.1)
+    ap (λ s. scaled delta s +ℤ sum_of deltas scalars) h.0 ∙ ap (λ p. p +ℤ sum_of deltas scalars) (zero-scaled delta)
+    ∙ ap (λ s. pos 0 +ℤ s) (zero-sum deltas scalars h.1)
 
 no-more : (x : ℤ) → x +ℤ pos 0 ≡ x
 no-more x = omega (arith, ints)

@@ -62,7 +62,8 @@ MoveListed move = Unit {0}
 fit-listed : (bits : ℤ) → ResultListed (fit bits)
 fit-listed bits = grind arith
 
-before-listed : (x : Result ℤ Refusal) (more : Result (List ℤ) Refusal) → ResultListed x → ResultListed more → ResultListed (before_all x more)
+before-listed : (x : Result ℤ Refusal) (more : Result (List ℤ) Refusal) → ResultListed x → ResultListed more →
+    ResultListed (before_all x more)
 before-listed x more h i = grind arith
 
 values-listed : (defaults deltas : List ℤ) (scalars : List ℕ) → ResultListed (values defaults deltas scalars)
@@ -85,7 +86,8 @@ top-listed st scalars n stack =
     let top = last_of stack (n * suc (length scalars)) in
     chosen-listed (nat_lt (length stack) (n * suc (length scalars))) expected_more_operands
     (blended st (take (length stack - n * suc (length scalars)) stack) (values (take n top) (drop n top) scalars))
-    more-listed (blended-listed st (take (length stack - n * suc (length scalars)) stack) (values (take n top) (drop n top) scalars) (values-listed (take n top) (drop n top) scalars))
+    more-listed (blended-listed st (take (length stack - n * suc (length scalars)) stack) (values (take n top) (drop n top) scalars)
+    (values-listed (take n top) (drop n top) scalars))
 
 many-listed : (st : State) (scalars : List ℕ) (n : ℤ) (stack : List ℤ) → MoveListed (blend_many st scalars n stack)
 many-listed st scalars (pos n) stack = top-listed st scalars n stack
@@ -117,7 +119,8 @@ abbrev StrideListed : Stride → Type 0
 StrideListed (Halts e) = Listed e
 StrideListed s = Unit {0}
 
-moved-listed : (stack : List ℤ) (behind : List ℕ) (more cost : ℕ) (m : Effect) → MoveListed m → StrideListed (moved stack behind more cost m)
+moved-listed : (stack : List ℤ) (behind : List ℕ) (more cost : ℕ) (m : Effect) → MoveListed m →
+    StrideListed (moved stack behind more cost m)
 moved-listed stack behind more cost m h = grind arith
 
 stride-listed : (font : Font) (r : List ℕ) (st : State) (t : Token) → TokenListed t → StrideListed (stride_by font r st t)
@@ -135,7 +138,8 @@ paced-ends : (callee : Callee) → CalleeEnds callee → (go : ℕ → State →
     (s : Stride) → StrideListed s → IsRunsEnd (paced callee go s).end
 paced-ends callee called go h s l = grind (arith, after-ends)
 
-routine-ends : (font : Font) (callee : Callee) → CalleeEnds callee → (k : ℕ) (r : List ℕ) (st : State) → IsRunsEnd (routine font callee k r st).end
+routine-ends : (font : Font) (callee : Callee) → CalleeEnds callee → (k : ℕ) (r : List ℕ) (st : State) →
+    IsRunsEnd (routine font callee k r st).end
 routine-ends font callee called zero [] st = tt
 routine-ends font callee called (suc k) [] st = tt
 routine-ends font callee called (suc k) (b ∷ r) st = routine-ends font callee called k r st

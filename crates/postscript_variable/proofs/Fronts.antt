@@ -17,7 +17,8 @@ use Rattle.postscript_variable.specs.Private.Remaining.{still, still_number, sti
 use Rattle.postscript_variable.specs.Private.Working.{ReadsFront}
 use Rattle.postscript_variable.proofs.Remains.{still-number, still-operator, still-unread}
 
-pub number-front : (font : Font) (left : ℕ) (old new : List ℕ) (cs : List (List ℕ)) (st : State) (x : ℤ) (size : ℕ) → ReadsFront old (Ok (Some (tokens.Number x, size))) new →
+pub number-front : (font : Font) (left : ℕ) (old new : List ℕ) (cs : List (List ℕ)) (st : State) (x : ℤ) (size : ℕ) →
+    ReadsFront old (Ok (Some (tokens.Number x, size))) new →
     still font left old cs st ≡ still_number font left new cs st size x
 number-front font left old new cs st x size h =
     ap (λ rest. still font left rest cs st) h.3 ∙ still-number font left h.0 h.1 cs st x h.2 h.4
@@ -35,11 +36,13 @@ operator-front font left old new cs st command size h =
 pub some-read : (read : Token × ℕ) (old new : List ℕ) → ReadsFront old (Ok (Some read)) new → 0 < read.1
 some-read read old new h = let size = h.5 in omega (arith, size)
 
-pub unread-front : (font : Font) (left : ℕ) (old new : List ℕ) (cs : List (List ℕ)) (st : State) (e : Refused) → ReadsFront old (Err e) new →
+pub unread-front : (font : Font) (left : ℕ) (old new : List ℕ) (cs : List (List ℕ)) (st : State) (e : Refused) →
+    ReadsFront old (Err e) new →
     still font left old cs st ≡ at_end (Stopped (reason e))
 unread-front font left old new cs st e h = ap (λ rest. still font left rest cs st) h.2 ∙ still-unread font left h.0 h.1 cs st (reason e) h.3
 
 -- an event is the first of what was still answered, where it is of a run that is the same
-pub advances-as : {before same : Run} (depth : ℕ) (r : Result Event Refused) (new : Machine) → before ≡ same → Advances same (2 * length same.costs + depth) r new →
+pub advances-as : {before same : Run} (depth : ℕ) (r : Result Event Refused) (new : Machine) → before ≡ same →
+    Advances same (2 * length same.costs + depth) r new →
     Advances before (2 * length before.costs + depth) r new
 advances-as depth r new is h = subst (λ (run : Run). Advances run (2 * length run.costs + depth) r new) (sym is) h

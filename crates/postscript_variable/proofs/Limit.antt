@@ -22,10 +22,12 @@ paid {limit} {left} {after} {price} {costs} {before} {rest} spends h is positive
     subst (λ n. Spends limit costs n rest.costs) (sym pays) (one_more left price rest.costs there (some left h) positive)
 
 -- one spending after another
-pub spends-on : {limit : ℕ} {costs : List ℕ} {between : ℕ} {half : List ℕ} {left : ℕ} {rest : List ℕ} → Spends limit costs between half → Spends between half left rest →
+pub spends-on : {limit : ℕ} {costs : List ℕ} {between : ℕ} {half : List ℕ} {left : ℕ} {rest : List ℕ} → Spends limit costs between half →
+    Spends between half left rest →
     Spends limit costs left rest
 spends-on first nothing = first
-spends-on first (one_more before price behind spends is_left positive) = one_more before price behind (spends-on first spends) is_left positive
+spends-on first (one_more before price behind spends is_left positive) =
+    one_more before price behind (spends-on first spends) is_left positive
 
 -- a limit above all costs leaves more than the rest of them, and what is left with them is what was there
 pub lasts : LimitLasts
@@ -47,8 +49,12 @@ spent limit costs left rest nothing = ([], refl, omega arith, inl refl)
 spent limit costs left rest (one_more before price behind spends is_left positive) =
     let all = spent limit costs before (price ∷ rest) spends in
     let read = all.0 in
-    let both = cost-append read (price ∷ []) in
-    (read ++ price ∷ [], all.1 ∙ sym (append_assoc read (price ∷ []) rest), omega (arith, both, all.2), inr (read, price, refl, omega (arith, all.2, is_left)))
+    let both = cost-append read (price ∷ []) in (
+      read ++ price ∷ [],
+      all.1 ∙ sym (append_assoc read (price ∷ []) rest),
+      omega (arith, both, all.2),
+      inr (read, price, refl, omega (arith, all.2, is_left)),
+    )
 
 -- at most as many are read as units of the limit are spent
 pub bounds : LimitBoundsSteps
@@ -63,14 +69,17 @@ over limit = ((refl, refl, refl), nothing)
 refused : (limit : ℕ) → StepsWithin failed limit (Err AlreadyFailed) failed limit
 refused limit = ((inr (refl, refl), refl), ([], nothing, inr refl))
 
-pub stays-over : {phase : Phase} (machine : Machine) {pending : Pending} (limit : ℕ) → phase ≡ phases.Ended → pending_of phase machine ≡ pending →
+pub stays-over : {phase : Phase} (machine : Machine) {pending : Pending} (limit : ℕ) → phase ≡ phases.Ended →
+    pending_of phase machine ≡ pending →
     StepsWithin pending limit (Ok End) (pending_of phase machine) limit
 stays-over {phase} machine {pending} limit is same =
     subst (λ p. StepsWithin p limit (Ok End) (pending_of phase machine) limit) same
     (subst (λ (ph : Phase). StepsWithin (pending_of ph machine) limit (Ok End) (pending_of ph machine) limit) (sym is) (over limit))
 
-pub stays-refused : {phase : Phase} (machine : Machine) {pending : Pending} (limit : ℕ) → phase ≡ phases.Failed → pending_of phase machine ≡ pending →
+pub stays-refused : {phase : Phase} (machine : Machine) {pending : Pending} (limit : ℕ) → phase ≡ phases.Failed →
+    pending_of phase machine ≡ pending →
     StepsWithin pending limit (Err AlreadyFailed) (pending_of phase machine) limit
 stays-refused {phase} machine {pending} limit is same =
     subst (λ p. StepsWithin p limit (Err AlreadyFailed) (pending_of phase machine) limit) same
-    (subst (λ (ph : Phase). StepsWithin (pending_of ph machine) limit (Err AlreadyFailed) (pending_of ph machine) limit) (sym is) (refused limit))
+    (subst (λ (ph : Phase). StepsWithin (pending_of ph machine) limit (Err AlreadyFailed) (pending_of ph machine) limit) (sym is)
+    (refused limit))

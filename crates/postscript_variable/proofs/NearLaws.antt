@@ -10,7 +10,8 @@ near-size : (m : ℕ) → IsWithinHalves (pos ((m + 32768) / 65536)) (pos m) 1
 near-size m = record { above = omega (arith, ints); below = omega (arith, ints) }
 
 turned : (sum exact : ℤ) (count : ℕ) → IsWithinHalves sum exact count → IsWithinHalves (neg_ℤ sum) (neg_ℤ exact) count
-turned sum exact count near = let a = near.above in let b = near.below in record { above = omega (arith, ints, b); below = omega (arith, ints, a) }
+turned sum exact count near =
+    let a = near.above in let b = near.below in record { above = omega (arith, ints, b); below = omega (arith, ints, a) }
 
 pub near-one : (delta : ℤ) (scalar : ℕ) → IsWithinHalves (scaled delta scalar) (delta *ℤ pos scalar) 1
 near-one (pos n) scalar = rw (above-zero n scalar) (near-size (n * scalar))
@@ -30,4 +31,5 @@ law [] [] e = record { above = omega (arith, ints); below = omega (arith, ints) 
 law [] (delta ∷ deltas) e = absurd (omega arith)
 law (scalar ∷ scalars) [] e = absurd (omega arith)
 law (scalar ∷ scalars) (delta ∷ deltas) e =
-    both (scaled delta scalar) (delta *ℤ pos scalar) (sum_of deltas scalars) (exact_sum deltas scalars) (length scalars) (near-one delta scalar) (law scalars deltas (omega arith))
+    both (scaled delta scalar) (delta *ℤ pos scalar) (sum_of deltas scalars) (exact_sum deltas scalars) (length scalars)
+    (near-one delta scalar) (law scalars deltas (omega arith))

@@ -27,7 +27,8 @@ passes-on first next = record {
 }
 
 -- a subroutine that is left
-pub goes-back : {before : Run} {work limit left : ℕ} {between new : Machine} → Passes before work limit between left → still_of between ≡ still_of new →
+pub goes-back : {before : Run} {work limit left : ℕ} {between new : Machine} → Passes before work limit between left →
+    still_of between ≡ still_of new →
     work_of (still_of new) new < work_of (still_of between) between → Passes before work limit new left
 goes-back {before} {work} {limit} {left} first same falls = record {
   answers = sym (ap (λ (run : Run). run.answers) same) ∙ first.answers;
@@ -39,7 +40,8 @@ goes-back {before} {work} {limit} {left} first same falls = record {
 
 -- a number or an operator, which is paid
 pub goes-on : {before : Run} {work limit left after price : ℕ} {between new : Machine} → Passes before work limit between left → left ≢ 0 →
-    still_of between ≡ with_step price (still_of new) → 0 < price → after ≡ left - price → work_of (still_of new) new < work_of (still_of between) between →
+    still_of between ≡ with_step price (still_of new) → 0 < price → after ≡ left - price → work_of (still_of new) new < work_of
+    (still_of between) between →
     Passes before work limit new after
 goes-on first some same positive pays falls = record {
   answers = sym (ap (λ (run : Run). run.answers) same) ∙ first.answers;
@@ -50,7 +52,8 @@ goes-on first some same positive pays falls = record {
 }
 
 -- the end without fault, and a refusal
-pub used-up : {before : Run} {work limit left : ℕ} {between : Machine} (st : State) → Passes before work limit between left → still_of between ≡ at_end (UsedUp st) →
+pub used-up : {before : Run} {work limit left : ℕ} {between : Machine} (st : State) → Passes before work limit between left →
+    still_of between ≡ at_end (UsedUp st) →
     ((before.answers ≡ []) × ((st : State) × (before.end ≡ UsedUp st))) × Spends limit before.costs left []
 used-up {before} {work} {limit} {left} st first is = (
   (sym first.answers ∙ ap (λ (run : Run). run.answers) is, (st, sym first.end ∙ ap (λ (run : Run). run.end) is)),
@@ -59,7 +62,8 @@ used-up {before} {work} {limit} {left} st first is = (
 
 pub refused : {before : Run} {work limit left : ℕ} {between : Machine} (e : Refused) → Passes before work limit between left →
     (e ≡ Memory) ⊎ (still_of between ≡ at_end (Stopped (reason e))) →
-    ((e ≡ Memory) ⊎ ((before.answers ≡ []) × (before.end ≡ Stopped (reason e)))) × ((rest : List ℕ) × Spends limit before.costs left rest × ((e ≡ Memory) ⊎ (rest ≡ [])))
+    ((e ≡ Memory) ⊎ ((before.answers ≡ []) × (before.end ≡ Stopped (reason e)))) × ((rest : List ℕ) × Spends limit before.costs left
+    rest × ((e ≡ Memory) ⊎ (rest ≡ [])))
 refused {before} {work} {limit} {left} {between} e first (inl memory) = (inl memory, ((still_of between).costs, first.spends, inl memory))
 refused {before} {work} {limit} {left} {between} e first (inr is) = (
   inr (sym first.answers ∙ ap (λ (run : Run). run.answers) is, sym first.end ∙ ap (λ (run : Run). run.end) is),

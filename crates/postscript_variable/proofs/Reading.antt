@@ -21,7 +21,8 @@ use Rattle.postscript_type2.proofs.Slices.{at-place}
 use Rattle.postscript_variable.proofs.TokenLaws.{by-number}
 
 -- an operator of two bytes, and one of one
-pub operator-two : (rest : List ℕ) (place first second behind : ℕ) (more : List ℕ) (r : Result (Command × ℕ) Refused) → rest ≡ second ∷ more → behind ≡ place + 1 → first ≡ 12 →
+pub operator-two : (rest : List ℕ) (place first second behind : ℕ) (more : List ℕ) (r : Result (Command × ℕ) Refused) →
+    rest ≡ second ∷ more → behind ≡ place + 1 → first ≡ 12 →
     r ≡ ok_or (option_map (λ command. (command, behind)) (command_of (0x0c00 + second))) UnknownOperator → EndsAt first rest place r
 operator-two rest place first second behind more r is after two e = grind (arith, nat_tests)
 
@@ -30,7 +31,8 @@ pub operator-one : (rest : List ℕ) (place first : ℕ) (r : Result (Command ×
 operator-one rest place first r other e = grind (arith, nat_tests)
 
 -- an operator of two bytes, whose second one is missing
-pub operator-cut : (rest : List ℕ) (first : ℕ) (e : Refused) → rest ≡ [] → first ≡ 12 → reason e ≡ unexpected_eof → commanded first rest ≡ NoToken (reason e)
+pub operator-cut : (rest : List ℕ) (first : ℕ) (e : Refused) → rest ≡ [] → first ≡ 12 → reason e ≡ unexpected_eof →
+    commanded first rest ≡ NoToken (reason e)
 operator-cut rest first e none two is = rw (none, two, is) refl
 
 -- a number at a place is what its first byte begins
@@ -39,19 +41,23 @@ number-of : (first : ℕ) (code : List ℕ) (place : ℕ) → place < length cod
 unfolding number
 number-of first code place room front =
     let byte : unsigned 1 code place ≡ Got first (place + 1) =
-    at-place 1 code place (omega arith) ∙ ap (λ bytes. Got (big_endian (take 1 bytes)) (place + 1)) front ∙ ap (λ b. Got b (place + 1)) (omega arith) in
+    at-place 1 code place (omega arith) ∙ ap (λ bytes. Got (big_endian (take 1 bytes)) (place + 1)) front
+    ∙ ap (λ b. Got b (place + 1)) (omega arith) in
     ap (λ o. after o (λ b next. spelled b code next)) byte
 
 -- a number, and one that is cut
-pub number-read : (first : ℕ) (code : List ℕ) (place : ℕ) (x : ℤ) (next : ℕ) → place < length code → drop place code ≡ first ∷ drop (place + 1) code →
+pub number-read : (first : ℕ) (code : List ℕ) (place : ℕ) (x : ℤ) (next : ℕ) → place < length code →
+    drop place code ≡ first ∷ drop (place + 1) code →
     is_number first ≡ true → number code place ≡ Got x next →
     (more : ℕ) × (token first (drop (place + 1) code) ≡ Number x more) × (next ≡ place + 1 + more)
 number-read first code place x next room front is got =
-    let there = got-later (place + 1) (spelled first (drop (place + 1) code) 0) x next (sym (spelled-local first code (place + 1)) ∙ sym (number-of first code place room front) ∙ got) in
+    let there = got-later (place + 1) (spelled first (drop (place + 1) code) 0) x next
+    (sym (spelled-local first code (place + 1)) ∙ sym (number-of first code place room front) ∙ got) in
     (there.0, by-number first (drop (place + 1) code) is ∙ ap numbered there.1, there.2)
 
 pub number-cut : (first : ℕ) (code : List ℕ) (place : ℕ) → place < length code → drop place code ≡ first ∷ drop (place + 1) code →
-    is_number first ≡ true → ((x : ℤ) (next : ℕ) → number code place ≢ Got x next) → token first (drop (place + 1) code) ≡ NoToken unexpected_eof
+    is_number first ≡ true → ((x : ℤ) (next : ℕ) → number code place ≢ Got x next) → token first
+    (drop (place + 1) code) ≡ NoToken unexpected_eof
 number-cut first code place room front is none = by_read (number-at first rest (form first is))
   where
     rest : List ℕ

@@ -23,39 +23,48 @@ use Rattle.postscript_variable.proofs.MeaningLaws.{mean-number, mean-operator, m
 abbrev says : Run → List Phrase
 says run = run.says
 
-says-call : (run : Run) (go : State → Run) (back : State) (xs ys : List Phrase) → run.says ≡ xs → run.end ≡ UsedUp back → (go back).says ≡ ys →
+says-call : (run : Run) (go : State → Run) (back : State) (xs ys : List Phrase) → run.says ≡ xs → run.end ≡ UsedUp back →
+    (go back).says ≡ ys →
     (followed run (after_call go)).says ≡ xs ++ ys
 says-call run go back xs ys h ends i =
     ap (λ zs. zs ++ (after_call go run.end).says) h ∙ ap (λ e. xs ++ (after_call go e).says) ends ∙ ap (λ zs. xs ++ zs) i
 
-says-stop : (run : Run) (go : State → Run) (e : _) (xs : List Phrase) → run.says ≡ xs → run.end ≡ Stopped e → (followed run (after_call go)).says ≡ xs
-says-stop run go e xs h ends = ap (λ zs. zs ++ (after_call go run.end).says) h ∙ ap (λ end. xs ++ (after_call go end).says) ends ∙ append-nil xs
+says-stop : (run : Run) (go : State → Run) (e : _) (xs : List Phrase) → run.says ≡ xs → run.end ≡ Stopped e →
+    (followed run (after_call go)).says ≡ xs
+says-stop run go e xs h ends =
+    ap (λ zs. zs ++ (after_call go run.end).says) h ∙ ap (λ end. xs ++ (after_call go end).says) ends ∙ append-nil xs
 
 -- what is computed is what is told
-pub says-told : (font : Font) {d : ℕ} {rest : List ℕ} {st : State} {xs : List Answer} {end : End} (run : Means font d rest st xs end) → (left : ℕ) → left + d ≡ 10 →
+pub says-told : (font : Font) {d : ℕ} {rest : List ℕ} {st : State} {xs : List Answer} {end : End} (run : Means font d rest st xs end) →
+    (left : ℕ) → left + d ≡ 10 →
     (mean font left rest st).says ≡ told run
 says-told font (rules.used_up d st) left h = refl
 says-told font (rules.number d spelling behind x st xs end is room later) left h =
-    ap says (mean-number font left spelling behind st x is ∙ with-room font left behind st (length spelling) x room) ∙ says-told font later left h
+    ap says (mean-number font left spelling behind st x is ∙ with-room font left behind st (length spelling) x room)
+    ∙ says-told font later left h
 says-told font (rules.no_room d spelling behind x st is full) left h =
     ap says (mean-number font left spelling behind st x is ∙ without-room font left behind st (length spelling) x full)
 says-told font (rules.unread d rest st e none) left h = ap says (mean-unread font left rest st e none)
-says-told font (rules.refused d spelling behind command st e moves) left h = ap says (mean-operator font left spelling behind st command (Refuses e) moves.spelled moves.does)
+says-told font (rules.refused d spelling behind command st e moves) left h =
+    ap says (mean-operator font left spelling behind st command (Refuses e) moves.spelled moves.does)
 says-told font (rules.keeps d spelling behind command st after xs end moves later) left h =
     ap says (mean-operator font left spelling behind st command (Keeps after) moves.spelled moves.does) ∙ says-told font later left h
 says-told font (rules.clears d spelling mask behind command op st after taken xs end moves later) left h =
     ap says (mean-operator font left spelling (mask ++ behind) st command (Clears op taken after (length mask)) moves.spelled moves.does)
-    ∙ ap (λ rest. said op st.stack taken (take (length mask) (mask ++ behind)) ∷ (mean font left rest after).says) (drop-append_seam mask behind)
+    ∙ ap (λ rest. said op st.stack taken (take (length mask) (mask ++ behind)) ∷ (mean font left rest after).says)
+    (drop-append_seam mask behind)
     ∙ ap (λ bytes. said op st.stack taken bytes ∷ (mean font left behind after).says) (take-append_seam mask behind)
     ∙ ap (λ ys. said op st.stack taken mask ∷ ys) (says-told font later left h)
 says-told font (rules.calls_too_deep d spelling behind command st after routine moves deep) zero h =
     ap says (mean-operator font zero spelling behind st command (Calls routine after) moves.spelled moves.does)
 says-told font (rules.calls_too_deep d spelling behind command st after routine moves deep) (suc left) h = absurd (omega arith)
-says-told font (rules.calls d spelling behind command st after back routine inner xs end moves room within later) zero h = absurd (omega arith)
+says-told font (rules.calls d spelling behind command st after back routine inner xs end moves room within later) zero h =
+    absurd (omega arith)
 says-told font (rules.calls d spelling behind command st after back routine inner xs end moves room within later) (suc left) h =
     let ends = (sound font within left (omega arith)).1 in
     ap says (mean-operator font (suc left) spelling behind st command (Calls routine after) moves.spelled moves.does)
-    ∙ says-call (mean font left routine after) (λ st'. mean font (suc left) behind st') back _ _ (says-told font within left (omega arith)) ends (says-told font later (suc left) h)
+    ∙ says-call (mean font left routine after) (λ st'. mean font (suc left) behind st') back _ _
+    (says-told font within left (omega arith)) ends (says-told font later (suc left) h)
 says-told font (rules.calls_to_stop d spelling behind command st after routine inner e moves room within) zero h = absurd (omega arith)
 says-told font (rules.calls_to_stop d spelling behind command st after routine inner e moves room within) (suc left) h =
     let ends = (sound font within left (omega arith)).1 in
@@ -63,7 +72,8 @@ says-told font (rules.calls_to_stop d spelling behind command st after routine i
     ∙ says-stop (mean font left routine after) (λ st'. mean font (suc left) behind st') e _ (says-told font within left (omega arith)) ends
 
 -- what is told is answered
-pub told-answered : {font : Font} {d : ℕ} {rest : List ℕ} {st : State} {xs : List Answer} {end : End} (run : Means font d rest st xs end) → xs ≡ map answer_of (told run)
+pub told-answered : {font : Font} {d : ℕ} {rest : List ℕ} {st : State} {xs : List Answer} {end : End}
+    (run : Means font d rest st xs end) → xs ≡ map answer_of (told run)
 told-answered (rules.used_up d st) = refl
 told-answered (rules.number d spelling behind x st xs end is room later) = told-answered later
 told-answered (rules.no_room d spelling behind x st is full) = refl
@@ -85,24 +95,32 @@ pub answered : ToldIsAnswered
 answered font index code answers end run = told-answered run
 
 -- the run of a charstring, by its end
-pub says-so : (charstring : Charstring) (xs : List Phrase) (last : State) → xs ≡ (run_from charstring).says → (run_from charstring).end ≡ UsedUp last → Says charstring xs
+pub says-so : (charstring : Charstring) (xs : List Phrase) (last : State) → xs ≡ (run_from charstring).says →
+    (run_from charstring).end ≡ UsedUp last → Says charstring xs
 says-so charstring xs last told-so ends =
     let font = font_from charstring in
     let index = charstring.blends.index in
     let code = charstring.code.now in
-    let run : IsRunFrom charstring (run_from charstring).answers (UsedUp last) = subst (λ end. IsRunFrom charstring (run_from charstring).answers end) ends (run-means font index code) in
+    let run : IsRunFrom charstring (run_from charstring).answers (UsedUp last) = subst
+    (λ end. IsRunFrom charstring (run_from charstring).answers end) ends (run-means font index code) in
     record { answers = (run_from charstring).answers; last = last; run = run; all = told-so ∙ computed font index code _ _ run }
 
 pub stops-so : (charstring : Charstring) (e : _) → (run_from charstring).end ≡ Stopped e → StopsWith charstring e
-stops-so charstring e ends =
-    ((run_from charstring).answers, subst (λ end. IsRunFrom charstring (run_from charstring).answers end) ends (run-means (font_from charstring) charstring.blends.index charstring.code.now))
+stops-so charstring e ends = (
+  (run_from charstring).answers,
+  subst (λ end. IsRunFrom charstring (run_from charstring).answers end) ends
+      (run-means (font_from charstring) charstring.blends.index charstring.code.now),
+)
 
 -- the same of a machine before the first byte
-pub machine-says : (charstring : Charstring) (machine : Machine) (xs : List Phrase) (last : State) → still_of machine ≡ run_from charstring → xs ≡ (still_of machine).says →
+pub machine-says : (charstring : Charstring) (machine : Machine) (xs : List Phrase) (last : State) →
+    still_of machine ≡ run_from charstring → xs ≡ (still_of machine).says →
     (still_of machine).end ≡ UsedUp last → Says charstring xs
-machine-says charstring machine xs last same told-so ends = says-so charstring xs last (told-so ∙ ap (λ (run : Run). run.says) same) (sym (ap (λ (run : Run). run.end) same) ∙ ends)
+machine-says charstring machine xs last same told-so ends =
+    says-so charstring xs last (told-so ∙ ap (λ (run : Run). run.says) same) (sym (ap (λ (run : Run). run.end) same) ∙ ends)
 
 pub machine-stops : (charstring : Charstring) (machine : Machine) (e : Refused) → still_of machine ≡ run_from charstring →
-    (e ≡ Memory) ⊎ ((still_of machine).end ≡ Stopped (reason e)) → (error_of e ≡ errors.Memory) ⊎ StopsWith charstring (refusal_of (error_of e))
+    (e ≡ Memory) ⊎ ((still_of machine).end ≡ Stopped (reason e)) → (error_of e ≡ errors.Memory) ⊎ StopsWith charstring
+    (refusal_of (error_of e))
 machine-stops charstring machine e same (inl memory) = inl (ap error_of memory)
 machine-stops charstring machine e same (inr ends) = inr (stops-so charstring (reason e) (sym (ap (λ (run : Run). run.end) same) ∙ ends))

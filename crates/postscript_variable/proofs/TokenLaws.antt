@@ -23,7 +23,8 @@ by-operator first r is = ap (λ b. cond b (numbered (spelled first r 0)) (comman
 
 -- what is spelled so is read, whatever follows it
 abbrev pub IsReadAs : (spelling : List ℕ) → (ℕ → Token) → Type 0
-IsReadAs spelling made = (first : ℕ) × (s : List ℕ) × (spelling ≡ first ∷ s) × ((behind : List ℕ) → token first (s ++ behind) ≡ made (length s))
+IsReadAs spelling made =
+    (first : ℕ) × (s : List ℕ) × (spelling ≡ first ∷ s) × ((behind : List ℕ) → token first (s ++ behind) ≡ made (length s))
 
 pub number-read : (spelling : List ℕ) (x : ℤ) → IsNumber spelling x → IsReadAs spelling (Number x)
 number-read spelling x is =
@@ -31,10 +32,12 @@ number-read spelling x is =
     (read.0, read.1, read.2, λ behind. by-number read.0 (read.1 ++ behind) read.3 ∙ ap numbered (read.4 behind))
 
 -- an operator of one byte begins no number and is no escape
-no-number : (code : ℕ) (command : Command) → code < 0x20 → command_of code ≡ Some command → (is_number code ≡ false) × ((code == 0x0c) ≡ false)
+no-number : (code : ℕ) (command : Command) → code < 0x20 → command_of code ≡ Some command →
+    (is_number code ≡ false) × ((code == 0x0c) ≡ false)
 no-number code command low is = grind (arith, nat_tests)
 
-one-byte : (code : ℕ) (behind : List ℕ) → is_number code ≡ false → (code == 0x0c) ≡ false → token code behind ≡ with_command 0 (command_of code)
+one-byte : (code : ℕ) (behind : List ℕ) → is_number code ≡ false → (code == 0x0c) ≡ false →
+    token code behind ≡ with_command 0 (command_of code)
 one-byte code behind e f = by-operator code behind e ∙ ap (λ b. cond b (escaped behind) (with_command 0 (command_of code))) f
 
 pub operator-read : (spelling : List ℕ) (command : Command) → IsOperator spelling command → IsReadAs spelling (Operator command)
@@ -50,7 +53,8 @@ Spells first r (NoToken e) = HasNoToken (first ∷ r) e
 
 number-spells : (first : ℕ) (r : List ℕ) → Stands first r ⊎ IsCut first r → Spells first r (numbered (spelled first r 0))
 number-spells first r (inl there) = subst (λ o. Spells first r (numbered o)) (sym there.2) (there.3, there.4)
-number-spells first r (inr cut) = subst (λ o. Spells first r (numbered o)) (sym cut.2) (spellings.cut_number (first ∷ r) cut.0 cut.1 (λ e. cc) cut.3 cut.4)
+number-spells first r (inr cut) =
+    subst (λ o. Spells first r (numbered o)) (sym cut.2) (spellings.cut_number (first ∷ r) cut.0 cut.1 (λ e. cc) cut.3 cut.4)
 
 operator-spells : (b : ℕ) (r : List ℕ) → is_number b ≡ false → Spells b r (commanded b r)
 operator-spells b r other = by_escape (b == 0x0c) refl
@@ -58,7 +62,8 @@ operator-spells b r other = by_escape (b == 0x0c) refl
     low : b < 0x20
     low = let n = neither (b == 0x1c) (nat_lt 0x1f b) other in let h : b ≤ 0x1f = ltb-false 0x1f b n.1 in omega (arith, h)
 
-    by_second : (second : ℕ) (t : List ℕ) (o : Option Command) → command_of (0x0c00 + second) ≡ o → Spells 0x0c (second ∷ t) (with_command 1 o)
+    by_second : (second : ℕ) (t : List ℕ) (o : Option Command) → command_of (0x0c00 + second) ≡ o → Spells 0x0c (second ∷ t)
+        (with_command 1 o)
     by_second second t (Some command) is = (spellings.escaped_operator second command is, omega arith)
     by_second second t None is = spellings.no_such_escape second t is
 
@@ -68,7 +73,8 @@ operator-spells b r other = by_escape (b == 0x0c) refl
 
     by_code : (o : Option Command) → command_of b ≡ o → (b == 0x0c) ≡ false → Spells b r (with_command 0 o)
     by_code (Some command) is e = (spellings.operator b command low is, omega arith)
-    by_code None is e = spellings.no_such_operator b r low (eqb-false b 0x0c e) (eqb-false b 0x1c (neither (b == 0x1c) (nat_lt 0x1f b) other).0) is
+    by_code None is e =
+        spellings.no_such_operator b r low (eqb-false b 0x0c e) (eqb-false b 0x1c (neither (b == 0x1c) (nat_lt 0x1f b) other).0) is
 
     by_escape : (t : Bool) → (b == 0x0c) ≡ t → Spells b r (if t then escaped r else with_command 0 (command_of b))
     by_escape true e = subst (λ c. Spells c r (escaped r)) (sym (eqb-true b 0x0c e)) (by_rest r)
@@ -82,7 +88,8 @@ token-spells first r = by_first (is_number first) refl
     by_first false is = operator-spells first r is
 
 -- what is read as a spelling says, from its first byte on
-read-at : (first : ℕ) (front behind : List ℕ) (made : ℕ → Token) → IsReadAs (first ∷ front) made → token first (front ++ behind) ≡ made (length front)
+read-at : (first : ℕ) (front behind : List ℕ) (made : ℕ → Token) → IsReadAs (first ∷ front) made →
+    token first (front ++ behind) ≡ made (length front)
 read-at first front behind made read =
     let same : first ∷ front ≡ read.0 ∷ read.1 = read.2 in
     let a : first ≡ read.0 = cc in
@@ -110,7 +117,8 @@ cut-read b r m ms x is = by_read (number-at b r (form b begins))
         let short = read-at b (take more r) (drop more r ++ m ∷ ms) (Number there.1) (number-read (b ∷ take more r) there.1 there.3) in
         let long = read-at b (r ++ m ∷ ms) [] (Number x) (number-read (b ∷ (r ++ m ∷ ms)) x is) in
         let bytes : take more r ++ (drop more r ++ m ∷ ms) ≡ (r ++ m ∷ ms) ++ [] =
-        sym (append_assoc (take more r) (drop more r) (m ∷ ms)) ∙ ap (λ front. front ++ m ∷ ms) (take-append-drop more r) ∙ sym (append-nil (r ++ m ∷ ms)) in
+        sym (append_assoc (take more r) (drop more r) (m ∷ ms)) ∙ ap (λ front. front ++ m ∷ ms) (take-append-drop more r)
+        ∙ sym (append-nil (r ++ m ∷ ms)) in
         let same : Number there.1 (length (take more r)) ≡ Number x (length (r ++ m ∷ ms)) = sym short ∙ ap (token b) bytes ∙ long in
         let ends : length (take more r) ≡ length (r ++ m ∷ ms) = same-more there.1 x (length (take more r)) (length (r ++ m ∷ ms)) same in
         let front : length (take more r) ≡ more = length-take-le more r there.4 in
@@ -122,7 +130,8 @@ no-number_by : (b : ℕ) → b < 0x20 → b ≢ 0x1c → is_number b ≡ false
 no-number_by b low other = ap (λ t. t || nat_lt 0x1f b) (ne_eqb b 0x1c other) ∙ le-ltb 0x1f b (omega (arith, low))
 
 -- why nothing is read
-pub nothing-read : (bytes : List ℕ) (e : Refusal) → HasNoToken bytes e → (first : ℕ) × (r : List ℕ) × (bytes ≡ first ∷ r) × (token first r ≡ NoToken e)
+pub nothing-read : (bytes : List ℕ) (e : Refusal) → HasNoToken bytes e →
+    (first : ℕ) × (r : List ℕ) × (bytes ≡ first ∷ r) × (token first r ≡ NoToken e)
 nothing-read bytes e spellings.lone_escape = (0x0c, [], refl, refl)
 nothing-read bytes e (spellings.cut_number [] missing x some more is) = absurd (some refl)
 nothing-read bytes e (spellings.cut_number (b ∷ r) [] x some more is) = absurd (more refl)
@@ -134,24 +143,30 @@ nothing-read bytes e (spellings.no_such_escape second rest is) = (0x0c, second �
 pub number-law : NumberIsRead
 number-law first r x more = (there, λ h. back h.0 h.1 h.2 h.3 h.4)
   where
-    there : token first r ≡ Number x more → (front : List ℕ) × (behind : List ℕ) × (r ≡ front ++ behind) × (length front ≡ more) × IsNumber (first ∷ front) x
+    there : token first r ≡ Number x more →
+        (front : List ℕ) × (behind : List ℕ) × (r ≡ front ++ behind) × (length front ≡ more) × IsNumber (first ∷ front) x
     there is =
         let s = subst (Spells first r) is (token-spells first r) in
         (take more r, drop more r, sym (take-append-drop more r), length-take-le more r s.1, s.0)
 
     back : (front behind : List ℕ) → r ≡ front ++ behind → length front ≡ more → IsNumber (first ∷ front) x → token first r ≡ Number x more
-    back front behind whole long is = ap (token first) whole ∙ read-at first front behind (Number x) (number-read (first ∷ front) x is) ∙ ap (Number x) long
+    back front behind whole long is =
+        ap (token first) whole ∙ read-at first front behind (Number x) (number-read (first ∷ front) x is) ∙ ap (Number x) long
 
 pub operator-law : OperatorIsRead
 operator-law first r command more = (there, λ h. back h.0 h.1 h.2 h.3 h.4)
   where
-    there : token first r ≡ Operator command more → (front : List ℕ) × (behind : List ℕ) × (r ≡ front ++ behind) × (length front ≡ more) × IsOperator (first ∷ front) command
+    there : token first r ≡ Operator command more →
+        (front : List ℕ) × (behind : List ℕ) × (r ≡ front ++ behind) × (length front ≡ more) × IsOperator (first ∷ front) command
     there is =
         let s = subst (Spells first r) is (token-spells first r) in
         (take more r, drop more r, sym (take-append-drop more r), length-take-le more r s.1, s.0)
 
-    back : (front behind : List ℕ) → r ≡ front ++ behind → length front ≡ more → IsOperator (first ∷ front) command → token first r ≡ Operator command more
-    back front behind whole long is = ap (token first) whole ∙ read-at first front behind (Operator command) (operator-read (first ∷ front) command is) ∙ ap (Operator command) long
+    back : (front behind : List ℕ) → r ≡ front ++ behind → length front ≡ more → IsOperator (first ∷ front) command →
+        token first r ≡ Operator command more
+    back front behind whole long is =
+        ap (token first) whole ∙ read-at first front behind (Operator command) (operator-read (first ∷ front) command is)
+        ∙ ap (Operator command) long
 
 pub nothing-law : NothingIsRead
 nothing-law first r e = (λ is. subst (Spells first r) is (token-spells first r), λ h. back (nothing-read (first ∷ r) e h))

@@ -20,12 +20,16 @@ greatest-fits : (test : ℕ → Bool) (n m : ℕ) → greatest test n ≡ Some m
 greatest-fits test zero m is = by_test (test 0) refl is
   where
     by_test : (b : Bool) → test 0 ≡ b → (if b then Some 0 else None) ≡ Some m → (m ≤ 0) × (greatest test m ≡ Some m)
-    by_test true passes e = let z : 0 ≡ m = cc in subst (λ k. (k ≤ 0) × (greatest test k ≡ Some k)) z (omega arith, ap (λ v. if v then Some 0 else None) passes)
+    by_test true passes e =
+        let z : 0 ≡ m = cc in subst (λ k. (k ≤ 0) × (greatest test k ≡ Some k)) z (omega arith, ap (λ v. if v then Some 0 else None) passes)
     by_test false fails e = cc
 greatest-fits test (suc n) m is = by_test (test (suc n)) refl (greatest-fits test n m) is
   where
-    by_test : (b : Bool) → test (suc n) ≡ b → (greatest test n ≡ Some m → (m ≤ n) × (greatest test m ≡ Some m)) → (if b then Some (suc n) else greatest test n) ≡ Some m → (m ≤ suc n) × (greatest test m ≡ Some m)
-    by_test true passes lower e = let z : suc n ≡ m = cc in subst (λ k. (k ≤ suc n) × (greatest test k ≡ Some k)) z (omega arith, ap (λ v. if v then Some (suc n) else greatest test n) passes)
+    by_test : (b : Bool) → test (suc n) ≡ b → (greatest test n ≡ Some m → (m ≤ n) × (greatest test m ≡ Some m)) →
+        (if b then Some (suc n) else greatest test n) ≡ Some m → (m ≤ suc n) × (greatest test m ≡ Some m)
+    by_test true passes lower e =
+        let z : suc n ≡ m = cc in
+        subst (λ k. (k ≤ suc n) × (greatest test k ≡ Some k)) z (omega arith, ap (λ v. if v then Some (suc n) else greatest test n) passes)
     by_test false fails lower e = let below = lower e in (omega (arith, below.0), below.1)
 
 -- the last operands of a stack, as many as are taken
@@ -40,7 +44,8 @@ abbrev MoveFits : Effect → Type 0
 MoveFits (Clears op operands st mask) = Fits op operands
 MoveFits move = Unit {0}
 
-clearing-fits : (op : Operator) (st : State) (stems mask : ℕ) (o : Option ℕ) → taken op (length st.stack) ≡ o → MoveFits (clearing op st stems mask o)
+clearing-fits : (op : Operator) (st : State) (stems mask : ℕ) (o : Option ℕ) → taken op (length st.stack) ≡ o →
+    MoveFits (clearing op st stems mask o)
 clearing-fits op st stems mask (Some n) is = fits-last op st.stack n is
 clearing-fits op st stems mask None is = tt
 
@@ -64,7 +69,8 @@ answer-fits (Masks takes) op behind st =
     let stems = stems_after st in
     let move = clearing op st stems (mask_len stems) (taken op (length st.stack)) in
     let cut = nat_lt (length behind) (mask_len stems) in
-    with-fits stems (if cut then Refuses unexpected_eof else move) (chosen-not-fits cut unexpected_eof move (clearing-fits op st stems (mask_len stems) (taken op (length st.stack)) refl))
+    with-fits stems (if cut then Refuses unexpected_eof else move)
+    (chosen-not-fits cut unexpected_eof move (clearing-fits op st stems (mask_len stems) (taken op (length st.stack)) refl))
 answer-fits (Draws takes) op behind st = path-fits op st
 answer-fits (Works work) op behind st = path-fits op st
 answer-fits (Stores work) op behind st = path-fits op st
@@ -99,7 +105,8 @@ fit font (rules.keeps d spelling behind command st after xs end moves later) = f
 fit font (rules.clears d spelling mask behind command op st after operands xs end moves later) =
     (subst MoveFits moves.does (effect-fits font command (mask ++ behind) st), fit font later)
 fit font (rules.calls_too_deep d spelling behind command st after routine moves deep) = tt
-fit font (rules.calls d spelling behind command st after back routine inner xs end moves room means later) = fit-append inner xs (fit font means) (fit font later)
+fit font (rules.calls d spelling behind command st after back routine inner xs end moves room means later) =
+    fit-append inner xs (fit font means) (fit font later)
 fit font (rules.calls_to_stop d spelling behind command st after routine inner e moves room means) = fit font means
 
 pub runs-fit : RunsFit

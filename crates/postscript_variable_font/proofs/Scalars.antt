@@ -22,7 +22,8 @@ either i n h = grind (arith)
 pub no_scalars : (table : Data) (coordinates : List ℤ) → AreScalars table coordinates 0 []
 no_scalars table coordinates = record { counted = refl; each = λ j h. absurd (omega (arith, h)) }
 
-pub one_scalar : (table : Data) (coordinates : List ℤ) (n : ℕ) (xs : List ℕ) (x : ℕ) → AreScalars table coordinates n xs → x ≡ scalar_at table coordinates n →
+pub one_scalar : (table : Data) (coordinates : List ℤ) (n : ℕ) (xs : List ℕ) (x : ℕ) → AreScalars table coordinates n xs →
+    x ≡ scalar_at table coordinates n →
     AreScalars table coordinates (n + 1) (xs ++ x ∷ [])
 one_scalar table coordinates n xs x are is =
     let many = are.counted in
@@ -39,7 +40,8 @@ one_scalar table coordinates n xs x are is =
 pub no_tables : (store : Store) (coordinates : List ℤ) → AreTables store coordinates 0 []
 no_tables store coordinates = record { counted = refl; each = λ j h. absurd (omega (arith, h)) }
 
-pub one_table : (store : Store) (coordinates : List ℤ) (n : ℕ) (xs : List (Vec ℕ Global)) (x : Vec ℕ Global) → AreTables store coordinates n xs →
+pub one_table : (store : Store) (coordinates : List ℤ) (n : ℕ) (xs : List (Vec ℕ Global)) (x : Vec ℕ Global) →
+    AreTables store coordinates n xs →
     AreScalarsOf store coordinates n x.items → AreTables store coordinates (n + 1) (xs ++ x ∷ [])
 one_table store coordinates n xs x are is =
     let many = are.counted in
@@ -54,7 +56,8 @@ one_table store coordinates n xs x are is =
     }
 
 -- item variation data of which the first lack
-pub lacking : (store : Store) (coordinates : List ℤ) (n : ℕ) (tables : List (Vec ℕ Global)) → AreTables store coordinates n tables → n < table_count store → HasNoTable store n →
+pub lacking : (store : Store) (coordinates : List ℤ) (n : ℕ) (tables : List (Vec ℕ Global)) → AreTables store coordinates n tables →
+    n < table_count store → HasNoTable store n →
     LacksData store n
 lacking store coordinates n tables are there lacks = record {
   there = there;

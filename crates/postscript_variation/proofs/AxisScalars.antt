@@ -28,10 +28,12 @@ passed_over_not : (start peak last : ℤ) → start ≤ℤ peak → peak ≤ℤ 
     → is_passed_over start peak last ≡ false
 unfolding is_passed_over
 passed_over_not start peak last h k (inl m) n =
-    let a = not_below peak start h in let b = not_below last peak k in let d = not_below start (pos 0) m in let e = not_same peak (pos 0) n in
+    let a = not_below peak start h in let b = not_below last peak k in let d = not_below start (pos 0) m in
+    let e = not_same peak (pos 0) n in
     rw a (rw b (rw d (rw e refl)))
 passed_over_not start peak last h k (inr m) n =
-    let a = not_below peak start h in let b = not_below last peak k in let d = not_below (pos 0) last m in let e = not_same peak (pos 0) n in
+    let a = not_below peak start h in let b = not_below last peak k in let d = not_below (pos 0) last m in
+    let e = not_same peak (pos 0) n in
     grind (arith, a, b, d, e)
 
 -- what is so where an axis counts
@@ -56,7 +58,9 @@ not_ignored start peak last c (both_sides h k) = omega (arith, ints, c.one_side)
 not_ignored start peak last c (default_peak h) = c.some h
 
 same_or_not : (a b : ℤ) → (a ≡ b) ⊎ (a ≡ b → ⊥)
-same_or_not a b = by_lt_z a b (λ h. inr (λ e. omega (arith, ints, e, h))) (λ h. by_lt_z b a (λ k. inr (λ e. omega (arith, ints, e, k))) (λ k. inl (omega (arith, ints))))
+same_or_not a b =
+    by_lt_z a b (λ h. inr (λ e. omega (arith, ints, e, h)))
+    (λ h. by_lt_z b a (λ k. inr (λ e. omega (arith, ints, e, k))) (λ k. inl (omega (arith, ints))))
 
 pub ignored_or_not : (start peak last : ℤ) → IsIgnored start peak last ⊎ Counts start peak last
 ignored_or_not start peak last =

@@ -38,7 +38,8 @@ wider a c v w = associate a (c * v) w ∙ ap (λ n. a *ℤ pos n) (omega arith)
 pub exchange : (a : ℤ) (j k : ℕ) → (a *ℤ pos j) *ℤ pos k ≡ (a *ℤ pos k) *ℤ pos j
 exchange a j k = associate a j k ∙ ap (λ n. a *ℤ pos n) (omega arith) ∙ sym (associate a k j)
 
-pub above : (c d : ℕ) (a x b y : ℤ) (v w k l : ℕ) → (a *ℤ pos (c * v)) ≤ℤ ((x *ℤ pos d) +ℤ pos (k * v)) → (b *ℤ pos (c * w)) ≤ℤ ((y *ℤ pos d) +ℤ pos (l * w))
+pub above : (c d : ℕ) (a x b y : ℤ) (v w k l : ℕ) → (a *ℤ pos (c * v)) ≤ℤ ((x *ℤ pos d) +ℤ pos (k * v)) →
+    (b *ℤ pos (c * w)) ≤ℤ ((y *ℤ pos d) +ℤ pos (l * w))
     → ((a +ℤ b) *ℤ pos (c * (v * w))) ≤ℤ ((((x *ℤ pos w) +ℤ (y *ℤ pos v)) *ℤ pos d) +ℤ pos ((k + l) * (v * w)))
 above c d a x b y v w k l one other =
     let p = times w _ _ one in
@@ -54,7 +55,8 @@ above c d a x b y v w k l one other =
     let y-more = distribute (y *ℤ pos d) (pos (l * w)) v in
     omega (arith, ints, p, q, a-whole, b-whole, sums, parts, x-part, y-part, x-more, y-more)
 
-pub below : (c d : ℕ) (a x b y : ℤ) (v w k l : ℕ) → (x *ℤ pos d) ≤ℤ ((a *ℤ pos (c * v)) +ℤ pos (k * v)) → (y *ℤ pos d) ≤ℤ ((b *ℤ pos (c * w)) +ℤ pos (l * w))
+pub below : (c d : ℕ) (a x b y : ℤ) (v w k l : ℕ) → (x *ℤ pos d) ≤ℤ ((a *ℤ pos (c * v)) +ℤ pos (k * v)) →
+    (y *ℤ pos d) ≤ℤ ((b *ℤ pos (c * w)) +ℤ pos (l * w))
     → (((x *ℤ pos w) +ℤ (y *ℤ pos v)) *ℤ pos d) ≤ℤ (((a +ℤ b) *ℤ pos (c * (v * w))) +ℤ pos ((k + l) * (v * w)))
 below c d a x b y v w k l one other =
     let p = times w _ _ one in

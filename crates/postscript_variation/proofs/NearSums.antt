@@ -28,9 +28,11 @@ unlisted region count s h = grind (arith, nat_tests)
 pub scalar_near : (table : Data) (coordinates : List ℤ) (j part whole rounded : ℕ) → IsExactScalar table coordinates j part whole rounded
     → IsWithinHalves (scalar_at table coordinates j) part whole rounded
 scalar_near table coordinates j part whole rounded (of_region _ _ _ there is) =
-    subst (λ s. IsWithinHalves s part whole rounded) (sym (listed (region_of table j) table.regions.count _ there)) (regions.near _ _ _ _ _ _ part whole rounded is)
+    subst (λ s. IsWithinHalves s part whole rounded) (sym (listed (region_of table j) table.regions.count _ there))
+    (regions.near _ _ _ _ _ _ part whole rounded is)
 scalar_near table coordinates j _ _ _ (of_no_region past) =
-    subst (λ s. IsWithinHalves s 0 1 0) (sym (unlisted (region_of table j) table.regions.count _ past)) (record { some = omega arith; above = omega arith; below = omega arith })
+    subst (λ s. IsWithinHalves s 0 1 0) (sym (unlisted (region_of table j) table.regions.count _ past))
+    (record { some = omega arith; above = omega arith; below = omega arith })
 
 -- ---- one delta
 
@@ -42,7 +44,8 @@ turned a x w k near =
     let f = opposite x 131072 in
     record { some = near.some; above = omega (arith, ints, q, e, f); below = omega (arith, ints, p, e, f) }
 
-size_near : (n scalar part whole rounded : ℕ) → IsWithinHalves scalar part whole rounded → IsWithin (pos (n * scalar)) (pos (n * part)) whole (n * rounded)
+size_near : (n scalar part whole rounded : ℕ) → IsWithinHalves scalar part whole rounded → IsWithin (pos (n * scalar))
+    (pos (n * part)) whole (n * rounded)
 size_near n scalar part whole rounded near =
     let a : 2 * scalar * whole * n ≤ (2 * (65536 * part) + rounded * whole) * n = mul-le-mul_right n near.above in
     let b : 2 * (65536 * part) * n ≤ (2 * scalar * whole + rounded * whole) * n = mul-le-mul_right n near.below in
@@ -51,12 +54,14 @@ size_near n scalar part whole rounded near =
 delta_near : (delta : ℤ) (scalar part whole rounded : ℕ) → IsWithinHalves scalar part whole rounded
     → IsWithin (delta *ℤ pos scalar) (delta *ℤ pos part) whole (unsigned_abs delta * rounded)
 delta_near (pos n) scalar part whole rounded near = size_near n scalar part whole rounded near
-delta_near (negsuc n) scalar part whole rounded near = turned (pos (suc n * scalar)) (pos (suc n * part)) whole (suc n * rounded) (size_near (suc n) scalar part whole rounded near)
+delta_near (negsuc n) scalar part whole rounded near =
+    turned (pos (suc n * scalar)) (pos (suc n * part)) whole (suc n * rounded) (size_near (suc n) scalar part whole rounded near)
 
 -- ---- one delta more
 
 more : (total part delta : ℤ) (whole halves scalar p w rounded : ℕ) → IsWithin total part whole halves → IsWithinHalves scalar p w rounded
-    → IsWithin (total +ℤ (delta *ℤ pos scalar)) ((part *ℤ pos w) +ℤ ((delta *ℤ pos p) *ℤ pos whole)) (whole * w) (halves + unsigned_abs delta * rounded)
+    → IsWithin (total +ℤ (delta *ℤ pos scalar)) ((part *ℤ pos w) +ℤ ((delta *ℤ pos p) *ℤ pos whole)) (whole * w)
+    (halves + unsigned_abs delta * rounded)
 more total part delta whole halves scalar p w rounded before one =
     let other = delta_near delta scalar p w rounded one in
     let size = unsigned_abs delta * rounded in
@@ -66,12 +71,14 @@ more total part delta whole halves scalar p w rounded before one =
       below = below 2 131072 total part (delta *ℤ pos scalar) (delta *ℤ pos p) whole w halves size before.below other.below;
     }
 
-by_so_many : (table : Data) (coordinates : List ℤ) (item count : ℕ) (part : ℤ) (whole halves : ℕ) → IsExactVariation table coordinates item count part whole halves
+by_so_many : (table : Data) (coordinates : List ℤ) (item count : ℕ) (part : ℤ) (whole halves : ℕ) →
+    IsExactVariation table coordinates item count part whole halves
     → IsWithin (sum_by table coordinates (item_place table item) count) part whole halves
 unfolding share_of
 by_so_many table coordinates item _ _ _ _ of_none = record { some = omega arith; above = omega (arith, ints); below = omega (arith, ints) }
 by_so_many table coordinates item _ _ _ _ (by_delta j part whole halves p w rounded before one) =
-    more (sum_by table coordinates (item_place table item) j) part (delta_of table item j) whole halves (scalar_at table coordinates j) p w rounded
+    more (sum_by table coordinates (item_place table item) j) part (delta_of table item j) whole halves
+    (scalar_at table coordinates j) p w rounded
     (by_so_many table coordinates item j part whole halves before) (scalar_near table coordinates j p w rounded one)
 
 pub sums : SumsAreNear
@@ -98,11 +105,20 @@ exact_scalar table coordinates j = by_place (in_order (region_of table j) table.
   where
     by_place : (region_of table j < table.regions.count) ⊎ (table.regions.count ≤ region_of table j) → HasExactScalar table coordinates j
     by_place (inl there) =
-        let one = regions.exact table.regions.bytes.now table.regions.place table.regions.axes (region_of table j) coordinates table.regions.axes in
-        record { part = one.part; whole = one.whole; rounded = one.rounded; is = of_region one.part one.whole one.rounded there one.is; most = one.most }
+        let one = regions.exact table.regions.bytes.now table.regions.place table.regions.axes
+        (region_of table j) coordinates table.regions.axes in
+        record {
+          part =
+              one.part;
+          whole = one.whole;
+          rounded = one.rounded;
+          is = of_region one.part one.whole one.rounded there one.is;
+          most = one.most;
+        }
     by_place (inr past) = record { part = 0; whole = 1; rounded = 0; is = of_no_region past; most = omega arith }
 
-bounded : (halves count size axes delta rounded : ℕ) → halves ≤ count * (size * axes) → delta ≤ size → rounded ≤ axes → halves + delta * rounded ≤ suc count * (size * axes)
+bounded : (halves count size axes delta rounded : ℕ) → halves ≤ count * (size * axes) → delta ≤ size → rounded ≤ axes →
+    halves + delta * rounded ≤ suc count * (size * axes)
 bounded halves count size axes delta rounded before d r = omega (arith, mul-le delta rounded size axes d r)
 
 pub exact : ExactVariationsAre
@@ -140,7 +156,8 @@ whole_near : (total part nearest : ℤ) (whole halves : ℕ) → IsWithin total 
     → IsNear nearest part whole (65536 + halves)
 whole_near total part nearest whole halves near is =
     let high = times whole (nearest *ℤ pos 131072) ((total *ℤ pos 2) +ℤ pos 65536) is.not_above in
-    let low : ((total *ℤ pos 2) *ℤ pos whole) ≤ℤ (((nearest *ℤ pos 131072) +ℤ pos 65536) *ℤ pos whole) = times whole _ _ (omega (arith, ints, is.not_below)) in
+    let low : ((total *ℤ pos 2) *ℤ pos whole) ≤ℤ (((nearest *ℤ pos 131072) +ℤ pos 65536) *ℤ pos whole) = times whole _ _
+    (omega (arith, ints, is.not_below)) in
     let high-more = distribute (total *ℤ pos 2) (pos 65536) whole in
     let low-more = distribute (nearest *ℤ pos 131072) (pos 65536) whole in
     let n = associate nearest 131072 whole in

@@ -25,7 +25,8 @@ clamped_so minimum maximum value at o (within h k e) = clamped-within minimum ma
 is_clamped : (minimum maximum value : ℤ) → minimum ≤ℤ maximum → IsClamped minimum maximum value (clamped minimum maximum value)
 is_clamped minimum maximum value o =
     by_lt_z value minimum (λ h. below h (clamped_below minimum maximum value h)) (λ h.
-    by_lt_z maximum value (λ k. above k (clamped_above minimum maximum value h k)) (λ k. within h k (clamped-within minimum maximum value h k)))
+    by_lt_z maximum value (λ k. above k (clamped_above minimum maximum value h k))
+    (λ k. within h k (clamped-within minimum maximum value h k)))
 
 -- ---- what is computed
 
@@ -35,7 +36,8 @@ through minimum standard maximum value at o is =
     in_order minimum standard maximum value o.0 o.1
     ∙ ap (normalized_within minimum standard maximum) (clamped_so minimum maximum value at (omega (arith, ints, o.0, o.1)) is)
 
-out_of_order : (minimum standard maximum value : ℤ) → (AreInOrder minimum standard maximum → ⊥) → normalized minimum standard maximum value ≡ pos 0
+out_of_order : (minimum standard maximum value : ℤ) → (AreInOrder minimum standard maximum → ⊥) →
+    normalized minimum standard maximum value ≡ pos 0
 out_of_order minimum standard maximum value n =
     by_lt_z standard minimum (outside minimum standard maximum value) (λ h.
     by_lt_z maximum standard (outside_too minimum standard maximum value h) (λ k. absurd (n (h, k))))
@@ -56,7 +58,8 @@ some_below minimum standard at h k = omega (arith, ints)
 some_above : (maximum standard at : ℤ) → at ≤ℤ maximum → standard <ℤ at → 0 < apart maximum standard
 some_above maximum standard at h k = omega (arith, ints)
 
-computed : (minimum standard maximum value at : ℤ) → IsNormalized minimum standard maximum value at → normalized minimum standard maximum value ≡ at
+computed : (minimum standard maximum value at : ℤ) → IsNormalized minimum standard maximum value at →
+    normalized minimum standard maximum value ≡ at
 computed minimum standard maximum value at (does_not_vary n e) = out_of_order minimum standard maximum value n ∙ sym e
 computed minimum standard maximum value at (at_default o is e) =
     through minimum standard maximum value standard o is ∙ long-default minimum standard maximum ∙ sym e
@@ -84,13 +87,15 @@ within_order minimum standard maximum value o =
     (λ h. record {
       at = neg_ℤ (pos (share (apart c standard) (apart minimum standard)));
       is = below_default o c (share (apart c standard) (apart minimum standard)) is h
-          (nearest-is (apart c standard * 65536) (apart minimum standard) (some_below minimum standard c (at_least minimum maximum value c m is) h)) refl;
+          (nearest-is (apart c standard * 65536) (apart minimum standard)
+          (some_below minimum standard c (at_least minimum maximum value c m is) h)) refl;
     })
     (λ h. by_lt_z standard c
     (λ k. record {
       at = pos (share (apart c standard) (apart maximum standard));
       is = above_default o c (share (apart c standard) (apart maximum standard)) is k
-          (nearest-is (apart c standard * 65536) (apart maximum standard) (some_above maximum standard c (at_most minimum maximum value c m is) k)) refl;
+          (nearest-is (apart c standard * 65536) (apart maximum standard)
+          (some_above maximum standard c (at_most minimum maximum value c m is) k)) refl;
     })
     (λ k. let e : c ≡ standard = omega (arith, ints, h, k) in
     record { at = pos 0; is = at_default o (subst (IsClamped minimum maximum value) e is) refl }))
@@ -101,7 +106,8 @@ has_one minimum standard maximum value =
     by_lt_z maximum standard (λ k. record { at = pos 0; is = does_not_vary (λ o. omega (arith, ints, o.1, k)) refl }) (λ k.
     within_order minimum standard maximum value (h, k)))
 
-pub normalizes : (minimum standard maximum value at : ℤ) → (normalized minimum standard maximum value ≡ at) ↔ IsNormalized minimum standard maximum value at
+pub normalizes : (minimum standard maximum value at : ℤ) →
+    (normalized minimum standard maximum value ≡ at) ↔ IsNormalized minimum standard maximum value at
 normalizes minimum standard maximum value at = (
   (λ e. let one = has_one minimum standard maximum value in
       subst (IsNormalized minimum standard maximum value) (sym (computed minimum standard maximum value one.at one.is) ∙ e) one.is),

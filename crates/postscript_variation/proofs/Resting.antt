@@ -30,7 +30,8 @@ use Rattle.postscript_variation.proofs.Normalizing.{defaults}
 
 kept : (maps : Option Maps) (axis : ℕ) → mapped_with maps axis (pos 0) ≡ pos 0
 kept None axis = refl
-kept (Some maps) axis = chosen (nat_lt axis (map_count maps)) (mapped maps.bytes.now (map_place maps.bytes.now axis) _ (pos 0)) (pos 0) (λ t. maps_keep _ _ _)
+kept (Some maps) axis =
+    chosen (nat_lt axis (map_count maps)) (mapped maps.bytes.now (map_place maps.bytes.now axis) _ (pos 0)) (pos 0) (λ t. maps_keep _ _ _)
 
 by_record : (found : Axis) (axis : ℕ) (maps : Option Maps) → coordinate_by found axis maps [] ≡ pos 0
 by_record found axis maps = rw (defaults found.minimum found.default found.maximum) (rw (kept maps axis) refl)
@@ -51,12 +52,15 @@ times_none n part e = rw e (omega arith)
 none_times : (part : ℕ) → 0 * part ≡ 0
 none_times part = omega arith
 
-no_part : (start peak last : ℤ) (part whole : ℕ) → (IsIgnored start peak last → ⊥) → IsAxisScalar start peak last (pos 0) part whole → part ≡ 0
+no_part : (start peak last : ℤ) (part whole : ℕ) → (IsIgnored start peak last → ⊥) → IsAxisScalar start peak last (pos 0) part whole →
+    part ≡ 0
 no_part start peak last part whole n (ignored i p w) = absurd (n i)
 no_part start peak last part whole n (outside m o p w) = p
 no_part start peak last part whole n (at_peak m e p w) = absurd ((counts_of start peak last n).some (sym e))
-no_part start peak last part whole n (rising m h k p w) = let c = counts_of start peak last n in omega (arith, ints, h, k, p, c.one_side, c.falls)
-no_part start peak last part whole n (falling m h k p w) = let c = counts_of start peak last n in omega (arith, ints, h, k, p, c.one_side, c.rises)
+no_part start peak last part whole n (rising m h k p w) =
+    let c = counts_of start peak last n in omega (arith, ints, h, k, p, c.one_side, c.falls)
+no_part start peak last part whole n (falling m h k p w) =
+    let c = counts_of start peak last n in omega (arith, ints, h, k, p, c.one_side, c.rises)
 
 counted : (scalar : ℕ) (start peak last : ℤ) → (IsIgnored start peak last → ⊥) → scaled scalar start peak last (pos 0) ≡ 0
 counted scalar start peak last n =
@@ -68,7 +72,8 @@ counted scalar start peak last n =
 of_zero : (start peak last at : ℤ) → scaled 0 start peak last at ≡ 0
 of_zero start peak last at =
     let one = has_one start peak last at in
-    computed 0 start peak last at one.part one.whole one.is ∙ of_nothing (0 * one.part) one.whole (none_times one.part) (some start peak last at one.part one.whole one.is)
+    computed 0 start peak last at one.part one.whole one.is
+    ∙ of_nothing (0 * one.part) one.whole (none_times one.part) (some start peak last at one.part one.whole one.is)
 
 by_axes : (bytes : List ℕ) (place axes region : ℕ) (coordinates : List ℤ) (count axis : ℕ) → AreDefault coordinates → axis < count
     → CountsAlong bytes place axes region axis → scalar_by bytes place axes region coordinates count ≡ 0

@@ -25,7 +25,8 @@ walk bytes place at i (suc left) n e b =
     (λ h. rw (not_below (from_at bytes place i) at h) (inr (record { listed = omega (arith, e); not_below = h; others = b })))
 
 first_is : (bytes : List ℕ) (place count : ℕ) (at : ℤ)
-    → (AreBelow bytes place at count × (first_above bytes place count at ≡ count)) ⊎ IsFirst bytes place count at (first_above bytes place count at)
+    → (AreBelow bytes place at count × (first_above bytes place count at ≡ count)) ⊎ IsFirst bytes place
+    count at (first_above bytes place count at)
 first_is bytes place count at = walk bytes place at 0 count count (omega arith) (λ k h. absurd (omega (arith, h)))
 
 one_first : (bytes : List ℕ) (place count : ℕ) (at : ℤ) (i j : ℕ) → IsFirst bytes place count at i → IsFirst bytes place count at j → i ≡ j
@@ -67,7 +68,8 @@ keeps_so : (bytes : List ℕ) (place count : ℕ) (at : ℤ) → IsKept bytes pl
 unfolding keeps
 keeps_so bytes place count at is =
     rw (first_only bytes place count at is.entry is.first)
-    (rw (less is.entry count is.first.listed) (rw (same (from_at bytes place is.entry) at is.from) (rw (same (to_at bytes place is.entry) at is.to) refl)))
+    (rw (less is.entry count is.first.listed)
+    (rw (same (from_at bytes place is.entry) at is.from) (rw (same (to_at bytes place is.entry) at is.to) refl)))
 
 kept_entry : (bytes : List ℕ) (place count : ℕ) (at : ℤ) → first_above bytes place count at < count
     → IsFirst bytes place count at (first_above bytes place count at)
@@ -83,12 +85,19 @@ is_kept bytes place count at h =
     let i : ℕ = first_above bytes place count at in
     let k = split (nat_lt i count) (int_eq (from_at bytes place i) at && int_eq (to_at bytes place i) at) h in
     let m = split (int_eq (from_at bytes place i) at) (int_eq (to_at bytes place i) at) k.1 in
-    record { entry = i; first = kept_entry bytes place count at (is_less i count k.0); from = equal (from_at bytes place i) at m.0; to = equal (to_at bytes place i) at m.1 }
+    record {
+      entry =
+          i;
+      first = kept_entry bytes place count at (is_less i count k.0);
+      from = equal (from_at bytes place i) at m.0;
+      to = equal (to_at bytes place i) at m.1;
+    }
 
 counts_so : (bytes : List ℕ) (place count : ℕ) → HasRequired bytes place count → counts bytes place count ≡ true
 unfolding counts
 counts_so bytes place count r =
-    rw (keeps_so bytes place count (negsuc 65535) r.0) (rw (keeps_so bytes place count (pos 0) r.1) (rw (keeps_so bytes place count (pos 65536) r.2) refl))
+    rw (keeps_so bytes place count (negsuc 65535) r.0)
+    (rw (keeps_so bytes place count (pos 0) r.1) (rw (keeps_so bytes place count (pos 65536) r.2) refl))
 
 has_required : (bytes : List ℕ) (place count : ℕ) → counts bytes place count ≡ true → HasRequired bytes place count
 unfolding counts
@@ -104,13 +113,15 @@ by_first : (bytes : List ℕ) (place count : ℕ) (at : ℤ) (i : ℕ) → HasRe
 unfolding mapped
 by_first bytes place count at i r e = rw (counts_so bytes place count r) (ap (λ i. moved bytes place count i at) e)
 
-moved_entry : (bytes : List ℕ) (place count : ℕ) (at : ℤ) (i : ℕ) → i < count → from_at bytes place i ≡ at → moved bytes place count i at ≡ to_at bytes place i
+moved_entry : (bytes : List ℕ) (place count : ℕ) (at : ℤ) (i : ℕ) → i < count → from_at bytes place i ≡ at →
+    moved bytes place count i at ≡ to_at bytes place i
 unfolding moved
 moved_entry bytes place count at i h e = rw (not_last i count h) (rw (same (from_at bytes place i) at e) refl)
 
 moved_first : (bytes : List ℕ) (place count : ℕ) (at : ℤ) → 0 < count → at <ℤ from_at bytes place 0 → moved bytes place count 0 at ≡ at
 unfolding moved
-moved_first bytes place count at h k = rw (not_last 0 count h) (rw (not_same (from_at bytes place 0) at (λ e. omega (arith, ints, e, k))) refl)
+moved_first bytes place count at h k =
+    rw (not_last 0 count h) (rw (not_same (from_at bytes place 0) at (λ e. omega (arith, ints, e, k))) refl)
 
 moved_none : (bytes : List ℕ) (place count : ℕ) (at : ℤ) → moved bytes place count count at ≡ at
 unfolding moved
@@ -118,9 +129,12 @@ moved_none bytes place count at = rw (last count) refl
 
 moved_further : (bytes : List ℕ) (place count : ℕ) (at : ℤ) (i : ℕ) → suc i < count → at <ℤ from_at bytes place (suc i)
     → moved bytes place count (suc i) at
-    ≡ (pos (weighted (lifted (to_at bytes place i)) (apart (from_at bytes place (suc i)) at) (lifted (to_at bytes place (suc i))) (apart at (from_at bytes place i))) -ℤ pos 131072)
+    ≡ (pos (weighted (lifted (to_at bytes place i)) (apart (from_at bytes place (suc i)) at) (lifted (to_at bytes place (suc i)))
+    (apart at (from_at bytes place i))) -ℤ pos 131072)
 unfolding moved moved_between
-moved_further bytes place count at i h k = rw (not_last (suc i) count h) (rw (not_same (from_at bytes place (suc i)) at (λ e. omega (arith, ints, e, k))) (rw (not_zero i) (rw (one_less i) refl)))
+moved_further bytes place count at i h k =
+    rw (not_last (suc i) count h)
+    (rw (not_same (from_at bytes place (suc i)) at (λ e. omega (arith, ints, e, k))) (rw (not_zero i) (rw (one_less i) refl)))
 
 whole : (from at : ℤ) (other : ℕ) → at <ℤ from → 0 < apart from at + other
 whole from at other h = omega (arith, ints)
@@ -128,7 +142,8 @@ whole from at other h = omega (arith, ints)
 computed : (bytes : List ℕ) (place count : ℕ) (at result : ℤ) → IsMapped bytes place count at result → mapped bytes place count at ≡ result
 unfolding mapped
 computed bytes place count at result (not_required n e) =
-    chosen (counts bytes place count) (moved bytes place count (first_above bytes place count at) at) at (λ t. absurd (n (has_required bytes place count t))) ∙ sym e
+    chosen (counts bytes place count)
+    (moved bytes place count (first_above bytes place count at) at) at (λ t. absurd (n (has_required bytes place count t))) ∙ sym e
 computed bytes place count at result (of_entry r i is f e) =
     by_first bytes place count at i r (first_only bytes place count at i is) ∙ moved_entry bytes place count at i is.listed f ∙ sym e
 computed bytes place count at result (before_all r is h e) =
@@ -149,7 +164,8 @@ by_entry : (bytes : List ℕ) (place count : ℕ) (at : ℤ) (i : ℕ) → HasRe
     → at <ℤ from_at bytes place i → BecomesSome bytes place count at
 by_entry bytes place count at zero r is h = record { result = at; is = before_all r is h refl }
 by_entry bytes place count at (suc i) r is h =
-    let n : ℕ = weighted (lifted (to_at bytes place i)) (apart (from_at bytes place (suc i)) at) (lifted (to_at bytes place (suc i))) (apart at (from_at bytes place i)) in
+    let n : ℕ = weighted (lifted (to_at bytes place i)) (apart (from_at bytes place (suc i)) at) (lifted (to_at bytes place (suc i)))
+    (apart at (from_at bytes place i)) in
     record { result = pos n -ℤ pos 131072; is = moved_on r i n is h (nearest-is _ _ (whole (from_at bytes place (suc i)) at _ h)) refl }
 
 with_required : (bytes : List ℕ) (place count : ℕ) (at : ℤ) → HasRequired bytes place count → BecomesSome bytes place count at
@@ -159,7 +175,11 @@ with_required bytes place count at r =
       | inr is ↦ by_lt_z at (from_at bytes place (first_above bytes place count at))
           (λ h. by_entry bytes place count at (first_above bytes place count at) r is h)
           (λ h. let e : from_at bytes place (first_above bytes place count at) ≡ at = omega (arith, ints, h, is.not_below) in
-          record { result = to_at bytes place (first_above bytes place count at); is = of_entry r (first_above bytes place count at) is e refl })
+          record {
+            result =
+                to_at bytes place (first_above bytes place count at);
+            is = of_entry r (first_above bytes place count at) is e refl;
+          })
     ]
 
 becomes_some : (bytes : List ℕ) (place count : ℕ) (at : ℤ) → BecomesSome bytes place count at
@@ -168,7 +188,8 @@ becomes_some bytes place count at =
     (λ t. with_required bytes place count at (has_required bytes place count t))
     (λ f. record { result = at; is = not_required (λ r. both_ways (counts bytes place count) f (counts_so bytes place count r)) refl })
 
-pub maps : (bytes : List ℕ) (place count : ℕ) (at result : ℤ) → (mapped bytes place count at ≡ result) ↔ IsMapped bytes place count at result
+pub maps : (bytes : List ℕ) (place count : ℕ) (at result : ℤ) →
+    (mapped bytes place count at ≡ result) ↔ IsMapped bytes place count at result
 maps bytes place count at result = (
   (λ e. let one = becomes_some bytes place count at in
       subst (IsMapped bytes place count at) (sym (computed bytes place count at one.result one.is) ∙ e) one.is),
@@ -177,12 +198,14 @@ maps bytes place count at result = (
 
 -- ---- what every map leaves as it is
 
-stays : (bytes : List ℕ) (place count : ℕ) (at : ℤ) → (HasRequired bytes place count → IsKept bytes place count at) → mapped bytes place count at ≡ at
+stays : (bytes : List ℕ) (place count : ℕ) (at : ℤ) → (HasRequired bytes place count → IsKept bytes place count at) →
+    mapped bytes place count at ≡ at
 stays bytes place count at kept =
     by_test (counts bytes place count)
     (λ t. let r = has_required bytes place count t in let k = kept r in
     computed bytes place count at at (of_entry r k.entry k.first k.from (sym k.to)))
-    (λ f. computed bytes place count at at (not_required (λ r. both_ways (counts bytes place count) f (counts_so bytes place count r)) refl))
+    (λ f. computed bytes place
+    count at at (not_required (λ r. both_ways (counts bytes place count) f (counts_so bytes place count r)) refl))
 
 pub minima : (bytes : List ℕ) (place count : ℕ) → mapped bytes place count (negsuc 65535) ≡ negsuc 65535
 minima bytes place count = stays bytes place count (negsuc 65535) (λ r. r.0)

@@ -46,4 +46,5 @@ pub varied : (metrics : MetricVariations) (tag i : ℕ) (store : Store) (coordin
     (λ total. VariesBy store (outer_at metrics.bytes.now metrics.size i) (inner_at metrics.bytes.now metrics.size i) coordinates total)
     → MatchOption result (HasNoMetric metrics tag) (λ total. MetricVariesBy metrics tag coordinates total)
 varied metrics tag i store coordinates None first stored never = untold metrics tag i store first stored never
-varied metrics tag i store coordinates (Some total) first stored varies = record { entry = i; store = store; first = first; stored = stored; varies = varies }
+varied metrics tag i store coordinates (Some total) first stored varies =
+    record { entry = i; store = store; first = first; stored = stored; varies = varies }

@@ -32,7 +32,8 @@ use Rattle.postscript_view.specs.declared.font.FontView.{FontView}
 use Rattle.postscript_view.proofs.LayoutLaws.{part_with, aside_has, names_index, whole_offset, map_has, tables_have, char_strings_have, slice_has, item_has, header_has}
 
 -- ---- a reading at another place, and an INDEX
-no_aside : {A : Type 0} (e : Error) (there : ℕ) (reading : Reading A) (bytes : List ℕ) (place : ℕ) → RefusedAs e (aside there reading bytes place) → RefusedAs e (reading bytes there)
+no_aside : {A : Type 0} (e : Error) (there : ℕ) (reading : Reading A) (bytes : List ℕ) (place : ℕ) →
+    RefusedAs e (aside there reading bytes place) → RefusedAs e (reading bytes there)
 no_aside {A} e there reading bytes place h = by (reading bytes there) h
   where
     by : (o : Outcome A) → RefusedAs {A = A} e (after o (λ x _. Got x place)) → RefusedAs e o
@@ -40,13 +41,15 @@ no_aside {A} e there reading bytes place h = by (reading bytes there) h
     by (Fault r) h = h
     by Past h = h
 
-index_none : (e : Error) (bytes : List ℕ) (base : ℕ) (m : Dictionary) (op : Operator) (q place from : ℕ) → place_at 0 base m op bytes place ≡ Got q from → RefusedAs e (aside q opened bytes from) → NamesNone e bytes base m op
+index_none : (e : Error) (bytes : List ℕ) (base : ℕ) (m : Dictionary) (op : Operator) (q place from : ℕ) →
+    place_at 0 base m op bytes place ≡ Got q from → RefusedAs e (aside q opened bytes from) → NamesNone e bytes base m op
 index_none e bytes base m op q place from is h =
     let p = placed_has 0 base m op q bytes place from is in
     let here : q ≡ p.1 = let there : q ≡ 0 + p.1 = p.4 in omega (arith, there) in
     OfIndex p.0 p.1 p.2 p.3 (subst (NoIndex e bytes) here (no_aside e q opened bytes from h))
 
-names_none : (e : Error) (bytes : List ℕ) (base : ℕ) (m : Dictionary) (op : Operator) (place : ℕ) → RefusedAs e (after (place_at 0 base m op bytes place) (λ there at. aside there opened bytes at)) → NamesNone e bytes base m op
+names_none : (e : Error) (bytes : List ℕ) (base : ℕ) (m : Dictionary) (op : Operator) (place : ℕ) →
+    RefusedAs e (after (place_at 0 base m op bytes place) (λ there at. aside there opened bytes at)) → NamesNone e bytes base m op
 names_none e bytes base m op place h = by (stopped e (Step (place_at 0 base m op) (λ there. Last (aside there opened))) bytes place h)
   where
     by : Stops e (Step (place_at 0 base m op) (λ there. Last (aside there opened))) bytes place → NamesNone e bytes base m op
@@ -59,69 +62,94 @@ unfolding tables
 no_tables e bytes place number h = by (stopped {X = Tables} e steps bytes place h)
   where
     steps : Steps Tables
-    steps = Step opened (λ names. Step opened (λ maps. Step opened (λ strings. Step opened (λ subs. Step (map_from (slice_get maps number)) (λ m.
+    steps =
+        Step opened (λ names. Step opened
+        (λ maps. Step opened (λ strings. Step opened (λ subs. Step (map_from (slice_get maps number)) (λ m.
         Done (record { names = names; dictionary = m; strings = strings; subroutines = subs }))))))
 
     open_at : (place : ℕ) (items : List (List ℕ)) (next : ℕ) → opened bytes place ≡ Got items next → IsOpened bytes place items next
     open_at place items next is = opened_only bytes place items next is
 
-    of_item : (names maps : List (List ℕ)) (a b c : ℕ) → opened bytes place ≡ Got names a → opened bytes a ≡ Got maps b → (o : Option (List ℕ)) → slice_get maps number ≡ o → RefusedAs e (map_from o bytes c) → NoTables e bytes place number
+    of_item : (names maps : List (List ℕ)) (a b c : ℕ) → opened bytes place ≡ Got names a → opened bytes a ≡ Got maps b →
+        (o : Option (List ℕ)) → slice_get maps number ≡ o → RefusedAs e (map_from o bytes c) → NoTables e bytes place number
     of_item names maps a b c first second None is h = OfNumber names maps a b (open_at place names a first) (open_at a maps b second) is h
-    of_item names maps a b c first second (Some item) is h = OfDictionary names maps item a b (open_at place names a first) (open_at a maps b second) is (no_map reads_dictionaries e item bytes c h)
+    of_item names maps a b c first second (Some item) is h =
+        OfDictionary names maps item a b (open_at place names a first) (open_at a maps b second) is
+        (no_map reads_dictionaries e item bytes c h)
 
     by : Stops {X = Tables} e steps bytes place → NoTables e bytes place number
     by (inl h) = OfNames h
     by (inr (n, a, first, inl h)) = OfDictionaries n a (open_at place n a first) h
     by (inr (n, a, first, inr (m, b, second, inl h))) = OfStrings n m a b (open_at place n a first) (open_at a m b second) h
-    by (inr (n, a, first, inr (m, b, second, inr (s, c, third, inl h)))) = OfSubroutines n m s a b c (open_at place n a first) (open_at a m b second) (open_at b s c third) h
-    by (inr (n, a, first, inr (m, b, second, inr (s, c, third, inr (g, d, fourth, inl h))))) = of_item n m a b d first second (slice_get m number) refl h
+    by (inr (n, a, first, inr (m, b, second, inr (s, c, third, inl h)))) =
+        OfSubroutines n m s a b c (open_at place n a first) (open_at a m b second) (open_at b s c third) h
+    by (inr (n, a, first, inr (m, b, second, inr (s, c, third, inr (g, d, fourth, inl h))))) =
+        of_item n m a b d first second (slice_get m number) refl h
     by (inr (n, a, first, inr (m, b, second, inr (s, c, third, inr (g, d, fourth, inr h))))) = absurd h.3
 
 -- ---- the char strings
-no_char_strings : (e : Error) (bytes : List ℕ) (m : Dictionary) (place : ℕ) → RefusedAs e (char_strings m bytes place) → NoCharStrings e bytes m
+no_char_strings : (e : Error) (bytes : List ℕ) (m : Dictionary) (place : ℕ) → RefusedAs e (char_strings m bytes place) →
+    NoCharStrings e bytes m
 unfolding char_strings
-no_char_strings e bytes m place h = by (stopped e (Step (place_at 0 0 m operators.CharStrings) (λ there. Step (type_two m) (λ _. Last (aside there opened)))) bytes place h)
+no_char_strings e bytes m place h =
+    by (stopped e (Step (place_at 0 0 m operators.CharStrings) (λ there. Step (type_two m) (λ _. Last (aside there opened)))) bytes place h)
   where
-    of_type : NoFirst e m operators.CharStringType ⊎ ((z : ℤ) × HasFirst m operators.CharStringType z × (z ≡ pos 2 → ⊥) × (refusal_of e ≡ unknown_char_string_format)) → NoType e m
+    of_type : NoFirst e m operators.CharStringType ⊎ ((z : ℤ) × HasFirst m operators.CharStringType
+        z × (z ≡ pos 2 → ⊥) × (refusal_of e ≡ unknown_char_string_format)) →
+        NoType e m
     of_type (inl h) = OfType h
     of_type (inr h) = OtherType h.0 h.1 h.2 h.3
 
-    by : Stops e (Step (place_at 0 0 m operators.CharStrings) (λ there. Step (type_two m) (λ _. Last (aside there opened)))) bytes place → NoCharStrings e bytes m
+    by : Stops e (Step (place_at 0 0 m operators.CharStrings) (λ there. Step (type_two m) (λ _. Last (aside there opened)))) bytes place →
+        NoCharStrings e bytes m
     by (inl h) = OfTheirOffset (no_offset e 0 0 m operators.CharStrings bytes place h)
     by (inr (q, from, is, inl h)) = OfTheirType (of_type (no_type e m bytes from h))
     by (inr (q, from, is, inr (t, to, two, h))) =
         let p = placed_has 0 0 m operators.CharStrings q bytes place from is in
         let here : q ≡ p.1 = let there : q ≡ 0 + p.1 = p.4 in omega (arith, there) in
-        OfTheirIndex p.1 (subst (HasFirst m operators.CharStrings) (whole_offset p.0 p.1 p.3) p.2) (type_has m t bytes from to two).0 (subst (NoIndex e bytes) here (no_aside e q opened bytes to h))
+        OfTheirIndex p.1 (subst (HasFirst m operators.CharStrings) (whole_offset p.0 p.1 p.3) p.2) (type_has m t bytes from to two).0
+        (subst (NoIndex e bytes) here (no_aside e q opened bytes to h))
 
 -- ---- the private dictionary and its subroutines
-no_slice : (e : Error) (there size : ℕ) (bytes : List ℕ) (place : ℕ) → RefusedAs e (slice_at there size bytes place) → (0 < size) × (length bytes < there + size) × (refusal_of e ≡ unexpected_eof)
+no_slice : (e : Error) (there size : ℕ) (bytes : List ℕ) (place : ℕ) → RefusedAs e (slice_at there size bytes place) →
+    (0 < size) × (length bytes < there + size) × (refusal_of e ≡ unexpected_eof)
 unfolding slice_at
 no_slice e there size bytes place h = by (size == 0) refl h
   where
-    cut : (b : Bool) → nat_lt (length bytes) (there + size) ≡ b → 0 < size → RefusedAs e (if b then end else Got (take size (drop there bytes)) place) → (0 < size) × (length bytes < there + size) × (refusal_of e ≡ unexpected_eof)
+    cut : (b : Bool) → nat_lt (length bytes) (there + size) ≡ b → 0 < size →
+        RefusedAs e (if b then end else Got (take size (drop there bytes)) place) →
+        (0 < size) × (length bytes < there + size) × (refusal_of e ≡ unexpected_eof)
     cut true t some h = (some, grind (arith, nat_tests), h)
     cut false t some h = absurd h
 
-    by : (b : Bool) → (size == 0) ≡ b → RefusedAs e (if b then Got [] place else if nat_lt (length bytes) (there + size) then end else Got (take size (drop there bytes)) place) → (0 < size) × (length bytes < there + size) × (refusal_of e ≡ unexpected_eof)
+    by : (b : Bool) → (size == 0) ≡ b →
+        RefusedAs e (if b then Got [] place else if nat_lt (length bytes) (there + size) then end else Got
+        (take size (drop there bytes)) place) →
+        (0 < size) × (length bytes < there + size) × (refusal_of e ≡ unexpected_eof)
     by true t h = absurd h
     by false t h = cut (nat_lt (length bytes) (there + size)) refl (grind (arith, nat_tests)) h
 
-no_subroutines : (e : Error) (bytes : List ℕ) (m local : Dictionary) (offset place : ℕ) → HasPrivate bytes 0 m offset local → RefusedAs e (subroutines offset local bytes place) → NoPart e bytes m
+no_subroutines : (e : Error) (bytes : List ℕ) (m local : Dictionary) (offset place : ℕ) → HasPrivate bytes 0 m offset local →
+    RefusedAs e (subroutines offset local bytes place) → NoPart e bytes m
 unfolding subroutines
 no_subroutines e bytes m local offset place private h = by (first_of (look local operators.Subrs)) refl h
   where
     by : (o : Option _) → first_of (look local operators.Subrs) ≡ o
-        → RefusedAs e ((if is_none o then pure [] else (λ bytes place. after (place_at 0 offset local operators.Subrs bytes place) (λ there at. aside there opened bytes at))) bytes place) → NoPart e bytes m
+        → RefusedAs e ((if is_none o then pure
+        [] else (λ bytes place. after (place_at 0 offset local operators.Subrs bytes place) (λ there at. aside there opened bytes at)))
+        bytes place) → NoPart e bytes m
     by None is h = absurd h
     by (Some x) is h = OfSubrs offset local private (subst IsSome (sym is) refl) (names_none e bytes offset local operators.Subrs place h)
 
-no_own : (e : Error) (bytes : List ℕ) (m : Dictionary) (place : ℕ) → IsSome (first_two_of (look m operators.Private)) → RefusedAs e (own_part m bytes place) → NoPart e bytes m
+no_own : (e : Error) (bytes : List ℕ) (m : Dictionary) (place : ℕ) → IsSome (first_two_of (look m operators.Private)) →
+    RefusedAs e (own_part m bytes place) → NoPart e bytes m
 unfolding own_part
 no_own e bytes m place named h = by (stopped {X = PrivateDict} e steps bytes place h)
   where
     steps : Steps PrivateDict
-    steps = Step (bounds 0 m) (λ b. Step (slice_at b.2 b.0) (λ text. Step (map_of text) (λ local. Step (subroutines b.1 local) (λ subs. Done (part_with local subs None)))))
+    steps =
+        Step (bounds 0 m) (λ b. Step (slice_at b.2 b.0)
+        (λ text. Step (map_of text) (λ local. Step (subroutines b.1 local) (λ subs. Done (part_with local subs None)))))
 
     by : Stops {X = PrivateDict} e steps bytes place → NoPart e bytes m
     by (inl h) = OfBounds named (no_bounds e 0 m bytes place h)
@@ -134,7 +162,8 @@ no_own e bytes m place named h = by (stopped {X = PrivateDict} e steps bytes pla
     by (inr (b, from, is, inr (text, to, cut, inl h))) =
         let p = bounds_has 0 m b bytes place from is in
         let here : b.2 ≡ b.1 = let there : b.2 ≡ 0 + b.1 = p.1 in omega (arith, there) in
-        OfPrivate b.0 b.1 text p.0 (subst (λ k. IsSlice bytes k b.0 text) here (slice_has b.2 b.0 text bytes from to cut).0) (no_map reads_dictionaries e text bytes to h)
+        OfPrivate b.0 b.1 text p.0 (subst (λ k. IsSlice bytes k b.0 text) here (slice_has b.2 b.0 text bytes from to cut).0)
+        (no_map reads_dictionaries e text bytes to h)
     by (inr (b, from, is, inr (text, to, cut, inr (local, next, read, inl h)))) =
         let p = bounds_has 0 m b bytes place from is in
         let slice = subst (λ k. IsSlice bytes k b.0 text) p.1 (slice_has b.2 b.0 text bytes from to cut).0 in
@@ -145,12 +174,14 @@ no_part : (e : Error) (bytes : List ℕ) (m : Dictionary) (place : ℕ) → Refu
 unfolding part
 no_part e bytes m place h = by (first_two_of (look m operators.Private)) refl h
   where
-    by : (o : Option _) → first_two_of (look m operators.Private) ≡ o → RefusedAs e ((if is_none o then pure (part_with (dictionary_of []) [] None) else own_part m) bytes place) → NoPart e bytes m
+    by : (o : Option _) → first_two_of (look m operators.Private) ≡ o →
+        RefusedAs e ((if is_none o then pure (part_with (dictionary_of []) [] None) else own_part m) bytes place) → NoPart e bytes m
     by None is h = absurd h
     by (Some x) is h = no_own e bytes m place (subst IsSome (sym is) refl) h
 
 -- ---- the parts
-no_item_part : (e : Error) (bytes item : List ℕ) (items : List (List ℕ)) (place : ℕ) → RefusedAs e (item_part item bytes place) → NoItem e bytes (item ∷ items)
+no_item_part : (e : Error) (bytes item : List ℕ) (items : List (List ℕ)) (place : ℕ) → RefusedAs e (item_part item bytes place) →
+    NoItem e bytes (item ∷ items)
 unfolding item_part
 no_item_part e bytes item items place h = by (stopped {X = PrivateDict} e steps bytes place h)
   where
@@ -162,20 +193,25 @@ no_item_part e bytes item items place h = by (stopped {X = PrivateDict} e steps 
     by (inr (m, from, is, inl h)) = inr (inl (m, (map_has item m bytes place from is).0, no_part e bytes m from h))
     by (inr (m, from, is, inr h)) = absurd h.3
 
-no_items : (e : Error) (bytes : List ℕ) (items : List (List ℕ)) (place : ℕ) → RefusedAs e (each item_part items bytes place) → NoItem e bytes items
+no_items : (e : Error) (bytes : List ℕ) (items : List (List ℕ)) (place : ℕ) → RefusedAs e (each item_part items bytes place) →
+    NoItem e bytes items
 unfolding each
 no_items e bytes [] place h = absurd h
-no_items e bytes (item ∷ items) place h = by (λ from h. no_items e bytes items from h) (stopped {X = List PrivateDict} e steps bytes place h)
+no_items e bytes (item ∷ items) place h =
+    by (λ from h. no_items e bytes items from h) (stopped {X = List PrivateDict} e steps bytes place h)
   where
     steps : Steps (List PrivateDict)
     steps = Step (item_part item) (λ p. Step (each item_part items) (λ rest. Done (p ∷ rest)))
 
-    by : ((from : ℕ) → RefusedAs e (each item_part items bytes from) → NoItem e bytes items) → Stops {X = List PrivateDict} e steps bytes place → NoItem e bytes (item ∷ items)
+    by : ((from : ℕ) → RefusedAs e (each item_part items bytes from) → NoItem e bytes items) →
+        Stops {X = List PrivateDict} e steps bytes place → NoItem e bytes (item ∷ items)
     by behind (inl h) = no_item_part e bytes item items place h
-    by behind (inr (p, from, is, inl h)) = let one = item_has bytes item p place from is in inr (inr (one.0, p, one.1, one.2, behind from h))
+    by behind (inr (p, from, is, inl h)) =
+        let one = item_has bytes item p place from is in inr (inr (one.0, p, one.1, one.2, behind from h))
     by behind (inr (p, from, is, inr h)) = absurd h.3
 
-no_font_parts : (e : Error) (bytes : List ℕ) (m : Dictionary) (place : ℕ) → IsSome (look m operators.ROS) → RefusedAs e (font_parts m bytes place) → NoParts e bytes m
+no_font_parts : (e : Error) (bytes : List ℕ) (m : Dictionary) (place : ℕ) → IsSome (look m operators.ROS) →
+    RefusedAs e (font_parts m bytes place) → NoParts e bytes m
 unfolding font_parts
 no_font_parts e bytes m place keyed h = by (stopped {X = List PrivateDict} e steps bytes place h)
   where
@@ -185,13 +221,17 @@ no_font_parts e bytes m place keyed h = by (stopped {X = List PrivateDict} e ste
     by : Stops {X = List PrivateDict} e steps bytes place → NoParts e bytes m
     by (inl h) = OfArray keyed (OfOffset (no_offset e 0 0 m operators.FDArray bytes place h))
     by (inr (q, from, is, inl h)) = OfArray keyed (index_none e bytes 0 m operators.FDArray q place from is h)
-    by (inr (q, from, is, inr (items, to, stand, h))) = OfItem items keyed (names_index bytes m operators.FDArray q place from to items is stand).0 (no_items e bytes items to h)
+    by (inr (q, from, is, inr (items, to, stand, h))) =
+        OfItem items keyed (names_index bytes m operators.FDArray q place from to items is stand).0 (no_items e bytes items to h)
 
 no_parts : (e : Error) (bytes : List ℕ) (m : Dictionary) (place : ℕ) → RefusedAs e (parts m bytes place) → NoParts e bytes m
 unfolding parts
 no_parts e bytes m place h = by (look m operators.ROS) refl h
   where
-    by : (o : Option _) → look m operators.ROS ≡ o → RefusedAs e ((if is_none o then (λ bytes place. after (part m bytes place) (λ p next. Got (p ∷ []) next)) else font_parts m) bytes place) → NoParts e bytes m
+    by : (o : Option _) → look m operators.ROS ≡ o →
+        RefusedAs e ((if is_none o then (λ bytes place. after (part m bytes place) (λ p next. Got (p ∷ []) next)) else font_parts m) bytes
+        place) →
+        NoParts e bytes m
     by None is h = one (stopped e (Step (part m) (λ p. Done (p ∷ []))) bytes place h)
       where
         one : Stops e (Step (part m) (λ p. Done (p ∷ []))) bytes place → NoParts e bytes m
@@ -213,10 +253,13 @@ unfolding view_of
 no_view e bytes number h = by (stopped {X = View} e steps bytes 0 h)
   where
     steps : Steps View
-    steps = Step header_size (λ size. Step (aside size (tables number)) (λ (t : Tables). Step (char_strings t.dictionary) (λ codes. Step (parts t.dictionary) (λ ps.
+    steps =
+        Step header_size (λ size. Step (aside size (tables number))
+        (λ (t : Tables). Step (char_strings t.dictionary) (λ codes. Step (parts t.dictionary) (λ ps.
         Done (record { tables = t; char_strings = codes; parts = ps })))))
 
-    behind : (size at next : ℕ) (t : Tables) → header_size bytes 0 ≡ Got size at → aside size (tables number) bytes at ≡ Got t next → AreTables bytes (number_at bytes 2 1) number t
+    behind : (size at next : ℕ) (t : Tables) → header_size bytes 0 ≡ Got size at → aside size (tables number) bytes at ≡ Got t next →
+        AreTables bytes (number_at bytes 2 1) number t
     behind size at next t is stand =
         let head = header_has bytes size 0 at is in
         let a = aside_has size (tables number) bytes at t next stand in
@@ -226,12 +269,16 @@ no_view e bytes number h = by (stopped {X = View} e steps bytes 0 h)
     by (inl h) = no_header e bytes number 0 h
     by (inr (size, at, is, inl h)) =
         let head = header_has bytes size 0 at is in
-        OfTables head.0 (subst (λ k. NoTables e bytes k number) (sym head.1) (no_tables e bytes size number (no_aside e size (tables number) bytes at h)))
-    by (inr (size, at, is, inr (t, to, stand, inl h))) = OfCharStrings t (behind size at to t is stand) (no_char_strings e bytes t.dictionary to h)
+        OfTables head.0 (subst (λ k. NoTables e bytes k number) (sym head.1)
+        (no_tables e bytes size number (no_aside e size (tables number) bytes at h)))
+    by (inr (size, at, is, inr (t, to, stand, inl h))) =
+        OfCharStrings t (behind size at to t is stand) (no_char_strings e bytes t.dictionary to h)
     by (inr (size, at, is, inr (t, to, stand, inr (codes, next, are, inl h)))) =
-        OfParts t codes (behind size at to t is stand) (char_strings_have bytes t.dictionary codes to next are).0 (no_parts e bytes t.dictionary next h)
+        OfParts t codes (behind size at to t is stand) (char_strings_have bytes t.dictionary codes to next are).0
+        (no_parts e bytes t.dictionary next h)
     by (inr (size, at, is, inr (t, to, stand, inr (codes, next, are, inr h)))) = absurd h.3
 
-pub why_view : (r : Result FontView Error) (bytes : List ℕ) (number : ℕ) → Answers view_shown r 0 (view_of number bytes 0) → IfErr r (λ e. e ≢ Memory → NoFont e bytes number)
+pub why_view : (r : Result FontView Error) (bytes : List ℕ) (number : ℕ) → Answers view_shown r 0 (view_of number bytes 0) →
+    IfErr r (λ e. e ≢ Memory → NoFont e bytes number)
 why_view (Ok v) bytes number answers = tt
 why_view (Err e) bytes number answers = λ other. no_view e bytes number (answers other)

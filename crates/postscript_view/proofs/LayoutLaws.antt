@@ -31,29 +31,44 @@ use Rattle.postscript_view.specs.declared.font.FontView.{FontView}
 use Rattle.postscript_view.proofs.Wider.{map_is, slice_is, has_some}
 
 -- ---- a reading at another place
-pub aside_has : {A : Type 0} (there : ℕ) (reading : Reading A) (bytes : List ℕ) (place : ℕ) (x : A) (next : ℕ) → aside there reading bytes place ≡ Got x next → (behind : ℕ) × (reading bytes there ≡ Got x behind) × (place ≡ next)
+pub aside_has : {A : Type 0} (there : ℕ) (reading : Reading A) (bytes : List ℕ) (place : ℕ) (x : A) (next : ℕ) →
+    aside there reading bytes place ≡ Got x next → (behind : ℕ) × (reading bytes there ≡ Got x behind) × (place ≡ next)
 aside_has there reading bytes place x next e = by (reading bytes there) refl e
   where
-    by : (o : Outcome _) → reading bytes there ≡ o → after o (λ x _. Got x place) ≡ Got x next → (behind : ℕ) × (reading bytes there ≡ Got x behind) × (place ≡ next)
+    by : (o : Outcome _) → reading bytes there ≡ o → after o (λ x _. Got x place) ≡ Got x next →
+        (behind : ℕ) × (reading bytes there ≡ Got x behind) × (place ≡ next)
     by (Got y behind) is e = let same = got y x place next e in (behind, is ∙ ap (λ y. Got y behind) same.0, same.1)
     by (Fault r) is e = faulty x r next e
     by Past is e = let no : Past ≡ Got x next = e in absurd (cc)
 
 -- ---- an INDEX
-index_is : (bytes : List ℕ) (offset place : ℕ) (items : List (List ℕ)) → IsIndexAt bytes offset items → aside offset opened bytes place ≡ Got items place
+index_is : (bytes : List ℕ) (offset place : ℕ) (items : List (List ℕ)) → IsIndexAt bytes offset items →
+    aside offset opened bytes place ≡ Got items place
 index_is bytes offset place items h = rw (opened_is bytes offset items h.0 h.2) refl
 
 -- at the place that an operator names, from a base on
-pub index_has : (bytes : List ℕ) (base : ℕ) (map : Dictionary) (operator : Operator) (there place at next : ℕ) (items : List (List ℕ)) → place_at 0 base map operator bytes place ≡ Got there at → aside there opened bytes at ≡ Got items next
+pub index_has : (bytes : List ℕ) (base : ℕ) (map : Dictionary) (operator : Operator) (there place at next : ℕ) (items : List (List ℕ)) →
+    place_at 0 base map operator bytes place ≡ Got there at → aside there opened bytes at ≡ Got items next
     → (z : ℤ) × (offset : ℕ) × HasFirst map operator z × (pos base +ℤ z ≡ pos offset) × IsIndexAt bytes offset items × (place ≡ next)
 index_has bytes base map operator there place at next items named stands =
     let p = placed_has 0 base map operator there bytes place at named in
     let a = aside_has there opened bytes at items next stands in
     let on : 0 + p.1 ≡ p.1 = omega arith in
-    let here : there ≡ p.1 = p.4 ∙ on in
-    (p.0, p.1, p.2, p.3, (a.0, subst IsPlace on p.5, subst (λ k. IsOpened bytes k items a.0) here (opened_only bytes there items a.0 a.1)), p.6 ∙ a.2)
+    let here : there ≡ p.1 = p.4 ∙ on in (
+      p.0,
+      p.1,
+      p.2,
+      p.3,
+      (
+        a.0,
+        subst IsPlace on p.5,
+        subst (λ k. IsOpened bytes k items a.0) here (opened_only bytes there items a.0 a.1),
+      ),
+      p.6 ∙ a.2,
+    )
 
-named_is : (bytes : List ℕ) (base : ℕ) (map : Dictionary) (operator : Operator) (z : ℤ) (offset place : ℕ) → HasFirst map operator z → pos base +ℤ z ≡ pos offset → IsPlace offset → place_at 0 base map operator bytes place ≡ Got offset place
+named_is : (bytes : List ℕ) (base : ℕ) (map : Dictionary) (operator : Operator) (z : ℤ) (offset place : ℕ) → HasFirst map operator z →
+    pos base +ℤ z ≡ pos offset → IsPlace offset → place_at 0 base map operator bytes place ≡ Got offset place
 named_is bytes base map operator z offset place h sum fits =
     let on : 0 + offset ≡ offset = omega arith in
     placed_is 0 base map operator z offset bytes place h sum (subst IsPlace (sym on) fits) ∙ ap (λ n. Got n place) on
@@ -61,28 +76,33 @@ named_is bytes base map operator z offset place h sum fits =
 pub whole_offset : (z : ℤ) (offset : ℕ) → pos 0 +ℤ z ≡ pos offset → z ≡ pos offset
 whole_offset z offset sum = omega (arith, ints)
 
-pub names_index : (bytes : List ℕ) (map : Dictionary) (operator : Operator) (there place at next : ℕ) (items : List (List ℕ)) → place_at 0 0 map operator bytes place ≡ Got there at → aside there opened bytes at ≡ Got items next
+pub names_index : (bytes : List ℕ) (map : Dictionary) (operator : Operator) (there place at next : ℕ) (items : List (List ℕ)) →
+    place_at 0 0 map operator bytes place ≡ Got there at → aside there opened bytes at ≡ Got items next
     → NamesIndex bytes map operator items × (place ≡ next)
 names_index bytes map operator there place at next items named stands =
     let h = index_has bytes 0 map operator there place at next items named stands in
     ((h.1, subst (HasFirst map operator) (whole_offset h.0 h.1 h.3) h.2, h.4), h.5)
 
 -- ---- dictionaries
-pub map_has : (held : List ℕ) (m : Dictionary) (bytes : List ℕ) (place next : ℕ) → map_of held bytes place ≡ Got m next → IsDictionary held 0 m × (place ≡ next)
+pub map_has : (held : List ℕ) (m : Dictionary) (bytes : List ℕ) (place next : ℕ) → map_of held bytes place ≡ Got m next →
+    IsDictionary held 0 m × (place ≡ next)
 unfolding map_of
 map_has held m bytes place next e = by (dictionary held 0) refl e
   where
-    by : (o : Outcome Dictionary) → dictionary held 0 ≡ o → after o (λ m _. Got m place) ≡ Got m next → IsDictionary held 0 m × (place ≡ next)
+    by : (o : Outcome Dictionary) → dictionary held 0 ≡ o → after o (λ m _. Got m place) ≡ Got m next →
+        IsDictionary held 0 m × (place ≡ next)
     by (Got d n) is e = let same = got d m place next e in ((reads_dictionaries.only held 0 m n (is ∙ ap (λ d. Got d n) same.0)).0, same.1)
     by (Fault r) is e = faulty m r next e
     by Past is e = let no : Past ≡ Got m next = e in absurd (cc)
 
-pub from_has : (o : Option (List ℕ)) (m : Dictionary) (bytes : List ℕ) (place next : ℕ) → map_from o bytes place ≡ Got m next → (item : List ℕ) × (o ≡ Some item) × IsDictionary item 0 m × (place ≡ next)
+pub from_has : (o : Option (List ℕ)) (m : Dictionary) (bytes : List ℕ) (place next : ℕ) → map_from o bytes place ≡ Got m next →
+    (item : List ℕ) × (o ≡ Some item) × IsDictionary item 0 m × (place ≡ next)
 from_has None m bytes place next e = faulty m unexpected_eof next e
 from_has (Some item) m bytes place next e = let h = map_has item m bytes place next e in (item, refl, h.0, h.1)
 
 -- ---- what stands behind the header
-tables_is : (bytes : List ℕ) (place number : ℕ) (t : Tables) → AreTables bytes place number t → (next : ℕ) × (tables number bytes place ≡ Got t next)
+tables_is : (bytes : List ℕ) (place number : ℕ) (t : Tables) → AreTables bytes place number t →
+    (next : ℕ) × (tables number bytes place ≡ Got t next)
 unfolding tables
 tables_is bytes place number t h = (
   h.next,
@@ -96,10 +116,13 @@ tables_is bytes place number t h = (
   ) refl,
 )
 
-pub tables_have : (bytes : List ℕ) (place number : ℕ) (t : Tables) (next : ℕ) → tables number bytes place ≡ Got t next → AreTables bytes place number t
+pub tables_have : (bytes : List ℕ) (place number : ℕ) (t : Tables) (next : ℕ) → tables number bytes place ≡ Got t next →
+    AreTables bytes place number t
 unfolding tables
 tables_have bytes place number t next e =
-    let h = accepted (Step opened (λ names. Step opened (λ dictionaries. Step opened (λ strings. Step opened (λ subroutines. Step (map_from (slice_get dictionaries number)) (λ m.
+    let h = accepted (Step opened
+    (λ names. Step opened (λ dictionaries. Step opened
+    (λ strings. Step opened (λ subroutines. Step (map_from (slice_get dictionaries number)) (λ m.
     Done (record { names = names; dictionary = m; strings = strings; subroutines = subroutines }))))))) bytes place t next e in
     let d = h.3 in
     let s = d.3 in
@@ -123,31 +146,41 @@ tables_have bytes place number t next e =
     }
 
 -- ---- the char strings
-char_strings_is : (bytes : List ℕ) (m : Dictionary) (codes : List (List ℕ)) (place : ℕ) → AreCharStrings bytes m codes → char_strings m bytes place ≡ Got codes place
+char_strings_is : (bytes : List ℕ) (m : Dictionary) (codes : List (List ℕ)) (place : ℕ) → AreCharStrings bytes m codes →
+    char_strings m bytes place ≡ Got codes place
 unfolding char_strings
 char_strings_is bytes m codes place h =
     let n = h.named in
     let sum : pos 0 +ℤ pos n.0 ≡ pos n.0 = omega (arith, ints) in
-    rw (named_is bytes 0 m operators.CharStrings (pos n.0) n.0 place n.1 sum n.2.1, type_is m bytes place h.type) (index_is bytes n.0 place codes n.2)
+    rw (named_is bytes 0 m operators.CharStrings (pos n.0) n.0 place n.1 sum n.2.1, type_is m bytes place h.type)
+    (index_is bytes n.0 place codes n.2)
 
-pub char_strings_have : (bytes : List ℕ) (m : Dictionary) (codes : List (List ℕ)) (place next : ℕ) → char_strings m bytes place ≡ Got codes next → AreCharStrings bytes m codes × (place ≡ next)
+pub char_strings_have : (bytes : List ℕ) (m : Dictionary) (codes : List (List ℕ)) (place next : ℕ) →
+    char_strings m bytes place ≡ Got codes next → AreCharStrings bytes m codes × (place ≡ next)
 unfolding char_strings
 char_strings_have bytes m codes place next e =
-    let h = accepted (Step (place_at 0 0 m operators.CharStrings) (λ there. Step (type_two m) (λ _. Last (aside there opened)))) bytes place codes next e in
+    let h = accepted (Step (place_at 0 0 m operators.CharStrings) (λ there. Step (type_two m) (λ _. Last (aside there opened)))) bytes
+    place codes next e in
     let t = type_has m h.3.0 bytes h.1 h.3.1 h.3.2 in
-    let n = names_index bytes m operators.CharStrings h.0 place h.1 next codes h.2 (subst (λ k. aside h.0 opened bytes k ≡ Got codes next) (sym t.1) h.3.3) in
+    let n = names_index bytes m operators.CharStrings h.0 place h.1 next codes h.2
+    (subst (λ k. aside h.0 opened bytes k ≡ Got codes next) (sym t.1) h.3.3) in
     (record { type = t.0; named = n.0 }, n.1)
 
 -- ---- the private dictionary and its subroutines
-pub slice_has : (there size : ℕ) (held bytes : List ℕ) (place next : ℕ) → slice_at there size bytes place ≡ Got held next → IsSlice bytes there size held × (place ≡ next)
+pub slice_has : (there size : ℕ) (held bytes : List ℕ) (place next : ℕ) → slice_at there size bytes place ≡ Got held next →
+    IsSlice bytes there size held × (place ≡ next)
 unfolding slice_at
 slice_has there size held bytes place next e = by (size == 0) refl e
   where
-    cut : (b : Bool) → nat_lt (length bytes) (there + size) ≡ b → 0 < size → (if b then end else Got (take size (drop there bytes)) place) ≡ Got held next → IsSlice bytes there size held × (place ≡ next)
+    cut : (b : Bool) → nat_lt (length bytes) (there + size) ≡ b → 0 < size →
+        (if b then end else Got (take size (drop there bytes)) place) ≡ Got held next → IsSlice bytes there size held × (place ≡ next)
     cut true t some e = faulty held unexpected_eof next e
     cut false t some e = let same = got _ _ _ _ e in ((λ _. grind (arith, nat_tests), sym same.0), same.1)
 
-    by : (b : Bool) → (size == 0) ≡ b → (if b then Got [] place else if nat_lt (length bytes) (there + size) then end else Got (take size (drop there bytes)) place) ≡ Got held next → IsSlice bytes there size held × (place ≡ next)
+    by : (b : Bool) → (size == 0) ≡ b →
+        (if b then Got [] place else if nat_lt (length bytes) (there + size) then end else Got (take size (drop there bytes)) place) ≡ Got
+        held next →
+        IsSlice bytes there size held × (place ≡ next)
     by true t e =
         let none : size ≡ 0 = grind (arith, nat_tests) in
         let same = got _ _ _ _ e in
@@ -155,17 +188,23 @@ slice_has there size held bytes place next e = by (size == 0) refl e
         ((λ some. absurd (omega arith), rw none (sym empty)), same.1)
     by false t e = let some : 0 < size = grind (arith, nat_tests) in cut (nat_lt (length bytes) (there + size)) refl some e
 
-locals_is : (bytes : List ℕ) (base : ℕ) (local : Dictionary) (subs : List (List ℕ)) (place : ℕ) → AreSubroutines bytes base local subs → subroutines base local bytes place ≡ Got subs place
+locals_is : (bytes : List ℕ) (base : ℕ) (local : Dictionary) (subs : List (List ℕ)) (place : ℕ) → AreSubroutines bytes base local subs →
+    subroutines base local bytes place ≡ Got subs place
 unfolding subroutines
-locals_is bytes base local subs place h = rw (h.2.1, named_is bytes base local operators.Subrs h.0 h.1 place h.2 h.3 h.4.1) (index_is bytes h.1 place subs h.4)
+locals_is bytes base local subs place h =
+    rw (h.2.1, named_is bytes base local operators.Subrs h.0 h.1 place h.2 h.3 h.4.1) (index_is bytes h.1 place subs h.4)
 
 -- the subroutines stand where they are named, or are lacking
-locals_have : (bytes : List ℕ) (m local : Dictionary) (offset : ℕ) (subs : List (List ℕ)) (place next : ℕ) → HasPrivate bytes 0 m offset local → subroutines offset local bytes place ≡ Got subs next → HasLocals bytes m local subs × (place ≡ next)
+locals_have : (bytes : List ℕ) (m local : Dictionary) (offset : ℕ) (subs : List (List ℕ)) (place next : ℕ) →
+    HasPrivate bytes 0 m offset local → subroutines offset local bytes place ≡ Got subs next →
+    HasLocals bytes m local subs × (place ≡ next)
 unfolding subroutines
 locals_have bytes m local offset subs place next private e = by (first_of (look local operators.Subrs)) refl e
   where
     by : (o : Option _) → first_of (look local operators.Subrs) ≡ o
-        → (if is_none o then pure [] else (λ bytes place. after (place_at 0 offset local operators.Subrs bytes place) (λ there at. aside there opened bytes at))) bytes place ≡ Got subs next → HasLocals bytes m local subs × (place ≡ next)
+        → (if is_none o then pure
+        [] else (λ bytes place. after (place_at 0 offset local operators.Subrs bytes place) (λ there at. aside there opened bytes at)))
+        bytes place ≡ Got subs next → HasLocals bytes m local subs × (place ≡ next)
     by None is e = let same = got _ _ _ _ e in (WithoutSubrs offset private is (sym same.0), same.1)
     by (Some x) is e =
         let h = accepted (Step (place_at 0 offset local operators.Subrs) (λ there. Last (aside there opened))) bytes place subs next e in
@@ -175,28 +214,44 @@ locals_have bytes m local offset subs place next private e = by (first_of (look 
 abbrev pub part_with : Dictionary → List (List ℕ) → Option Dictionary → PrivateDict
 part_with local subs font = record { dictionary = local; subroutines = subs; font = font }
 
-private_is : (bytes : List ℕ) (m local : Dictionary) (offset : ℕ) (subs : List (List ℕ)) (place : ℕ) → HasPrivate bytes 0 m offset local → subroutines offset local bytes place ≡ Got subs place → part m bytes place ≡ Got (part_with local subs None) place
+private_is : (bytes : List ℕ) (m local : Dictionary) (offset : ℕ) (subs : List (List ℕ)) (place : ℕ) → HasPrivate bytes 0 m offset local →
+    subroutines offset local bytes place ≡ Got subs place → part m bytes place ≡ Got (part_with local subs None) place
 unfolding part own_part
 private_is bytes m local offset subs place h s =
-    rw (h.2.2, bounds_is 0 m h.0 offset bytes place h.2 h.3, slice_is h.0 (0 + offset) h.1 bytes place h.4, map_is h.1 local bytes place h.5, s) refl
+    rw (
+      h.2.2,
+      bounds_is 0 m h.0 offset bytes place h.2 h.3,
+      slice_is h.0 (0 + offset) h.1 bytes place h.4,
+      map_is h.1 local bytes place h.5,
+      s,
+    ) refl
 
-lacking_is : (bytes : List ℕ) (local : Dictionary) (place base : ℕ) → first_of (look local operators.Subrs) ≡ None → subroutines base local bytes place ≡ Got [] place
+lacking_is : (bytes : List ℕ) (local : Dictionary) (place base : ℕ) → first_of (look local operators.Subrs) ≡ None →
+    subroutines base local bytes place ≡ Got [] place
 unfolding subroutines
 lacking_is bytes local place base none = rw none refl
 
-without_is : (bytes : List ℕ) (m : Dictionary) (place : ℕ) → first_two_of (look m operators.Private) ≡ None → part m bytes place ≡ Got (part_with (dictionary_of []) [] None) place
+without_is : (bytes : List ℕ) (m : Dictionary) (place : ℕ) → first_two_of (look m operators.Private) ≡ None →
+    part m bytes place ≡ Got (part_with (dictionary_of []) [] None) place
 unfolding part
 without_is bytes m place none = rw none refl
 
-part_is : (bytes : List ℕ) (m local : Dictionary) (subs : List (List ℕ)) (place : ℕ) → HasLocals bytes m local subs → part m bytes place ≡ Got (part_with local subs None) place
-part_is bytes m local subs place (WithBoth offset private stand) = private_is bytes m local offset subs place private (locals_is bytes offset local subs place stand)
-part_is bytes m local subs place (WithoutSubrs offset private none is) = private_is bytes m local offset subs place private (rw is (lacking_is bytes local place offset none))
+part_is : (bytes : List ℕ) (m local : Dictionary) (subs : List (List ℕ)) (place : ℕ) → HasLocals bytes m local subs →
+    part m bytes place ≡ Got (part_with local subs None) place
+part_is bytes m local subs place (WithBoth offset private stand) =
+    private_is bytes m local offset subs place private (locals_is bytes offset local subs place stand)
+part_is bytes m local subs place (WithoutSubrs offset private none is) =
+    private_is bytes m local offset subs place private (rw is (lacking_is bytes local place offset none))
 part_is bytes m local subs place (WithoutPrivate none empty is) = rw (empty, is) (without_is bytes m place none)
 
-own_has : (bytes : List ℕ) (m : Dictionary) (p : PrivateDict) (place next : ℕ) → own_part m bytes place ≡ Got p next → IsPart bytes m None p × (place ≡ next)
+own_has : (bytes : List ℕ) (m : Dictionary) (p : PrivateDict) (place next : ℕ) → own_part m bytes place ≡ Got p next →
+    IsPart bytes m None p × (place ≡ next)
 unfolding own_part
 own_has bytes m p place next e =
-    let h = accepted (Step (bounds 0 m) (λ b. Step (slice_at b.2 b.0) (λ text. Step (map_of text) (λ local. Step (subroutines b.1 local) (λ subs. Done (part_with local subs None)))))) bytes place p next e in
+    let h = accepted (Step (bounds 0 m)
+    (λ b. Step (slice_at b.2 b.0)
+    (λ text. Step (map_of text) (λ local. Step (subroutines b.1 local) (λ subs. Done (part_with local subs None)))))) bytes place p next
+    e in
     let b = bounds_has 0 m h.0 bytes place h.1 h.2 in
     let t = h.3 in
     let slice = slice_has h.0.2 h.0.0 t.0 bytes h.1 t.1 t.2 in
@@ -208,39 +263,50 @@ own_has bytes m p place next e =
     let is : part_with l.0 s.0 None ≡ p = s.3.0 in
     (subst (λ (p : PrivateDict). IsPart bytes m None p) is (all.0, refl), b.3 ∙ (slice.1 ∙ (local.1 ∙ (all.1 ∙ s.3.1))))
 
-pub part_has : (bytes : List ℕ) (m : Dictionary) (p : PrivateDict) (place next : ℕ) → part m bytes place ≡ Got p next → IsPart bytes m None p × (place ≡ next)
+pub part_has : (bytes : List ℕ) (m : Dictionary) (p : PrivateDict) (place next : ℕ) → part m bytes place ≡ Got p next →
+    IsPart bytes m None p × (place ≡ next)
 unfolding part
 part_has bytes m p place next e = by (first_two_of (look m operators.Private)) refl e
   where
-    by : (o : Option _) → first_two_of (look m operators.Private) ≡ o → (if is_none o then pure (part_with (dictionary_of []) [] None) else own_part m) bytes place ≡ Got p next → IsPart bytes m None p × (place ≡ next)
-    by None is e = let same = got _ _ _ _ e in (subst (λ (p : PrivateDict). IsPart bytes m None p) same.0 (WithoutPrivate is refl refl, refl), same.1)
+    by : (o : Option _) → first_two_of (look m operators.Private) ≡ o →
+        (if is_none o then pure (part_with (dictionary_of []) [] None) else own_part m) bytes place ≡ Got p next →
+        IsPart bytes m None p × (place ≡ next)
+    by None is e =
+        let same = got _ _ _ _ e in (subst (λ (p : PrivateDict). IsPart bytes m None p) same.0 (WithoutPrivate is refl refl, refl), same.1)
     by (Some x) is e = own_has bytes m p place next e
 
 -- ---- the parts
 same_part : (p : PrivateDict) (font : Option Dictionary) → p.font ≡ font → part_with p.dictionary p.subroutines font ≡ p
 same_part p font is = ap (λ f. part_with p.dictionary p.subroutines f) (sym is)
 
-item_is : (bytes item : List ℕ) (m : Dictionary) (p : PrivateDict) (place : ℕ) → IsDictionary item 0 m → IsPart bytes m (Some m) p → item_part item bytes place ≡ Got p place
+item_is : (bytes item : List ℕ) (m : Dictionary) (p : PrivateDict) (place : ℕ) → IsDictionary item 0 m → IsPart bytes m (Some m) p →
+    item_part item bytes place ≡ Got p place
 unfolding item_part
-item_is bytes item m p place is h = rw (map_is item m bytes place is, part_is bytes m p.dictionary p.subroutines place h.0) (ap (λ p. Got p place) (same_part p (Some m) h.1))
+item_is bytes item m p place is h =
+    rw (map_is item m bytes place is, part_is bytes m p.dictionary p.subroutines place h.0)
+    (ap (λ p. Got p place) (same_part p (Some m) h.1))
 
-pub item_has : (bytes item : List ℕ) (p : PrivateDict) (place next : ℕ) → item_part item bytes place ≡ Got p next → (m : Dictionary) × IsDictionary item 0 m × IsPart bytes m (Some m) p × (place ≡ next)
+pub item_has : (bytes item : List ℕ) (p : PrivateDict) (place next : ℕ) → item_part item bytes place ≡ Got p next →
+    (m : Dictionary) × IsDictionary item 0 m × IsPart bytes m (Some m) p × (place ≡ next)
 unfolding item_part
 item_has bytes item p place next e =
-    let h = accepted (Step (map_of item) (λ m. Step (part m) (λ (named : PrivateDict). Done (part_with named.dictionary named.subroutines (Some m))))) bytes place p next e in
+    let h = accepted (Step (map_of item)
+    (λ m. Step (part m) (λ (named : PrivateDict). Done (part_with named.dictionary named.subroutines (Some m))))) bytes place p next e in
     let m = map_has item h.0 bytes place h.1 h.2 in
     let q = h.3 in
     let has = part_has bytes h.0 q.0 h.1 q.1 q.2 in
     (h.0, m.0, subst (λ (p : PrivateDict). IsPart bytes h.0 (Some h.0) p) q.3.0 (has.0.0, refl), m.1 ∙ (has.1 ∙ q.3.1))
 
-each_is : (bytes : List ℕ) (items : List (List ℕ)) (ps : List PrivateDict) (place : ℕ) → ArePartsOf bytes items ps → each item_part items bytes place ≡ Got ps place
+each_is : (bytes : List ℕ) (items : List (List ℕ)) (ps : List PrivateDict) (place : ℕ) → ArePartsOf bytes items ps →
+    each item_part items bytes place ≡ Got ps place
 unfolding each
 each_is bytes [] [] place h = refl
 each_is bytes (item ∷ items) (p ∷ ps) place h = rw (item_is bytes item h.0 p place h.1 h.2, each_is bytes items ps place h.3) refl
 each_is bytes [] (p ∷ ps) place h = absurd h
 each_is bytes (item ∷ items) [] place h = absurd h
 
-each_has : (bytes : List ℕ) (items : List (List ℕ)) (ps : List PrivateDict) (place next : ℕ) → each item_part items bytes place ≡ Got ps next → ArePartsOf bytes items ps × (place ≡ next)
+each_has : (bytes : List ℕ) (items : List (List ℕ)) (ps : List PrivateDict) (place next : ℕ) →
+    each item_part items bytes place ≡ Got ps next → ArePartsOf bytes items ps × (place ≡ next)
 unfolding each
 each_has bytes [] ps place next e = let same = got _ _ _ _ e in (subst (ArePartsOf bytes []) same.0 tt, same.1)
 each_has bytes (item ∷ items) ps place next e =
@@ -252,25 +318,37 @@ each_has bytes (item ∷ items) ps place next e =
 
 parts_is : (bytes : List ℕ) (m : Dictionary) (ps : List PrivateDict) (place : ℕ) → AreParts bytes m ps → parts m bytes place ≡ Got ps place
 unfolding parts font_parts
-parts_is bytes m ps place (OfFont p plain h is) = rw (plain, part_is bytes m p.dictionary p.subroutines place h.0) (ap (λ ps. Got ps place) (ap (λ p. p ∷ []) (same_part p None h.1) ∙ sym is))
+parts_is bytes m ps place (OfFont p plain h is) =
+    rw (plain, part_is bytes m p.dictionary p.subroutines place h.0)
+    (ap (λ ps. Got ps place) (ap (λ p. p ∷ []) (same_part p None h.1) ∙ sym is))
 parts_is bytes m ps place (OfFontDictionaries items keyed named are) =
     let sum : pos 0 +ℤ pos named.0 ≡ pos named.0 = omega (arith, ints) in
-    rw (has_some (look m operators.ROS) keyed, named_is bytes 0 m operators.FDArray (pos named.0) named.0 place named.1 sum named.2.1, index_is bytes named.0 place items named.2) (each_is bytes items ps place are)
+    rw (
+      has_some (look m operators.ROS) keyed,
+      named_is bytes 0 m operators.FDArray (pos named.0) named.0 place named.1 sum named.2.1,
+      index_is bytes named.0 place items named.2,
+    ) (each_is bytes items ps place are)
 
-keyed_have : (bytes : List ℕ) (m : Dictionary) (ps : List PrivateDict) (place next : ℕ) → IsSome (look m operators.ROS) → font_parts m bytes place ≡ Got ps next → AreParts bytes m ps × (place ≡ next)
+keyed_have : (bytes : List ℕ) (m : Dictionary) (ps : List PrivateDict) (place next : ℕ) → IsSome (look m operators.ROS) →
+    font_parts m bytes place ≡ Got ps next → AreParts bytes m ps × (place ≡ next)
 unfolding font_parts
 keyed_have bytes m ps place next keyed e =
-    let h = accepted (Step (place_at 0 0 m operators.FDArray) (λ there. Step (aside there opened) (λ items. Last (each item_part items)))) bytes place ps next e in
+    let h = accepted (Step (place_at 0 0 m operators.FDArray) (λ there. Step (aside there opened) (λ items. Last (each item_part items))))
+    bytes place ps next e in
     let i = h.3 in
     let n = names_index bytes m operators.FDArray h.0 place h.1 i.1 i.0 h.2 i.2 in
     let all = each_has bytes i.0 ps i.1 next i.3 in
     (OfFontDictionaries i.0 keyed n.0 all.0, n.1 ∙ all.1)
 
-parts_have : (bytes : List ℕ) (m : Dictionary) (ps : List PrivateDict) (place next : ℕ) → parts m bytes place ≡ Got ps next → AreParts bytes m ps × (place ≡ next)
+parts_have : (bytes : List ℕ) (m : Dictionary) (ps : List PrivateDict) (place next : ℕ) → parts m bytes place ≡ Got ps next →
+    AreParts bytes m ps × (place ≡ next)
 unfolding parts
 parts_have bytes m ps place next e = by (look m operators.ROS) refl e
   where
-    by : (o : Option _) → look m operators.ROS ≡ o → (if is_none o then (λ bytes place. after (part m bytes place) (λ p next. Got (p ∷ []) next)) else font_parts m) bytes place ≡ Got ps next → AreParts bytes m ps × (place ≡ next)
+    by : (o : Option _) → look m operators.ROS ≡ o →
+        (if is_none o then (λ bytes place. after (part m bytes place) (λ p next. Got (p ∷ []) next)) else font_parts m) bytes place ≡ Got
+        ps next →
+        AreParts bytes m ps × (place ≡ next)
     by None is e =
         let h = accepted (Step (part m) (λ p. Done (p ∷ []))) bytes place ps next e in
         let one = part_has bytes m h.0 place h.1 h.2 in
@@ -282,11 +360,13 @@ header_is : (bytes : List ℕ) (place : ℕ) → 3 ≤ length bytes → header_s
 unfolding header_size
 header_is bytes place h = let enough : nat_lt (length bytes) 3 ≡ false = grind (arith, nat_tests) in rw enough refl
 
-pub header_has : (bytes : List ℕ) (size place next : ℕ) → header_size bytes place ≡ Got size next → (3 ≤ length bytes) × (number_at bytes 2 1 ≡ size) × (place ≡ next)
+pub header_has : (bytes : List ℕ) (size place next : ℕ) → header_size bytes place ≡ Got size next →
+    (3 ≤ length bytes) × (number_at bytes 2 1 ≡ size) × (place ≡ next)
 unfolding header_size
 header_has bytes size place next e = by (nat_lt (length bytes) 3) refl e
   where
-    by : (b : Bool) → nat_lt (length bytes) 3 ≡ b → (if b then end else Got (number_at bytes 2 1) place) ≡ Got size next → (3 ≤ length bytes) × (number_at bytes 2 1 ≡ size) × (place ≡ next)
+    by : (b : Bool) → nat_lt (length bytes) 3 ≡ b → (if b then end else Got (number_at bytes 2 1) place) ≡ Got size next →
+        (3 ≤ length bytes) × (number_at bytes 2 1 ≡ size) × (place ≡ next)
     by true t e = faulty size unexpected_eof next e
     by false t e = let same = got _ _ _ _ e in (grind (arith, nat_tests), same.0, same.1)
 
@@ -294,12 +374,18 @@ laid_out_is : (bytes : List ℕ) (number : ℕ) (v : View) → IsLaidOut bytes n
 unfolding view_of
 laid_out_is bytes number v h =
     let t = tables_is bytes (number_at bytes 2 1) number v.tables h.tables in
-    rw (header_is bytes 0 h.header, t.1, char_strings_is bytes v.tables.dictionary v.char_strings 0 h.char_strings, parts_is bytes v.tables.dictionary v.parts 0 h.parts) refl
+    rw (
+      header_is bytes 0 h.header,
+      t.1,
+      char_strings_is bytes v.tables.dictionary v.char_strings 0 h.char_strings,
+      parts_is bytes v.tables.dictionary v.parts 0 h.parts,
+    ) refl
 
 laid_out_has : (bytes : List ℕ) (number : ℕ) (v : View) (next : ℕ) → view_of number bytes 0 ≡ Got v next → IsLaidOut bytes number v
 unfolding view_of
 laid_out_has bytes number v next e =
-    let h = accepted (Step header_size (λ size. Step (aside size (tables number)) (λ (t : Tables). Step (char_strings t.dictionary) (λ codes. Step (parts t.dictionary) (λ ps.
+    let h = accepted (Step header_size
+    (λ size. Step (aside size (tables number)) (λ (t : Tables). Step (char_strings t.dictionary) (λ codes. Step (parts t.dictionary) (λ ps.
     Done (record { tables = t; char_strings = codes; parts = ps })))))) bytes 0 v next e in
     let head = header_has bytes h.0 0 h.1 h.2 in
     let t = h.3 in
@@ -316,10 +402,12 @@ pub reads_layout : ReadsLayout
 reads_layout bytes number v = (laid_out_has bytes number v 0, laid_out_is bytes number v)
 
 -- ---- what is answered is laid out, and nothing is where it is refused
-pub found_view : (r : Result FontView Error) (bytes : List ℕ) (number : ℕ) → Answers view_shown r 0 (view_of number bytes 0) → IfOk r (λ v. IsLaidOut bytes number (view_shown v))
+pub found_view : (r : Result FontView Error) (bytes : List ℕ) (number : ℕ) → Answers view_shown r 0 (view_of number bytes 0) →
+    IfOk r (λ v. IsLaidOut bytes number (view_shown v))
 found_view (Ok v) bytes number answers = laid_out_has bytes number (view_shown v) 0 answers
 found_view (Err e) bytes number answers = tt
 
-pub only_view : (r : Result FontView Error) (bytes : List ℕ) (number : ℕ) → Answers view_shown r 0 (view_of number bytes 0) → IfErr r (λ e. e ≢ Memory → (v : View) → IsLaidOut bytes number v → ⊥)
+pub only_view : (r : Result FontView Error) (bytes : List ℕ) (number : ℕ) → Answers view_shown r 0 (view_of number bytes 0) →
+    IfErr r (λ e. e ≢ Memory → (v : View) → IsLaidOut bytes number v → ⊥)
 only_view (Ok v) bytes number answers = tt
 only_view (Err e) bytes number answers = λ other v h. subst (RefusedAs e) (laid_out_is bytes number v h) (answers other)

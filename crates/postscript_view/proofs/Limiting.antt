@@ -62,17 +62,21 @@ on-false false h is = h
 on-false true h is = cc
 
 -- what is left is spent on
-pub goes-on : (limit : ℕ) (phrases : List Phrase) (left : ℕ) (rest : List Phrase) (last : ℕ) (end : List Phrase) → Spends limit phrases left rest → Spends left rest last end →
+pub goes-on : (limit : ℕ) (phrases : List Phrase) (left : ℕ) (rest : List Phrase) (last : ℕ) (end : List Phrase) →
+    Spends limit phrases left rest → Spends left rest last end →
     Spends limit phrases last end
 goes-on limit phrases left rest last end first nothing = first
 goes-on limit phrases left rest last end first (one_more before said behind spends is_left costs) =
     one_more before said end (goes-on limit phrases left rest before (said ∷ end) first spends) is_left costs
 
 -- what is paid once a step is answered
-pub on-operation : {first : ℕ} {phrases : List Phrase} (old new : Pending) {limit left : ℕ} {answer : Result Within Error} {op : Operator} {operands : Bor (List ℤ)} →
-    answer ≡ Ok (Operation op operands) → StepsWithin old limit answer new left → Spends first phrases limit old.trace → Spends first phrases left new.trace × (new.end ≡ old.end) × (left < limit)
+pub on-operation : {first : ℕ} {phrases : List Phrase} (old new : Pending) {limit left : ℕ} {answer : Result Within Error} {op : Operator}
+    {operands : Bor (List ℤ)} →
+    answer ≡ Ok (Operation op operands) → StepsWithin old limit answer new left → Spends first phrases limit old.trace → Spends first
+    phrases left new.trace × (new.end ≡ old.end) × (left < limit)
 on-operation {first} {phrases} old new {limit} {left} {answer} {op} {operands} is steps paid =
-    let step = subst (λ (r : Result Within Error). StepsWithin old limit r new left) is steps in (goes-on first phrases limit old.trace left new.trace paid step.1, step.0.1, step.2)
+    let step = subst (λ (r : Result Within Error). StepsWithin old limit r new left) is steps in
+    (goes-on first phrases limit old.trace left new.trace paid step.1, step.0.1, step.2)
 
 no-fault : (end : End) (width new : Option ℤ) → IsLastWidth end width new → fault_of end ≡ None
 no-fault UsedUp width new last = refl
@@ -81,26 +85,32 @@ no-fault (Finished taken told) width new last = refl
 no-fault (Fault e) width new last = absurd last
 
 pub on-end : {first : ℕ} {phrases : List Phrase} (old new : Pending) {limit left : ℕ} {answer : Result Within Error} →
-    answer ≡ Ok within.End → StepsWithin old limit answer new left → Spends first phrases limit old.trace → (fault_of old.end ≡ None) × Spends first phrases left []
+    answer ≡ Ok within.End → StepsWithin old limit answer new left → Spends first phrases limit
+    old.trace → (fault_of old.end ≡ None) × Spends first phrases left []
 on-end {first} {phrases} old new {limit} {left} {answer} is steps paid =
     let step = subst (λ (r : Result Within Error). StepsWithin old limit r new left) is steps in
     (no-fault old.end old.width new.width step.0.1, goes-on first phrases limit old.trace left [] paid step.1)
 
 pub on-pause : {first : ℕ} {phrases : List Phrase} (old new : Pending) {limit left : ℕ} {answer : Result Within Error} →
-    answer ≡ Ok within.Paused → StepsWithin old limit answer new left → Spends first phrases limit old.trace → (left ≡ 0) × ((rest : List Phrase) × Spends first phrases left rest)
+    answer ≡ Ok within.Paused → StepsWithin old limit answer new left → Spends first phrases limit
+    old.trace → (left ≡ 0) × ((rest : List Phrase) × Spends first phrases left rest)
 on-pause {first} {phrases} old new {limit} {left} {answer} is steps paid =
-    let step = subst (λ (r : Result Within Error). StepsWithin old limit r new left) is steps in (step.4, (new.trace, goes-on first phrases limit old.trace left new.trace paid step.5))
+    let step = subst (λ (r : Result Within Error). StepsWithin old limit r new left) is steps in
+    (step.4, (new.trace, goes-on first phrases limit old.trace left new.trace paid step.5))
 
-pub on-refusal : (old new begun : Pending) (first left : ℕ) {limit : ℕ} {answer : Result Within Error} {e : Error} (told : Result Outcome Error) →
+pub on-refusal : (old new begun : Pending) (first left : ℕ) {limit : ℕ} {answer : Result Within Error} {e : Error}
+    (told : Result Outcome Error) →
     answer ≡ Err e → StepsWithin old limit answer new left → Spends first begun.trace limit old.trace → old.end ≡ begun.end →
-    MatchResult told (λ outcome. (outcome ≡ Refused) × (e ≢ Memory)) (λ want. want ≡ Memory) → IfOk told (λ outcome. Goes outcome begun first left)
+    MatchResult told (λ outcome. (outcome ≡ Refused) × (e ≢ Memory)) (λ want. want ≡ Memory) → IfOk told
+    (λ outcome. Goes outcome begun first left)
 on-refusal old new begun first left {limit} {answer} {e} (Err want) is steps paid same told_so = tt
 on-refusal old new begun first left {limit} {answer} {e} (Ok outcome) is steps paid same told_so =
     let step = subst (λ (r : Result Within Error). StepsWithin old limit r new left) is steps in
     let last : IsLast step.1.0 = elim step.1.2 [ inl memory ↦ absurd (told_so.1 memory) | inr last ↦ last ] in
     let fault : old.end ≡ Fault (refusal_of e) = elim step.0.0 [ inl memory ↦ absurd (told_so.1 memory) | inr fault ↦ fault.1 ] in
     let some : IsSome (fault_of begun.end) = subst (λ end. IsSome (fault_of end)) (sym fault ∙ same) refl in
-    subst (λ (o : Outcome). Goes o begun first left) (sym told_so.0) (some, (step.1.0, goes-on first begun.trace limit old.trace left step.1.0 paid step.1.1, last))
+    subst (λ (o : Outcome). Goes o begun first left) (sym told_so.0)
+    (some, (step.1.0, goes-on first begun.trace limit old.trace left step.1.0 paid step.1.1, last))
 
 -- that of one item more
 pub longest-more : (codes : List (List ℕ)) (code : List ℕ) → longest (codes ++ code ∷ []) ≡ max (longest codes) (length code)
@@ -109,11 +119,13 @@ longest-more (first ∷ codes) code = let all = longest-more codes code in omega
 
 -- what is left of a limit where one more glyph is paid
 pub one-glyph-more : (font : FontView) (glyph limit before left : ℕ) → (total : ℕ) × RunsCost font glyph total × (before ≡ limit - total) →
-    (cost : ℕ) × GlyphCosts font glyph cost × (left ≡ before - cost) → (total : ℕ) × RunsCost font (glyph + 1) total × (left ≡ limit - total)
+    (cost : ℕ) × GlyphCosts font glyph cost × (left ≡ before - cost) → (total : ℕ) × RunsCost font
+    (glyph + 1) total × (left ≡ limit - total)
 one-glyph-more font glyph limit before left (total, runs, is) (cost, costs, paid) =
     (total + cost, one_run glyph total cost runs costs, omega (arith, is, paid))
 
-pub too-long : (font : FontView) (glyph limit before : ℕ) → glyph < length (items_of font.char_strings) → (total : ℕ) × RunsCost font glyph total × (before ≡ limit - total) →
+pub too-long : (font : FontView) (glyph limit before : ℕ) → glyph < length (items_of font.char_strings) →
+    (total : ℕ) × RunsCost font glyph total × (before ≡ limit - total) →
     (cost : ℕ) × GlyphCosts font glyph cost × (before ≤ cost) → CostTheLimit font limit
 too-long font glyph limit before there (total, runs, is) (cost, costs, paid) =
     (glyph + 1, total + cost, omega (arith, there), one_run glyph total cost runs costs, omega (arith, is, paid))
@@ -124,7 +136,8 @@ front-less [] rest = omega arith
 front-less (said ∷ front) rest = let less = front-less front rest in omega (arith, less)
 
 -- where the limit is used up the glyph costs as much, at least
-pub used-up : (font : FontView) (glyph : ℕ) (part : PrivateDict) (run : Run) (limit : ℕ) (has : HasRun font glyph part run) (end : Option Refusal) → fault_of run.end ≡ end →
+pub used-up : (font : FontView) (glyph : ℕ) (part : PrivateDict) (run : Run) (limit : ℕ) (has : HasRun font glyph part run)
+    (end : Option Refusal) → fault_of run.end ≡ end →
     (ran rest : List Phrase) → run.trace ≡ ran ++ rest → 0 ≡ limit - cost ran → (cost : ℕ) × GlyphCosts font glyph cost × (limit ≤ cost)
 used-up font glyph part run limit has None is ran rest all none =
     let less = front-less ran rest in
@@ -133,25 +146,37 @@ used-up font glyph part run limit has None is ran rest all none =
 used-up font glyph part run limit has (Some e) is ran rest all none =
     let less = front-less ran rest in
     let whole : limit ≤ cost (ran ++ rest) = omega (arith, less, none) in
-    let more : limit ≤ cost run.trace = subst (λ phrases. limit ≤ cost phrases) (sym all) whole in
-    (cost run.trace + refusal_cost font part has.code, is_refused part run has (subst IsSome (sym is) refl) run.trace [] (sym (append-nil run.trace)) (omega arith), omega (arith, more))
+    let more : limit ≤ cost run.trace = subst (λ phrases. limit ≤ cost phrases) (sym all) whole in (
+      cost run.trace + refusal_cost font part has.code,
+      is_refused part run has (subst IsSome (sym is) refl) run.trace [] (sym (append-nil run.trace)) (omega arith),
+      omega (arith, more),
+    )
 
 -- the run of a glyph
 abbrev pub run_by : Glyph → Run
 run_by glyph = run_of (lent (items_of glyph.global_subroutines) (items_of glyph.part.now.subroutines)) glyph.code.now
 
-abbrev pub has-run : (font : FontView) (i : ℕ) (glyph : Glyph) → HasGlyph font i glyph.code.now glyph.part.now → items_of glyph.global_subroutines ≡ items_of font.global_subroutines →
+abbrev pub has-run : (font : FontView) (i : ℕ) (glyph : Glyph) → HasGlyph font i glyph.code.now glyph.part.now →
+    items_of glyph.global_subroutines ≡ items_of font.global_subroutines →
     HasRun font i glyph.part.now (run_by glyph)
 has-run font i glyph has same =
-    record { code = glyph.code.now; has = has; runs = ap (λ global. run_of (lent global (items_of glyph.part.now.subroutines)) glyph.code.now) same }
+    record {
+      code =
+          glyph.code.now;
+      has = has;
+      runs = ap (λ global. run_of (lent global (items_of glyph.part.now.subroutines)) glyph.code.now) same;
+    }
 
 -- what a run that goes so costs
-goes-so : {outcome way : Outcome} {program : Pending} {run : Run} (limit left : ℕ) → outcome ≡ way → program ≡ begun run → Goes outcome program limit left → Goes way (begun run) limit left
+goes-so : {outcome way : Outcome} {program : Pending} {run : Run} (limit left : ℕ) → outcome ≡ way → program ≡ begun run →
+    Goes outcome program limit left → Goes way (begun run) limit left
 goes-so {outcome} {way} {program} {run} limit left is begins goes =
     subst (λ (o : Outcome). Goes o (begun run) limit left) is (subst (λ (p : Pending). Goes outcome p limit left) begins goes)
 
-pub ended-so : (font : FontView) (i : ℕ) (part : PrivateDict) (run : Run) (limit left : ℕ) {outcome : Outcome} {program : Pending} → LimitIsCost → HasRun font i part run → outcome ≡ outcomes.Ended →
-    program ≡ begun run → Goes outcome program limit left → GlyphFits font limit i × ((cost : ℕ) × GlyphCosts font i cost × (left ≡ limit - cost))
+pub ended-so : (font : FontView) (i : ℕ) (part : PrivateDict) (run : Run) (limit left : ℕ) {outcome : Outcome} {program : Pending} →
+    LimitIsCost → HasRun font i part run → outcome ≡ outcomes.Ended →
+    program ≡ begun run → Goes outcome program limit left → GlyphFits font limit
+    i × ((cost : ℕ) × GlyphCosts font i cost × (left ≡ limit - cost))
 ended-so font i part run limit left {outcome} {program} law has is begins goes =
     let so = goes-so limit left is begins goes in
     let all = law limit run.trace left [] so.1 in
@@ -160,7 +185,8 @@ ended-so font i part run limit left {outcome} {program} law has is begins goes =
       (cost run.trace, ends part run has so.0, subst (λ (xs : List Phrase). left ≡ limit - cost xs) (sym same) all.2),
     )
 
-pub refused-so : (font : FontView) (i : ℕ) (part : PrivateDict) (run : Run) (limit left last : ℕ) {outcome : Outcome} {program : Pending} → LimitIsCost → (has : HasRun font i part run) → outcome ≡ Refused →
+pub refused-so : (font : FontView) (i : ℕ) (part : PrivateDict) (run : Run) (limit left last : ℕ) {outcome : Outcome}
+    {program : Pending} → LimitIsCost → (has : HasRun font i part run) → outcome ≡ Refused →
     program ≡ begun run → Goes outcome program limit left → last ≡ left - refusal_cost font part has.code →
     GlyphFits font limit i × ((cost : ℕ) × GlyphCosts font i cost × (last ≡ limit - cost))
 refused-so font i part run limit left last {outcome} {program} law has is begins goes paid =
@@ -171,7 +197,8 @@ refused-so font i part run limit left last {outcome} {program} law has is begins
       (cost all.0 + refusal_cost font part has.code, is_refused part run has so.0 all.0 so.1.0 all.1 so.1.2, omega (arith, ran, paid)),
     )
 
-pub used-so : (font : FontView) (i : ℕ) (part : PrivateDict) (run : Run) (limit left : ℕ) {outcome : Outcome} {program : Pending} → LimitIsCost → HasRun font i part run → outcome ≡ outcomes.UsedUp →
+pub used-so : (font : FontView) (i : ℕ) (part : PrivateDict) (run : Run) (limit left : ℕ) {outcome : Outcome} {program : Pending} →
+    LimitIsCost → HasRun font i part run → outcome ≡ outcomes.UsedUp →
     program ≡ begun run → Goes outcome program limit left → (cost : ℕ) × GlyphCosts font i cost × (limit ≤ cost)
 used-so font i part run limit left {outcome} {program} law has is begins goes =
     let so = goes-so limit left is begins goes in

@@ -31,30 +31,37 @@ rises : (ranges : List ℕ) (size i j : ℕ) → i ≤ j → covered ranges size
 rises ranges size i j h = risen (covered ranges size) j (λ k there. omega (arith, covered_more ranges size k)) i j h (omega arith)
 
 -- the range that covers a glyph is the only one
-only : (ranges : List ℕ) (size r glyph identifier : ℕ) → covered ranges size r ≤ glyph → glyph < covered ranges size r + (more_of ranges size r + 1) → (named : IsNamed ranges size glyph identifier) → named.range ≡ r
+only : (ranges : List ℕ) (size r glyph identifier : ℕ) → covered ranges size r ≤ glyph →
+    glyph < covered ranges size r + (more_of ranges size r + 1) → (named : IsNamed ranges size glyph identifier) → named.range ≡ r
 only ranges size r glyph identifier from to named =
     let q = named.range in
     let not_low : q < r → ⊥ =
-    λ below. let up = rises ranges size (q + 1) r (omega (arith, below)) in absurd (omega (arith, up, covered_more ranges size q, from, named.to)) in
+    λ below. let up =
+    rises ranges size (q + 1) r (omega (arith, below)) in absurd (omega (arith, up, covered_more ranges size q, from, named.to)) in
     let not_high : r < q → ⊥ =
-    λ below. let up = rises ranges size (r + 1) q (omega (arith, below)) in absurd (omega (arith, up, covered_more ranges size r, to, named.from)) in
+    λ below. let up =
+    rises ranges size (r + 1) q (omega (arith, below)) in absurd (omega (arith, up, covered_more ranges size r, to, named.from)) in
     omega (arith, not_low, not_high)
 
 -- so that it names the glyph
-pub named_by : (ranges : List ℕ) (size r glyph identifier : ℕ) → covered ranges size r ≤ glyph → glyph < covered ranges size r + (more_of ranges size r + 1) → IsNamed ranges size glyph identifier
+pub named_by : (ranges : List ℕ) (size r glyph identifier : ℕ) → covered ranges size r ≤ glyph →
+    glyph < covered ranges size r + (more_of ranges size r + 1) → IsNamed ranges size glyph identifier
     → identifier + covered ranges size r ≡ first_of ranges size r + glyph
 named_by ranges size r glyph identifier from to named =
-    subst (λ q. identifier + covered ranges size q ≡ first_of ranges size q + glyph) (only ranges size r glyph identifier from to named) named.named
+    subst (λ q. identifier + covered ranges size q ≡ first_of ranges size q + glyph)
+    (only ranges size r glyph identifier from to named) named.named
 
 -- a glyph behind all ranges has no identifier
-pub unnamed : (ranges : List ℕ) (size n glyph identifier : ℕ) → length ranges / (2 + size) ≤ n → covered ranges size n ≤ glyph → IsNamed ranges size glyph identifier → ⊥
+pub unnamed : (ranges : List ℕ) (size n glyph identifier : ℕ) → length ranges / (2 + size) ≤ n → covered ranges size n ≤ glyph →
+    IsNamed ranges size glyph identifier → ⊥
 unnamed ranges size n glyph identifier all behind named =
     let there = named.there in
     let up = rises ranges size (named.range + 1) n (omega (arith, all, there)) in
     absurd (omega (arith, up, covered_more ranges size named.range, named.to, behind))
 
 -- a range that has not the identifier leaves it unused
-pub extended : (ranges : List ℕ) (size r identifier g : ℕ) → g ≡ covered ranges size r → ((other : ℕ) → other < g → IsNamed ranges size other identifier → ⊥)
+pub extended : (ranges : List ℕ) (size r identifier g : ℕ) → g ≡ covered ranges size r →
+    ((other : ℕ) → other < g → IsNamed ranges size other identifier → ⊥)
     → (first_of ranges size r ≤ identifier → identifier ≤ first_of ranges size r + more_of ranges size r → ⊥)
     → (other : ℕ) → other < g + (more_of ranges size r + 1) → IsNamed ranges size other identifier → ⊥
 extended ranges size r identifier g is before outside other there named =
@@ -64,7 +71,8 @@ extended ranges size r identifier g is before outside other there named =
     outside (omega (arith, h, from)) (omega (arith, h, from, there, is))
 
 -- in the range that has it, no glyph before its place has it
-earlier : (ranges : List ℕ) (size r identifier g : ℕ) → g ≡ covered ranges size r → ((other : ℕ) → other < g → IsNamed ranges size other identifier → ⊥)
+earlier : (ranges : List ℕ) (size r identifier g : ℕ) → g ≡ covered ranges size r →
+    ((other : ℕ) → other < g → IsNamed ranges size other identifier → ⊥)
     → first_of ranges size r ≤ identifier → identifier ≤ first_of ranges size r + more_of ranges size r
     → (other : ℕ) → other < g + (identifier - first_of ranges size r) → IsNamed ranges size other identifier → ⊥
 earlier ranges size r identifier g is before low high other there named =
@@ -73,23 +81,36 @@ earlier ranges size r identifier g is before low high other there named =
     let h = named_by ranges size r other identifier from (omega (arith, there, is, low, high)) named in
     absurd (omega (arith, h, from, there, is, low))
 
-pub found_at : (o : Option ℕ) (ranges : List ℕ) (size r identifier glyphs g step : ℕ) → step ≡ identifier - first_of ranges size r → r < length ranges / (2 + size) → identifier < 65536 → g ≡ covered ranges size r
-    → ((other : ℕ) → other < g → IsNamed ranges size other identifier → ⊥) → first_of ranges size r ≤ identifier → identifier ≤ first_of ranges size r + more_of ranges size r
+pub found_at : (o : Option ℕ) (ranges : List ℕ) (size r identifier glyphs g step : ℕ) → step ≡ identifier - first_of ranges size r →
+    r < length ranges / (2 + size) → identifier < 65536 → g ≡ covered ranges size r
+    → ((other : ℕ) → other < g → IsNamed ranges size other identifier → ⊥) → first_of ranges size r ≤ identifier → identifier ≤ first_of
+    ranges size r + more_of ranges size r
     → IfSome o (λ found. (found ≡ g + step) × (found < glyphs)) → IfSome o (λ found. IsFirstOfRanges ranges size identifier glyphs found)
 found_at None ranges size r identifier glyphs g step stepped inside small is before low high h = tt
 found_at (Some found) ranges size r identifier glyphs g step stepped inside small is before low high h =
     let place = h.0 in
     record {
       there = h.1;
-      names = record { range = r; there = inside; from = omega (arith, place, is, stepped); to = omega (arith, place, is, low, high, stepped); small = small; named = omega (arith, place, is, low, stepped) };
-      none_before = λ other below named. earlier ranges size r identifier g is before low high other (omega (arith, below, place, stepped)) named;
+      names = record {
+        range = r;
+        there = inside;
+        from = omega (arith, place, is, stepped);
+        to = omega (arith, place, is, low, high, stepped);
+        small = small;
+        named = omega (arith, place, is, low, stepped);
+      };
+      none_before = λ other below named. earlier ranges size r identifier g is before low high other
+          (omega (arith, below, place, stepped)) named;
     }
 
-pub none_at : (o : Option ℕ) (ranges : List ℕ) (size r identifier glyphs g step : ℕ) → step ≡ identifier - first_of ranges size r → g ≡ covered ranges size r
-    → ((other : ℕ) → other < g → IsNamed ranges size other identifier → ⊥) → first_of ranges size r ≤ identifier → identifier ≤ first_of ranges size r + more_of ranges size r
+pub none_at : (o : Option ℕ) (ranges : List ℕ) (size r identifier glyphs g step : ℕ) → step ≡ identifier - first_of ranges size r →
+    g ≡ covered ranges size r
+    → ((other : ℕ) → other < g → IsNamed ranges size other identifier → ⊥) → first_of ranges size r ≤ identifier → identifier ≤ first_of
+    ranges size r + more_of ranges size r
     → IfNone o (glyphs ≤ g + step) → IfNone o ((glyph : ℕ) → glyph < glyphs → IsNamed ranges size glyph identifier → ⊥)
 none_at (Some found) ranges size r identifier glyphs g step stepped is before low high h = tt
-none_at None ranges size r identifier glyphs g step stepped is before low high h = λ glyph below named. earlier ranges size r identifier g is before low high glyph (omega (arith, below, h, stepped)) named
+none_at None ranges size r identifier glyphs g step stepped is before low high h =
+    λ glyph below named. earlier ranges size r identifier g is before low high glyph (omega (arith, below, h, stepped)) named
 
 ranges_once : (ranges : List ℕ) (size g a b : ℕ) → IsNamed ranges size g a → IsNamed ranges size g b → a ≡ b
 ranges_once ranges size g a b x y =
@@ -115,14 +136,16 @@ pub named_once : (set : CharSetView) (g a b : ℕ) → Names set g a → Names s
 named_once set g a b x y = once set.identifiers g a b x.told y.told
 
 -- one more glyph that has not the identifier
-pub one_more : (set : CharSetView) (identifier g : ℕ) → ((other : ℕ) → other < g → Names set other identifier → ⊥) → (Names set g identifier → ⊥) → (other : ℕ) → other < g + 1 → Names set other identifier → ⊥
+pub one_more : (set : CharSetView) (identifier g : ℕ) → ((other : ℕ) → other < g → Names set other identifier → ⊥) →
+    (Names set g identifier → ⊥) → (other : ℕ) → other < g + 1 → Names set other identifier → ⊥
 one_more set identifier g before here other below names =
     let not_before : other < g → ⊥ = λ h. before other h names in
     let same : other ≡ g = omega (arith, below, not_before) in
     here (subst (λ k. Names set k identifier) same names)
 
 -- where the identifier of a glyph has no string, the set tells none
-pub string_none : (o : Option (Bor (List ℕ))) (set : CharSetView) (strings : List (List ℕ)) (glyph identifier : ℕ) → Names set glyph identifier → option_map (λ string. string.now) o ≡ string_of strings identifier
+pub string_none : (o : Option (Bor (List ℕ))) (set : CharSetView) (strings : List (List ℕ)) (glyph identifier : ℕ) →
+    Names set glyph identifier → option_map (λ string. string.now) o ≡ string_of strings identifier
     → IfNone o ((name : List ℕ) → HasString set strings glyph name → ⊥)
 string_none (Some name) set strings glyph identifier names is = tt
 string_none None set strings glyph identifier names is = λ name h.
@@ -131,7 +154,8 @@ string_none None set strings glyph identifier names is = λ name h.
     absurd (cc)
 
 -- the set tells one string for a glyph
-pub one_string : (set : CharSetView) (strings : List (List ℕ)) (glyph : ℕ) (a b : List ℕ) → HasString set strings glyph a → HasString set strings glyph b → a ≡ b
+pub one_string : (set : CharSetView) (strings : List (List ℕ)) (glyph : ℕ) (a b : List ℕ) → HasString set strings glyph a →
+    HasString set strings glyph b → a ≡ b
 one_string set strings glyph a b x y =
     let same : x.0 ≡ y.0 = named_once set glyph x.0 y.0 x.1 y.1 in
     let one = x.2 in
@@ -139,7 +163,8 @@ one_string set strings glyph a b x y =
     cc
 
 -- one more glyph that has not the name
-pub one_more_name : (font : View) (set : CharSetView) (name : List ℕ) (g : ℕ) → ((other : ℕ) → other < g → HasName font set other name → ⊥) → (HasName font set g name → ⊥)
+pub one_more_name : (font : View) (set : CharSetView) (name : List ℕ) (g : ℕ) →
+    ((other : ℕ) → other < g → HasName font set other name → ⊥) → (HasName font set g name → ⊥)
     → (other : ℕ) → other < g + 1 → HasName font set other name → ⊥
 one_more_name font set name g before here other below has =
     let not_before : other < g → ⊥ = λ h. before other h has in
@@ -147,7 +172,9 @@ one_more_name font set name g before here other below has =
     here (subst (λ k. HasName font set k name) same has)
 
 -- so that the glyph has no name
-pub name_none : (o : Option (Bor (List ℕ))) (font : View) (set : CharSetView) (glyph : ℕ) → IfNone o ((string : List ℕ) → HasString set font.tables.strings glyph string → ⊥) → IfNone o ((name : List ℕ) → HasName font set glyph name → ⊥)
+pub name_none : (o : Option (Bor (List ℕ))) (font : View) (set : CharSetView) (glyph : ℕ) →
+    IfNone o ((string : List ℕ) → HasString set font.tables.strings glyph string → ⊥) →
+    IfNone o ((name : List ℕ) → HasName font set glyph name → ⊥)
 name_none (Some name) font set glyph h = tt
 name_none None font set glyph h = λ name has. h name has.string
 
@@ -156,5 +183,6 @@ pub one_name : (font : View) (set : CharSetView) (glyph : ℕ) (a b : List ℕ) 
 one_name font set glyph a b x y = one_string set font.tables.strings glyph a b x.string y.string
 
 -- no glyph past the last has a name
-pub no_more_names : (font : View) (set : CharSetView) (name : List ℕ) (n : ℕ) → length font.char_strings ≤ n → ((other : ℕ) → other < n → HasName font set other name → ⊥) → (glyph : ℕ) → HasName font set glyph name → ⊥
+pub no_more_names : (font : View) (set : CharSetView) (name : List ℕ) (n : ℕ) → length font.char_strings ≤ n →
+    ((other : ℕ) → other < n → HasName font set other name → ⊥) → (glyph : ℕ) → HasName font set glyph name → ⊥
 no_more_names font set name n all before glyph has = let there = has.there in before glyph (omega (arith, there, all)) has

@@ -30,7 +30,8 @@ use Rattle.postscript_view.proofs.Marking.{no_marks, unmarked}
 use Rattle.postscript_view.proofs.Wider.{got_if}
 
 -- ---- numbers
-number_got : (n : ℕ) (bytes : List ℕ) (place x next : ℕ) → 0 < n → number n bytes place ≡ Got x next → (place + n ≤ length bytes) × (x ≡ number_at bytes place n) × (next ≡ place + n)
+number_got : (n : ℕ) (bytes : List ℕ) (place x next : ℕ) → 0 < n → number n bytes place ≡ Got x next →
+    (place + n ≤ length bytes) × (x ≡ number_at bytes place n) × (next ≡ place + n)
 unfolding number slice number_at
 number_got n bytes place x next some e =
     let h = got_if (nat_lt (length bytes - place) n) (take n (drop place bytes)) (place + n) x next e in
@@ -43,14 +44,16 @@ unfolding number_at
 number_of_cut bytes p m q n h =
     let split : m ≡ q + (m - q) = omega (arith, h) in
     ap big_endian
-    (ap (λ k. take n (drop q (take k (drop p bytes)))) split ∙ ap (λ l. take n l) (drop-take q (m - q) (drop p bytes)) ∙ take-take n (m - q) (drop q (drop p bytes)) (omega (arith, h)) ∙ ap (λ l. take n l) (drop-drop q p bytes))
+    (ap (λ k. take n (drop q (take k (drop p bytes)))) split ∙ ap (λ l. take n l) (drop-take q (m - q) (drop p bytes))
+    ∙ take-take n (m - q) (drop q (drop p bytes)) (omega (arith, h)) ∙ ap (λ l. take n l) (drop-drop q p bytes))
 
 number_of_rest : (bytes : List ℕ) (p q n : ℕ) → number_at (drop p bytes) q n ≡ number_at bytes (p + q) n
 unfolding number_at
 number_of_rest bytes p q n = ap (λ l. big_endian (take n l)) (drop-drop q p bytes)
 
 -- ---- identifiers
-listed_at : (bytes : List ℕ) (place : ℕ) (ids : List ℕ) (next : ℕ) → StandAt (number 2) bytes place ids next → (i : ℕ) → i < length ids → slice_get ids i ≡ Some (number_at bytes (place + 2 * i) 2)
+listed_at : (bytes : List ℕ) (place : ℕ) (ids : List ℕ) (next : ℕ) → StandAt (number 2) bytes place ids next → (i : ℕ) → i < length ids →
+    slice_get ids i ≡ Some (number_at bytes (place + 2 * i) 2)
 listed_at bytes place [] next h i less = absurd (omega (arith, less))
 listed_at bytes place (x ∷ xs) next h zero less =
     let one = number_got 2 bytes place x h.0 (omega arith) h.1 in
@@ -61,14 +64,16 @@ listed_at bytes place (x ∷ xs) next h (suc i) less =
     let there : h.0 + 2 * i ≡ place + 2 * suc i = omega (arith, one.2) in
     listed_at bytes h.0 xs next h.2 i (omega (arith, less)) ∙ ap (λ p. Some (number_at bytes p 2)) there
 
-listed_within : (bytes : List ℕ) (place : ℕ) (ids : List ℕ) (next : ℕ) → place ≤ length bytes → StandAt (number 2) bytes place ids next → place + 2 * length ids ≤ length bytes
+listed_within : (bytes : List ℕ) (place : ℕ) (ids : List ℕ) (next : ℕ) → place ≤ length bytes → StandAt (number 2) bytes place ids next →
+    place + 2 * length ids ≤ length bytes
 listed_within bytes place [] next within h = omega (arith, within)
 listed_within bytes place (x ∷ xs) next within h =
     let one = number_got 2 bytes place x h.0 (omega arith) h.1 in
     let rest = listed_within bytes h.0 xs next (omega (arith, one.0, one.2)) h.2 in
     omega (arith, rest, one.2)
 
-identifiers_are : (bytes : List ℕ) (place glyphs : ℕ) (ids : List ℕ) (next : ℕ) → place ≤ length bytes → StandAt (number 2) bytes place ids next → 1 + length ids ≡ glyphs
+identifiers_are : (bytes : List ℕ) (place glyphs : ℕ) (ids : List ℕ) (next : ℕ) → place ≤ length bytes →
+    StandAt (number 2) bytes place ids next → 1 + length ids ≡ glyphs
     → AreIdentifiers ids (take (2 * (glyphs - 1)) (drop place bytes))
 identifiers_are bytes place glyphs ids next within h each i = by (nat_lt i (length held / 2)) refl
   where
@@ -85,7 +90,8 @@ identifiers_are bytes place glyphs ids next within h each i = by (nat_lt i (leng
     by : (b : Bool) → nat_lt i (length held / 2) ≡ b → (if b then Some (number_at held (2 * i) 2) else None) ≡ slice_get ids i
     by true t =
         let less : i < length ids = grind (arith, nat_tests, many) in
-        ap (λ n. Some n) (number_of_cut bytes place (2 * (glyphs - 1)) (2 * i) 2 (omega (arith, less, each))) ∙ sym (listed_at bytes place ids next h i less)
+        ap (λ n. Some n) (number_of_cut bytes place (2 * (glyphs - 1)) (2 * i) 2 (omega (arith, less, each)))
+        ∙ sym (listed_at bytes place ids next h i less)
     by false t =
         let past : length ids ≤ i = grind (arith, nat_tests, many) in
         sym (slice_get_past ids i past)
@@ -94,12 +100,14 @@ identifiers_are bytes place glyphs ids next within h each i = by (nat_lt i (leng
 -- what a range of so many bytes tells
 abbrev Tells : {A : Type 0} → Reading A → (A → ℕ) → (A → ℕ) → ℕ → Type 0
 Tells {A} one first left size = (bytes : List ℕ) (place : ℕ) (value : A) (next : ℕ) → one bytes place ≡ Got value next
-    → (place + (2 + size) ≤ length bytes) × (number_at bytes place 2 ≡ first value) × (number_at bytes (place + 2) size ≡ left value) × (next ≡ place + (2 + size))
+    → (place + (2 + size) ≤ length bytes) × (number_at bytes place 2 ≡ first value) × (number_at bytes
+    (place + 2) size ≡ left value) × (next ≡ place + (2 + size))
 
 tells_1 : Tells range_1 (λ range. range.first) (λ range. range.left) 1
 unfolding range
 tells_1 bytes place value next e =
-    let s = accepted (Step (number 2) (λ first. Step (number 1) (λ left. Done (record { first = first; left = left })))) bytes place value next e in
+    let s = accepted (Step (number 2) (λ first. Step (number 1) (λ left. Done (record { first = first; left = left })))) bytes place value
+    next e in
     let first = number_got 2 bytes place s.0 s.1 (omega arith) s.2 in
     let left = number_got 1 bytes s.1 s.3.0 s.3.1 (omega arith) s.3.2 in
     let is = s.3.3.0 in
@@ -113,7 +121,8 @@ tells_1 bytes place value next e =
 tells_2 : Tells range_2 (λ range. range.first) (λ range. range.left) 2
 unfolding range
 tells_2 bytes place value next e =
-    let s = accepted (Step (number 2) (λ first. Step (number 2) (λ left. Done (record { first = first; left = left })))) bytes place value next e in
+    let s = accepted (Step (number 2) (λ first. Step (number 2) (λ left. Done (record { first = first; left = left })))) bytes place value
+    next e in
     let first = number_got 2 bytes place s.0 s.1 (omega arith) s.2 in
     let left = number_got 2 bytes s.1 s.3.0 s.3.1 (omega arith) s.3.2 in
     let is = s.3.3.0 in
@@ -124,9 +133,11 @@ tells_2 bytes place value next e =
       omega (arith, behind, left.2, first.2),
     )
 
-ranges_at : {A : Type 0} (one : Reading A) (first left : A → ℕ) (size : ℕ) → Tells one first left size → (bytes : List ℕ) (place : ℕ) (rs : List A) (next : ℕ) → StandAt one bytes place rs next
+ranges_at : {A : Type 0} (one : Reading A) (first left : A → ℕ) (size : ℕ) → Tells one first left size → (bytes : List ℕ) (place : ℕ)
+    (rs : List A) (next : ℕ) → StandAt one bytes place rs next
     → (r : ℕ) (value : A) → slice_get rs r ≡ Some value
-    → (place + (r + 1) * (2 + size) ≤ length bytes) × (number_at bytes (place + r * (2 + size)) 2 ≡ first value) × (number_at bytes (place + (r * (2 + size) + 2)) size ≡ left value)
+    → (place + (r + 1) * (2 + size) ≤ length bytes) × (number_at bytes (place + r * (2 + size)) 2 ≡ first value) × (number_at bytes
+    (place + (r * (2 + size) + 2)) size ≡ left value)
 ranges_at {A} one first left size tells bytes place [] next h r value there = absurd (none-some value there)
 ranges_at {A} one first left size tells bytes place (x ∷ xs) next h zero value there =
     let t = tells bytes place x h.0 h.1 in
@@ -149,9 +160,11 @@ ranges_at {A} one first left size tells bytes place (x ∷ xs) next h (suc r) va
 
 -- so many ranges fit
 fits : (r size n : ℕ) → (r + 1) * (2 + size) ≤ n → r < n / (2 + size)
-fits r size n h = let up : r + 1 ≤ n / (2 + size) = (le-div_iff_mul-le {k = 2 + size} {x = r + 1} {y = n} (omega arith)).1 h in omega (arith, up)
+fits r size n h =
+    let up : r + 1 ≤ n / (2 + size) = (le-div_iff_mul-le {k = 2 + size} {x = r + 1} {y = n} (omega arith)).1 h in omega (arith, up)
 
-begin_with : {A : Type 0} (one : Reading A) (first left : A → ℕ) (size : ℕ) → Tells one first left size → (bytes : List ℕ) (place : ℕ) (rs : List A) (next : ℕ) → StandAt one bytes place rs next
+begin_with : {A : Type 0} (one : Reading A) (first left : A → ℕ) (size : ℕ) → Tells one first left size → (bytes : List ℕ) (place : ℕ)
+    (rs : List A) (next : ℕ) → StandAt one bytes place rs next
     → BeginWith first left size rs (drop place bytes)
 begin_with {A} one first left size tells bytes place rs next h r value there =
     let at = ranges_at one first left size tells bytes place rs next h r value there in
@@ -162,12 +175,14 @@ begin_with {A} one first left size tells bytes place rs next h r value there =
     )
 
 -- ---- the char set that stands at a place
-format_is : (bytes : List ℕ) (place format behind : ℕ) → number 1 bytes place ≡ Got format behind → (number_at bytes place 1 ≡ format) × (behind ≡ place + 1) × (place + 1 ≤ length bytes)
+format_is : (bytes : List ℕ) (place format behind : ℕ) → number 1 bytes place ≡ Got format behind →
+    (number_at bytes place 1 ≡ format) × (behind ≡ place + 1) × (place + 1 ≤ length bytes)
 format_is bytes place format behind e =
     let one = number_got 1 bytes place format behind (omega arith) e in
     (sym one.1, one.2, one.0)
 
-at_place : (set : CharSet) (view : Identifiers) (bytes : List ℕ) (place glyphs next : ℕ) → IsCharSet bytes place glyphs set next → StandsAt view bytes place glyphs → IsSame set view
+at_place : (set : CharSet) (view : Identifiers) (bytes : List ℕ) (place glyphs next : ℕ) → IsCharSet bytes place glyphs set next →
+    StandsAt view bytes place glyphs → IsSame set view
 at_place sets.ISOAdobe view bytes place glyphs next h stands = absurd h
 at_place sets.Expert view bytes place glyphs next h stands = absurd h
 at_place sets.ExpertSubset view bytes place glyphs next h stands = absurd h
@@ -178,23 +193,29 @@ at_place (sets.Format0 set) (Listed identifiers) bytes place glyphs next h stand
     let format = format_is bytes place 0 h.behind h.byte in
     let behind = subst (λ p. StandAt (number 2) bytes p set.glyphs next) format.1 h.identifiers in
     subst (AreIdentifiers set.glyphs) (sym stands.2) (identifiers_are bytes (place + 1) glyphs set.glyphs next format.2 behind h.each)
-at_place (sets.Format0 set) (Ranges1 ranges) bytes place glyphs next h stands = absurd (omega (arith, (format_is bytes place 0 h.behind h.byte).0, stands.0))
-at_place (sets.Format0 set) (Ranges2 ranges) bytes place glyphs next h stands = absurd (omega (arith, (format_is bytes place 0 h.behind h.byte).0, stands.0))
+at_place (sets.Format0 set) (Ranges1 ranges) bytes place glyphs next h stands =
+    absurd (omega (arith, (format_is bytes place 0 h.behind h.byte).0, stands.0))
+at_place (sets.Format0 set) (Ranges2 ranges) bytes place glyphs next h stands =
+    absurd (omega (arith, (format_is bytes place 0 h.behind h.byte).0, stands.0))
 at_place (sets.Format1 set) ISOAdobe bytes place glyphs next h stands = absurd stands
 at_place (sets.Format1 set) Expert bytes place glyphs next h stands = absurd stands
 at_place (sets.Format1 set) ExpertSubset bytes place glyphs next h stands = absurd stands
-at_place (sets.Format1 set) (Listed identifiers) bytes place glyphs next h stands = absurd (omega (arith, (format_is bytes place 1 h.behind h.byte).0, stands.0))
+at_place (sets.Format1 set) (Listed identifiers) bytes place glyphs next h stands =
+    absurd (omega (arith, (format_is bytes place 1 h.behind h.byte).0, stands.0))
 at_place (sets.Format1 set) (Ranges1 ranges) bytes place glyphs next h stands =
     let format = format_is bytes place 1 h.behind h.byte in
     let behind = subst (λ p. StandAt range_1 bytes p set.ranges next) format.1 h.ranges in
     subst (BeginWith (λ (r : Range1). r.first) (λ (r : Range1). r.left) 1 set.ranges) (sym stands.2)
     (begin_with range_1 (λ (r : Range1). r.first) (λ (r : Range1). r.left) 1 tells_1 bytes (place + 1) set.ranges next behind)
-at_place (sets.Format1 set) (Ranges2 ranges) bytes place glyphs next h stands = absurd (omega (arith, (format_is bytes place 1 h.behind h.byte).0, stands.0))
+at_place (sets.Format1 set) (Ranges2 ranges) bytes place glyphs next h stands =
+    absurd (omega (arith, (format_is bytes place 1 h.behind h.byte).0, stands.0))
 at_place (sets.Format2 set) ISOAdobe bytes place glyphs next h stands = absurd stands
 at_place (sets.Format2 set) Expert bytes place glyphs next h stands = absurd stands
 at_place (sets.Format2 set) ExpertSubset bytes place glyphs next h stands = absurd stands
-at_place (sets.Format2 set) (Listed identifiers) bytes place glyphs next h stands = absurd (omega (arith, (format_is bytes place 2 h.behind h.byte).0, stands.0))
-at_place (sets.Format2 set) (Ranges1 ranges) bytes place glyphs next h stands = absurd (omega (arith, (format_is bytes place 2 h.behind h.byte).0, stands.0))
+at_place (sets.Format2 set) (Listed identifiers) bytes place glyphs next h stands =
+    absurd (omega (arith, (format_is bytes place 2 h.behind h.byte).0, stands.0))
+at_place (sets.Format2 set) (Ranges1 ranges) bytes place glyphs next h stands =
+    absurd (omega (arith, (format_is bytes place 2 h.behind h.byte).0, stands.0))
 at_place (sets.Format2 set) (Ranges2 ranges) bytes place glyphs next h stands =
     let format = format_is bytes place 2 h.behind h.byte in
     let behind = subst (λ p. StandAt range_2 bytes p set.ranges next) format.1 h.ranges in
@@ -202,7 +223,8 @@ at_place (sets.Format2 set) (Ranges2 ranges) bytes place glyphs next h stands =
     (begin_with range_2 (λ (r : Range2). r.first) (λ (r : Range2). r.left) 2 tells_2 bytes (place + 1) set.ranges next behind)
 
 -- what stands there can be lent
-lends : (set : CharSet) (bytes : Bor (List ℕ)) (place glyphs next : ℕ) → IsCharSet bytes.now place glyphs set next → (view : Identifiers) × StandsAt view bytes.now place glyphs
+lends : (set : CharSet) (bytes : Bor (List ℕ)) (place glyphs next : ℕ) → IsCharSet bytes.now place glyphs set next →
+    (view : Identifiers) × StandsAt view bytes.now place glyphs
 lends sets.ISOAdobe bytes place glyphs next h = absurd h
 lends sets.Expert bytes place glyphs next h = absurd h
 lends sets.ExpertSubset bytes place glyphs next h = absurd h
@@ -210,8 +232,10 @@ lends (sets.Format0 set) bytes place glyphs next h =
     let format = format_is bytes.now place 0 h.behind h.byte in
     let behind = subst (λ p. StandAt (number 2) bytes.now p set.glyphs next) format.1 h.identifiers in
     let within = listed_within bytes.now (place + 1) set.glyphs next format.2 behind in
-    let each = h.each in
-    (Listed (record { ref_ptr = bytes.ref_ptr; now = take (2 * (glyphs - 1)) (drop (place + 1) bytes.now) }), (format.0, omega (arith, within, each), refl))
+    let each = h.each in (
+      Listed (record { ref_ptr = bytes.ref_ptr; now = take (2 * (glyphs - 1)) (drop (place + 1) bytes.now) }),
+      (format.0, omega (arith, within, each), refl),
+    )
 lends (sets.Format1 set) bytes place glyphs next h =
     let format = format_is bytes.now place 1 h.behind h.byte in
     (Ranges1 (record { ref_ptr = bytes.ref_ptr; now = drop (place + 1) bytes.now }), (format.0, format.2, refl))
@@ -220,21 +244,26 @@ lends (sets.Format2 set) bytes place glyphs next h =
     (Ranges2 (record { ref_ptr = bytes.ref_ptr; now = drop (place + 1) bytes.now }), (format.0, format.2, refl))
 
 -- ---- the char set that a dictionary names
-from_start : (set : CharSet) (bytes : List ℕ) (offset glyphs next : ℕ) → IsCharSet bytes (0 + offset) glyphs set next → IsCharSet bytes offset glyphs set next
-from_start set bytes offset glyphs next h = let on : 0 + offset ≡ offset = omega arith in subst (λ p. IsCharSet bytes p glyphs set next) on h
+from_start : (set : CharSet) (bytes : List ℕ) (offset glyphs next : ℕ) → IsCharSet bytes (0 + offset) glyphs set next →
+    IsCharSet bytes offset glyphs set next
+from_start set bytes offset glyphs next h =
+    let on : 0 + offset ≡ offset = omega arith in subst (λ p. IsCharSet bytes p glyphs set next) on h
 
-pub offset_is : (map : Dictionary) (operator : Operator) (offset : ℕ) → HasFirst map operator (pos offset) → offset_of map operator ≡ Some offset
+pub offset_is : (map : Dictionary) (operator : Operator) (offset : ℕ) → HasFirst map operator (pos offset) →
+    offset_of map operator ≡ Some offset
 unfolding offset_of
 offset_is map operator offset h = rw (h.1, h.2) refl
 
-named : (view : Identifiers) (bytes : List ℕ) (map : Dictionary) (offset glyphs : ℕ) → HasFirst map operators.CharSet (pos offset) → AreNamedIn view bytes map glyphs → IsNamedBy view bytes offset glyphs
+named : (view : Identifiers) (bytes : List ℕ) (map : Dictionary) (offset glyphs : ℕ) → HasFirst map operators.CharSet (pos offset) →
+    AreNamedIn view bytes map glyphs → IsNamedBy view bytes offset glyphs
 named view bytes map offset glyphs first h =
     let is = offset_is map operators.CharSet offset first in
     let other = h.1 in
     let same : h.0 ≡ offset = cc in
     subst (λ o. IsNamedBy view bytes o glyphs) same h.2
 
-pub same_set : (view : Identifiers) (bytes : List ℕ) (map : Dictionary) (glyphs : ℕ) (set : CharSet) → AreNamedIn view bytes map glyphs → HasCharSet bytes 0 glyphs map set → IsSame set view
+pub same_set : (view : Identifiers) (bytes : List ℕ) (map : Dictionary) (glyphs : ℕ) (set : CharSet) → AreNamedIn view bytes map glyphs →
+    HasCharSet bytes 0 glyphs map set → IsSame set view
 same_set view bytes map glyphs set h (Is_0 first is) = elim (named view bytes map 0 glyphs first h) [
   | inl iso ↦ rw (is, iso.1) tt
   | inr more ↦ elim more [
@@ -276,7 +305,8 @@ same_set view bytes map glyphs set h (Own offset next first far place stands) = 
   ]
 ]
 
-pub has_view : (bytes : Bor (List ℕ)) (map : Dictionary) (glyphs : ℕ) (set : CharSet) → HasCharSet bytes.now 0 glyphs map set → (view : Identifiers) × AreNamedIn view bytes.now map glyphs
+pub has_view : (bytes : Bor (List ℕ)) (map : Dictionary) (glyphs : ℕ) (set : CharSet) → HasCharSet bytes.now 0 glyphs map set →
+    (view : Identifiers) × AreNamedIn view bytes.now map glyphs
 has_view bytes map glyphs set (Is_0 first is) = (ISOAdobe, (0, offset_is map operators.CharSet 0 first, inl (refl, refl)))
 has_view bytes map glyphs set (Is_1 first is) = (Expert, (1, offset_is map operators.CharSet 1 first, inr (inl (refl, refl))))
 has_view bytes map glyphs set (Is_2 first is) = (ExpertSubset, (2, offset_is map operators.CharSet 2 first, inr (inr (inl (refl, refl)))))
@@ -284,15 +314,21 @@ has_view bytes map glyphs set (Own offset next first far place stands) =
     let lent = lends set bytes offset glyphs next (from_start set bytes.now offset glyphs next stands) in
     (lent.0, (offset, offset_is map operators.CharSet offset first, inr (inr (inr (far, lent.1)))))
 
-pub none_for : (r : Result CharSetView Error) (bytes : List ℕ) (map : Dictionary) (n glyphs : ℕ) → n ≡ glyphs → IfErr r (λ e. (view : CharSetView) → IsCharSetOf view bytes map n → ⊥)
+pub none_for : (r : Result CharSetView Error) (bytes : List ℕ) (map : Dictionary) (n glyphs : ℕ) → n ≡ glyphs →
+    IfErr r (λ e. (view : CharSetView) → IsCharSetOf view bytes map n → ⊥)
     → IfErr r (λ e. (view : CharSetView) → IsCharSetOf view bytes map glyphs → ⊥)
 none_for (Ok view) bytes map n glyphs is none = tt
 none_for (Err e) bytes map n glyphs is none = λ view h. none view (subst (λ k. IsCharSetOf view bytes map k) (sym is) h)
 
-pub tied : (r : Result CharSetView Error) (bytes : Bor (List ℕ)) (map : Dictionary) (n glyphs : ℕ) → n ≡ glyphs → IfOk r (λ view. IsCharSetOf view bytes.now map n)
+pub tied : (r : Result CharSetView Error) (bytes : Bor (List ℕ)) (map : Dictionary) (n glyphs : ℕ) → n ≡ glyphs →
+    IfOk r (λ view. IsCharSetOf view bytes.now map n)
     → IfErr r (λ e. (view : CharSetView) → IsCharSetOf view bytes.now map n → ⊥)
-    → MatchResult r (λ view. (set : CharSet) → HasCharSet bytes.now 0 glyphs map set → IsSame set view.identifiers) (λ e. (set : CharSet) → HasCharSet bytes.now 0 glyphs map set → ⊥)
-tied (Ok view) bytes map n glyphs is found none = λ set has. same_set view.identifiers bytes.now map glyphs set (subst (λ k. AreNamedIn view.identifiers bytes.now map k) is found.identifiers) has
+    → MatchResult r (λ view. (set : CharSet) → HasCharSet bytes.now 0 glyphs map set → IsSame set view.identifiers)
+    (λ e. (set : CharSet) → HasCharSet bytes.now 0 glyphs map set → ⊥)
+tied (Ok view) bytes map n glyphs is found none =
+    λ set has. same_set view.identifiers bytes.now map glyphs set
+    (subst (λ k. AreNamedIn view.identifiers bytes.now map k) is found.identifiers) has
 tied (Err e) bytes map n glyphs is found none = λ set has.
     let other = has_view bytes map glyphs set has in
-    none (record { identifiers = other.0; glyphs = n; marks = no_marks; marked = unmarked other.0 }) (record { identifiers = subst (λ k. AreNamedIn other.0 bytes.now map k) (sym is) other.1; counted = refl })
+    none (record { identifiers = other.0; glyphs = n; marks = no_marks; marked = unmarked other.0 })
+    (record { identifiers = subst (λ k. AreNamedIn other.0 bytes.now map k) (sym is) other.1; counted = refl })

@@ -8,7 +8,8 @@ use Rattle.psfont_session.specs.Limit.{IsUsedUp}
 use Rattle.psfont_session.specs.Loaded.{Loaded}
 use Rattle.psfont_session.specs.Output.{run_loaded}
 
-pub with_left : (r : Result Bool Error) (phrases same : List Phrase) (limit left : ℕ) → phrases ≡ same → IfOk r (λ fits. Fits phrases limit fits left) → IfOk r (λ fits. (rest : ℕ) × Fits same limit fits rest)
+pub with_left : (r : Result Bool Error) (phrases same : List Phrase) (limit left : ℕ) → phrases ≡ same →
+    IfOk r (λ fits. Fits phrases limit fits left) → IfOk r (λ fits. (rest : ℕ) × Fits same limit fits rest)
 with_left (Ok fits) phrases same limit left is h = (left, subst (λ (xs : List Phrase). Fits xs limit fits left) is h)
 with_left (Err e) phrases same limit left is h = tt
 

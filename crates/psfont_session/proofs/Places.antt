@@ -24,7 +24,8 @@ All-position-None sought bytes none = λ place default below is.
     search (rules, fails, is)
 
 -- nor is it among the bytes before its first place
-pub All-position-Some : (sought : ℕ) (bytes : List ℕ) (first : ℕ) → position (λ byte. byte == sought) bytes ≡ Some first → All (λ byte. byte ≢ sought) (take first bytes)
+pub All-position-Some : (sought : ℕ) (bytes : List ℕ) (first : ℕ) → position (λ byte. byte == sought) bytes ≡ Some first →
+    All (λ byte. byte ≢ sought) (take first bytes)
 All-position-Some sought bytes first some = λ place default below is.
     let found = position-Some (λ byte. byte == sought) bytes first default some in
     let before : place < first = omega (arith, length-take-le first bytes (omega (arith, found.0)), below) in
@@ -33,7 +34,8 @@ All-position-Some sought bytes first some = λ place default below is.
     search (rules, fails, is, same)
 
 -- the bytes up to and including its first place
-pub take-past-position : (sought : ℕ) (bytes : List ℕ) (first : ℕ) → position (λ byte. byte == sought) bytes ≡ Some first → (first + 1 ≤ length bytes) × (take (first + 1) bytes ≡ take first bytes ++ sought ∷ [])
+pub take-past-position : (sought : ℕ) (bytes : List ℕ) (first : ℕ) → position (λ byte. byte == sought) bytes ≡ Some first →
+    (first + 1 ≤ length bytes) × (take (first + 1) bytes ≡ take first bytes ++ sought ∷ [])
 take-past-position sought bytes first some =
     let found = position-Some (λ byte. byte == sought) bytes first 0 some in
     let last : get_or bytes first 0 ≡ sought = eqb-true _ _ found.1 in
@@ -43,7 +45,8 @@ pub take-whole : (bytes : List ℕ) → take (length bytes) bytes ≡ bytes
 take-whole bytes = take_all (length bytes) bytes (le_refl _)
 
 -- what is shown behind the bytes that are consumed is left
-pub goes_on : (before after : Option (List ℕ)) (shown : List ℕ) (n : ℕ) → n < length shown → IfSome before (λ xs. StartsWith xs shown) → Consumes before after (take n shown) → GoesOn before after
+pub goes_on : (before after : Option (List ℕ)) (shown : List ℕ) (n : ℕ) → n < length shown → IfSome before (λ xs. StartsWith xs shown) →
+    Consumes before after (take n shown) → GoesOn before after
 goes_on None after shown n below front spent = tt
 goes_on (Some xs) None shown n below front spent = absurd spent
 goes_on (Some xs) (Some ys) shown n below front spent = λ end.

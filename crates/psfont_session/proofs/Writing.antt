@@ -41,7 +41,8 @@ one_more f u v w items item so_far next =
 
 -- the same of items that are made of others
 pub more_of : {A B : Type 0} (f : B → List ℕ) (g : A → B) (u v w : Option (List ℕ)) (items : List A) (i : ℕ) (d : A) → i < length items →
-    Appends u v (flat_map f (map g (take i items))) → Appends v w (f (g (get_or items i d))) → Appends u w (flat_map f (map g (take (i + 1) items)))
+    Appends u v (flat_map f (map g (take i items))) → Appends v w (f (g (get_or items i d))) → Appends u w
+    (flat_map f (map g (take (i + 1) items)))
 more_of f g u v w items i d below so_far next =
     rw (of_each f g (take (i + 1) items)) (more (λ x. f (g x)) u v w items i d below (rw (sym (of_each f g (take i items))) so_far) next)
 

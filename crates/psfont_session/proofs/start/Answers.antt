@@ -20,7 +20,8 @@ returns-in-len2-2-clause-usage g c = (
   λ unknown.
       let word = c.word-item-then-words-lt3.result in
       let path = c.path-item-then-words-lt3.result in
-      let both = of_two c.args.words.now word path c.in-len2.len_at_least c.in-len2.len_below c.word-item-then-words-lt3.is c.path-item-then-words-lt3.is in
+      let both = of_two c.args.words.now word path c.in-len2.len_at_least c.in-len2.len_below c.word-item-then-words-lt3.is
+      c.path-item-then-words-lt3.is in
       let lenient : string_bytes word ≡ codes "lenient" = search (rules) in
       absurd (unknown (inr (string_bytes word, string_bytes path, inr lenient, ap (map string_bytes) both))),
 )

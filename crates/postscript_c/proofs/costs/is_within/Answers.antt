@@ -14,7 +14,8 @@ pub returns-then-left-cost-clause-found : goal.returns-then-left-cost-clause-fou
 returns-then-left-cost-clause-found c =
     let so_far = c.loop-number.invariant in
     let each : c.len.result * (c.axes.result + 1) ≡ delta_count c.in-Some.table * (axes_of (regions_of c.args.store.now) + 1) =
-    ap (λ n. n * (c.axes.result + 1)) c.len.ensures ∙ ap (λ n. delta_count c.in-Some.table * (n + 1)) (c.axes.ensures ∙ ap axes_of c.regions.ensures) in
+    ap (λ n. n * (c.axes.result + 1)) c.len.ensures
+    ∙ ap (λ n. delta_count c.in-Some.table * (n + 1)) (c.axes.ensures ∙ ap axes_of c.regions.ensures) in
     let price = delta_count c.in-Some.table * (axes_of (regions_of c.args.store.now) + 1) in
     let more : c.args.limit < so_far.0 + price = omega (arith, each, c.if-left-cost.true, so_far.2) in
     (c.loop-number.number + 1, so_far.0 + price, one_more c.loop-number.number so_far.0 c.in-Some.table so_far.1 c.in-Some.ensures, more)
@@ -23,6 +24,10 @@ pub loop-number-preserved : goal.loop-number-preserved
 loop-number-preserved c =
     let so_far = c.loop-number.invariant in
     let each : c.len.result * (c.axes.result + 1) ≡ delta_count c.in-Some.table * (axes_of (regions_of c.args.store.now) + 1) =
-    ap (λ n. n * (c.axes.result + 1)) c.len.ensures ∙ ap (λ n. delta_count c.in-Some.table * (n + 1)) (c.axes.ensures ∙ ap axes_of c.regions.ensures) in
-    let price = delta_count c.in-Some.table * (axes_of (regions_of c.args.store.now) + 1) in
-    (so_far.0 + price, one_more c.loop-number.number so_far.0 c.in-Some.table so_far.1 c.in-Some.ensures, omega (arith, each, c.if-left-cost.false, so_far.2))
+    ap (λ n. n * (c.axes.result + 1)) c.len.ensures
+    ∙ ap (λ n. delta_count c.in-Some.table * (n + 1)) (c.axes.ensures ∙ ap axes_of c.regions.ensures) in
+    let price = delta_count c.in-Some.table * (axes_of (regions_of c.args.store.now) + 1) in (
+      so_far.0 + price,
+      one_more c.loop-number.number so_far.0 c.in-Some.table so_far.1 c.in-Some.ensures,
+      omega (arith, each, c.if-left-cost.false, so_far.2),
+    )

@@ -10,8 +10,11 @@ pub returns-in-Ok : goal.returns-in-Ok
 returns-in-Ok c =
     let same : to_z w32 (of_z w32 c.tell_glyph_of.result) ≡ c.tell_glyph_of.result = search rules in
     let is = font_of c.opened.result c.args.bytes.now (c.opened.ensures.exact 0) c.opened.ensures.widths c.opened.ensures.limit in
-    let Tells : PsfFont → ℤ → Type 0 = λ font status. TellsGlyphOf c.args.bytes.now font c.args.glyph status (outline_room c.args.segments.now c.args.count.now c.args.bounds.now) (outline_room c.tell_glyph_of.new.segments c.tell_glyph_of.new.count c.tell_glyph_of.new.bounds) in (
+    let Tells : PsfFont → ℤ → Type 0 = λ font status. TellsGlyphOf c.args.bytes.now font c.args.glyph status
+    (outline_room c.args.segments.now c.args.count.now c.args.bounds.now)
+    (outline_room c.tell_glyph_of.new.segments c.tell_glyph_of.new.count c.tell_glyph_of.new.bounds) in (
       Ok c.in-Ok.font,
       subst (IsFontOf c.args.bytes.now) c.in-Ok.is is,
-      subst (λ font. Tells font (to_z w32 (of_z w32 c.tell_glyph_of.result))) c.within.ensures (subst (Tells c.within.result) (sym same) c.tell_glyph_of.ensures),
+      subst (λ font. Tells font (to_z w32 (of_z w32 c.tell_glyph_of.result))) c.within.ensures
+          (subst (Tells c.within.result) (sym same) c.tell_glyph_of.ensures),
     )

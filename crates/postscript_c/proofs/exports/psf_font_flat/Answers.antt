@@ -15,6 +15,7 @@ returns-then-asked-ne0 c =
 pub returns : goal.returns
 returns c =
     let same : to_z w32 (of_z w32 c.tell_written.result) ≡ c.tell_written.result = search rules in
-    let P : ℤ → Type 0 = λ status. TellsWritten c.flat.result status (lent c.args.room.now c.args.count.now) (lent c.tell_written.new.room c.tell_written.new.count) c.args.refusal.now c.tell_written.new.refusal in
+    let P : ℤ → Type 0 = λ status. TellsWritten c.flat.result status (lent c.args.room.now c.args.count.now)
+    (lent c.tell_written.new.room c.tell_written.new.count) c.args.refusal.now c.tell_written.new.refusal in
     let zero : c.tell_fits_at_once-asked.result ≡ pos 0 = search rules in
     inl (c.tell_fits_at_once-asked.ensures.fits zero, (c.flat.result, c.flat.ensures, subst P (sym same) c.tell_written.ensures))

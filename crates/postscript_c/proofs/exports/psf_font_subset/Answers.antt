@@ -23,13 +23,21 @@ returns-then-asked-ne0-clause-kept c = λ h.
 pub returns-clause-anew : goal.returns-clause-anew
 returns-clause-anew c = λ h.
     let same : to_z w32 (of_z w32 c.tell_written.result) ≡ c.tell_written.result = search rules in
-    let P : ℤ → Type 0 = λ status. TellsWritten c.subset_of.result status (lent c.args.room.now c.args.count.now) (lent c.tell_written.new.room c.tell_written.new.count) c.args.refusal.now c.tell_written.new.refusal in
+    let P : ℤ → Type 0 = λ status. TellsWritten c.subset_of.result status (lent c.args.room.now c.args.count.now)
+    (lent c.tell_written.new.room c.tell_written.new.count) c.args.refusal.now c.tell_written.new.refusal in
     let zero : c.tell_fits_at_once-asked.result ≡ pos 0 = search rules in
-    inl (c.tell_fits_at_once-asked.ensures.fits zero, (c.subset_of.result, c.subset_of.ensures.anew h, subst P (sym same) c.tell_written.ensures))
+    inl (
+      c.tell_fits_at_once-asked.ensures.fits zero,
+      (c.subset_of.result, c.subset_of.ensures.anew h, subst P (sym same) c.tell_written.ensures),
+    )
 
 pub returns-clause-kept : goal.returns-clause-kept
 returns-clause-kept c = λ h.
     let same : to_z w32 (of_z w32 c.tell_written.result) ≡ c.tell_written.result = search rules in
-    let P : ℤ → Type 0 = λ status. TellsWritten c.subset_of.result status (lent c.args.room.now c.args.count.now) (lent c.tell_written.new.room c.tell_written.new.count) c.args.refusal.now c.tell_written.new.refusal in
+    let P : ℤ → Type 0 = λ status. TellsWritten c.subset_of.result status (lent c.args.room.now c.args.count.now)
+    (lent c.tell_written.new.room c.tell_written.new.count) c.args.refusal.now c.tell_written.new.refusal in
     let zero : c.tell_fits_at_once-asked.result ≡ pos 0 = search rules in
-    inl (c.tell_fits_at_once-asked.ensures.fits zero, (c.subset_of.result, c.subset_of.ensures.kept h, subst P (sym same) c.tell_written.ensures))
+    inl (
+      c.tell_fits_at_once-asked.ensures.fits zero,
+      (c.subset_of.result, c.subset_of.ensures.kept h, subst P (sym same) c.tell_written.ensures),
+    )

@@ -7,7 +7,8 @@ use Rattle.postscript_c.proofs.exports.psf_glyph_outline.Goals as goal
 pub returns-in-Ok : goal.returns-in-Ok
 returns-in-Ok c =
     let same : to_z w32 (of_z w32 c.tell.result) ≡ c.tell.result = search rules in
-    let P : ℤ → Type 0 = λ status. Tells (found_shown c.found_glyph.result) status (room c.args.segments.now c.args.count.now c.args.info.now) (room c.tell.new.segments c.tell.new.count c.tell.new.info) in
+    let P : ℤ → Type 0 = λ status. Tells (found_shown c.found_glyph.result) status
+    (room c.args.segments.now c.args.count.now c.args.info.now) (room c.tell.new.segments c.tell.new.count c.tell.new.info) in
     inl (c.in-Ok.part, c.in-Ok.ensures, (found_shown c.found_glyph.result, c.found_glyph.ensures, subst P (sym same) c.tell.ensures))
 
 pub returns-in-Err : goal.returns-in-Err

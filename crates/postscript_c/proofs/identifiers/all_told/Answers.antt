@@ -13,5 +13,8 @@ loop-glyph-preserved c =
     let reached : c.loop-glyph.glyph ≡ 0 + length before = omega (arith, told.0) in
     let here = subst (λ glyph. IsIdentifier c.args.set.now glyph one) reached c.told_of.ensures in
     let P : List ℤ → Type 0 = λ items. AreIdentifiers c.args.set.now (c.loop-glyph.glyph + 1) items in
-    let all : P (before ++ one ∷ []) = ((length_at_push before one).1 ∙ ap (λ n. n + 1) told.0, added c.args.set.now 0 before one told.1 here) in
+    let all : P (before ++ one ∷ []) = (
+      (length_at_push before one).1 ∙ ap (λ n. n + 1) told.0,
+      added c.args.set.now 0 before one told.1 here,
+    ) in
     subst P (sym c.in_ok-push.ensures.items) (subst (λ n. P (before ++ n ∷ [])) (sym same) all)

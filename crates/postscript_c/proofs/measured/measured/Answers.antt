@@ -10,7 +10,8 @@ returns-in-Ok-variations_of c =
     let number : c.in-Ok.number ≡ c.args.glyph = search rules in
     let more : to_z w64 (of_z w64 c.added-more.result) ≡ c.added-more.result = search rules in
     let sum : c.sum.result ≡ saturate_signed w64 (pos (advance_in c.in_ok-advances.advances c.args.glyph) +ℤ c.added-more.result) =
-    c.sum.ensures ∙ ap (λ n. saturate_signed w64 (pos (advance_in c.in_ok-advances.advances n) +ℤ to_z w64 (of_z w64 c.added-more.result))) number
+    c.sum.ensures ∙ ap (λ n. saturate_signed w64
+    (pos (advance_in c.in_ok-advances.advances n) +ℤ to_z w64 (of_z w64 c.added-more.result))) number
     ∙ ap (λ m. saturate_signed w64 (pos (advance_in c.in_ok-advances.advances c.args.glyph) +ℤ m)) more in
     let at : IsAdvanceAt c.args.file.now c.args.values.now c.args.glyph c.sum.result = record {
       advances = c.in_ok-advances.advances;

@@ -5,7 +5,8 @@ use Rattle.postscript_c.proofs.names.tell_name_in.Goals as goal
 pub returns-in-Some : goal.returns-in-Some
 returns-in-Some c =
     let same : to_z w32 (of_z w32 c.hand_over.result) ≡ c.hand_over.result = search rules in
-    let P : ℤ → Type 0 = λ status. HandsOver c.in-Some.name.now status (lent c.args.room.now c.args.count.now) (lent c.hand_over.new.room c.hand_over.new.count) in
+    let P : ℤ → Type 0 = λ status. HandsOver c.in-Some.name.now status (lent c.args.room.now c.args.count.now)
+    (lent c.hand_over.new.room c.hand_over.new.count) in
     inl (c.in-Ok.set, c.in-Some.name.now, c.in-Ok.ensures.found, c.in-Some.ensures.found, subst P (sym same) c.hand_over.ensures)
 
 pub returns-in-None : goal.returns-in-None

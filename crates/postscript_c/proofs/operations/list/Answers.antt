@@ -22,8 +22,14 @@ loop-operands-preserved c =
     let rows : List PsfOperation = c.loop-operands.rows.items in
     let next = c.tell_within.follows.lender-at-none in
     let told = c.in_ok-operator.was ∙ ap Ok c.in-Operation.is in
-    let answer : Answer = record { operator = c.in-Operation.operator; operands = ys; hints = record { stems = ss; mask = ms }; width = next.width } in
-    let left : c.loop-operands.program.answers ≡ answer ∷ next.answers = head-is c.loop-operands.program next c.loop-operands.limit c.tell_within.new.limit told c.tell_within.follows.holds-at-none.0 c.tell_within.ensures.hints in
+    let answer : Answer = record {
+      operator = c.in-Operation.operator;
+      operands = ys;
+      hints = record { stems = ss; mask = ms };
+      width = next.width;
+    } in
+    let left : c.loop-operands.program.answers ≡ answer ∷ next.answers = head-is c.loop-operands.program next c.loop-operands.limit
+    c.tell_within.new.limit told c.tell_within.follows.holds-at-none.0 c.tell_within.ensures.hints in
     let last : Last ys ss ms c.code_of.result answer = record { named = c.code_of.ensures; operands = refl; stems = refl; mask = refl } in
     let end : next.end ≡ c.loop-operands.program.end = search rules in
     let pushed : c.push.new.self.items ≡ rows ++ last_row xs ys ss ms c.code_of.result ∷ [] = search rules in
@@ -32,16 +38,20 @@ loop-operands-preserved c =
     ∙ ap (λ zs. zs ++ map pos ms) (c.in_ok-put-in-Operation-2.ensures.added ∙ ap (λ zs. zs ++ ss) c.in_ok-put-in-Operation.ensures.added)
     ∙ append_assoc (xs ++ ys) ss (map pos ms) ∙ append_assoc xs ys (ss ++ map pos ms) in
     record {
-      same = rw added (rw pushed (one_more xs ys ss ms rows c.code_of.result answer next.answers c.loop-operands.program.answers (map answered c.args.program.now.answers) last left
+      same =
+          rw added (rw pushed (one_more xs ys ss ms rows c.code_of.result answer next.answers c.loop-operands.program.answers
+          (map answered c.args.program.now.answers) last left
           c.loop-operands.invariant.theirs c.loop-operands.invariant.same));
       theirs = rw added (rw pushed (theirs_too xs ys ss ms rows c.code_of.result c.loop-operands.invariant.theirs));
       end = end ∙ c.loop-operands.invariant.end;
-      spends = on-operation c.loop-operands.program next (ap within_of told) c.tell_within.follows.holds-at-none.0 c.loop-operands.invariant.spends;
+      spends = on-operation c.loop-operands.program next
+          (ap within_of told) c.tell_within.follows.holds-at-none.0 c.loop-operands.invariant.spends;
     }
 
 pub returns-in-End : goal.returns-in-End
 returns-in-End c =
-    let ends = on-end c.loop-operands.program c.tell_within.follows.lender-at-none (ap within_of (c.in_ok-operator.was ∙ ap Ok c.in-End.is)) c.tell_within.follows.holds-at-none.0 c.loop-operands.invariant.spends in
+    let ends = on-end c.loop-operands.program c.tell_within.follows.lender-at-none
+    (ap within_of (c.in_ok-operator.was ∙ ap Ok c.in-End.is)) c.tell_within.follows.holds-at-none.0 c.loop-operands.invariant.spends in
     let listed = map (held c.loop-operands.operands.items) c.loop-operands.rows.items in record {
       within = (
         sym (append-nil listed) ∙ ap (λ left. listed ++ map answered left) (sym ends.0) ∙ c.loop-operands.invariant.same,
@@ -51,10 +61,15 @@ returns-in-End c =
     }
 
 pub returns-in-Paused : goal.returns-in-Paused
-returns-in-Paused c = record { within = on-pause c.loop-operands.program c.tell_within.follows.lender-at-none (ap within_of (c.in_ok-operator.was ∙ ap Ok c.in-Paused.is)) c.tell_within.follows.holds-at-none.0 c.loop-operands.invariant.spends }
+returns-in-Paused c =
+    record {
+      within = on-pause c.loop-operands.program c.tell_within.follows.lender-at-none
+          (ap within_of (c.in_ok-operator.was ∙ ap Ok c.in-Paused.is)) c.tell_within.follows.holds-at-none.0 c.loop-operands.invariant.spends;
+    }
 
 pub returns-in_err-operator : goal.returns-in_err-operator
 returns-in_err-operator c =
     let error = err_from_is_err_and c.from_residual.result c.from_residual.ensures.1 in
-    let refusal = on-refusal c.loop-operands.program c.tell_within.follows.lender-at-none (ap within_of c.in_err-operator.was) c.tell_within.follows.holds-at-none.0 c.loop-operands.invariant.spends in
+    let refusal = on-refusal c.loop-operands.program c.tell_within.follows.lender-at-none
+    (ap within_of c.in_err-operator.was) c.tell_within.follows.holds-at-none.0 c.loop-operands.invariant.spends in
     record { within = rw (error.1, error.2) (rw c.loop-operands.invariant.end at refusal.0, refusal.1) }

@@ -16,6 +16,9 @@ returns c =
     let e-is : to_z w32 (of_z w32 e) ≡ e = search rules in
     let n-is : c.unsigned_abs.result ≡ unsigned_abs m = search rules in
     let same : to_z w64 (of_z w64 bits) ≡ bits = search rules in
-    let found = subst (λ (e : ℤ). (x : ℕ) × AreIn c.unsigned_abs.result e x × (c.magnitude.result ≡ min x (2 ^ 128 - 1))) e-is c.magnitude.ensures in
+    let found = subst (λ (e : ℤ). (x : ℕ) × AreIn c.unsigned_abs.result e x × (c.magnitude.result ≡ min x (2 ^ 128 - 1))) e-is
+    c.magnitude.ensures in
     let told = subst (λ (m : ℤ). bits ≡ saturate_signed w64 (signed (int_lt m (pos 0)) c.magnitude.result)) m-is c.with_sign.ensures in
-    subst (λ (bits : ℤ). IsWidth c.args.width bits) (sym same) (cut c.args.width c.in-Some.width m e c.unsigned_abs.result c.magnitude.result bits c.in-Some.is c.mantissa-mantissa.ensures.value c.exponent.ensures n-is found told)
+    subst (λ (bits : ℤ). IsWidth c.args.width bits) (sym same)
+    (cut c.args.width c.in-Some.width m e c.unsigned_abs.result c.magnitude.result bits c.in-Some.is c.mantissa-mantissa.ensures.value
+    c.exponent.ensures n-is found told)

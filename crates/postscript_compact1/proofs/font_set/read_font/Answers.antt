@@ -15,5 +15,7 @@ returns-in_err-parts-clause-exact g c = λ honest.
     let header_here = rw (start.0.1, sym same.1) at header.1 in
     let tables_here = rw (header.0.1, start.0.1, sym same.0) at tables.1 in
     let parts_here = rw (tables.0.1, header.0.1, start.0.1, sym same.0, c.deref.ensures.value) at parts.1 in
-    let error = err_from_is_err_and c.from_residual-in_err-parts.result c.from_residual-in_err-parts.ensures.1 in
-    ((parts.0.0, parts.0.1 ∙ (tables.0.1 ∙ (header.0.1 ∙ start.0.1))), rw (error.1, error.2, header_here, tables_here) (λ other. refused_after _ _ _ (parts_here other)))
+    let error = err_from_is_err_and c.from_residual-in_err-parts.result c.from_residual-in_err-parts.ensures.1 in (
+      (parts.0.0, parts.0.1 ∙ (tables.0.1 ∙ (header.0.1 ∙ start.0.1))),
+      rw (error.1, error.2, header_here, tables_here) (λ other. refused_after _ _ _ (parts_here other)),
+    )

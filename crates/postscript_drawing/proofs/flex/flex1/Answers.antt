@@ -6,9 +6,27 @@ use Rattle.postscript_drawing.specs.Strokes.{back, flex1}
 
 pub returns-in-len11 : goal.returns-in-len11
 returns-in-len11 c =
-    let operands = items-read c.args.operands.now (c.dx1-item.result ∷ c.dy1-item.result ∷ c.dx2-item.result ∷ c.dy2-item.result ∷ c.dx3-item.result ∷ c.dy3-item.result ∷ c.dx4-item.result ∷ c.dy4-item.result ∷ c.dx5-item.result ∷ c.dy5-item.result ∷ c.d6-item.result ∷ []) (omega arith)
-    (c.dx1-item.is, (c.dy1-item.is, (c.dx2-item.is, (c.dy2-item.is, (c.dx3-item.is, (c.dy3-item.is, (c.dx4-item.is, (c.dy4-item.is, (c.dx5-item.is, (c.dy5-item.is, (c.d6-item.is, tt))))))))))) in
-    let dx : to_z w64 (of_z w64 c.sum_of_five-dx.result) ≡ c.dx1-item.result +ℤ c.dx2-item.result +ℤ c.dx3-item.result +ℤ c.dx4-item.result +ℤ c.dx5-item.result = search rules in
-    let dy : to_z w64 (of_z w64 c.sum_of_five-dy.result) ≡ c.dy1-item.result +ℤ c.dy2-item.result +ℤ c.dy3-item.result +ℤ c.dy4-item.result +ℤ c.dy5-item.result = search rules in
-    let last = c.back.ensures ∙ (ap (λ x. back x (to_z w64 (of_z w64 c.sum_of_five-dy.result)) c.d6-item.result) dx ∙ ap (λ y. back (c.dx1-item.result +ℤ c.dx2-item.result +ℤ c.dx3-item.result +ℤ c.dx4-item.result +ℤ c.dx5-item.result) y c.d6-item.result) dy) in
-    same-two c.by.ensures c.by-in-len11.ensures c.by-in-len11-2.ensures c.by-in-len11-3.ensures c.by-in-len11-4.ensures last ∙ sym (ap flex1 operands)
+    let operands = items-read c.args.operands.now
+    (c.dx1-item.result ∷ c.dy1-item.result ∷ c.dx2-item.result ∷ c.dy2-item.result ∷ c.dx3-item.result ∷ c.dy3-item.result ∷ c.dx4-item.result ∷ c.dy4-item.result ∷ c.dx5-item.result ∷ c.dy5-item.result ∷ c.d6-item.result ∷ []) (omega arith) (
+      c.dx1-item.is,
+      (
+        c.dy1-item.is,
+        (
+          c.dx2-item.is,
+          (
+            c.dy2-item.is,
+            (c.dx3-item.is, (c.dy3-item.is, (c.dx4-item.is, (c.dy4-item.is, (c.dx5-item.is, (c.dy5-item.is, (c.d6-item.is, tt))))))),
+          ),
+        ),
+      ),
+    ) in
+    let dx : to_z w64 (of_z w64 c.sum_of_five-dx.result) ≡ c.dx1-item.result +ℤ c.dx2-item.result +ℤ c.dx3-item.result +ℤ
+    c.dx4-item.result +ℤ c.dx5-item.result = search rules in
+    let dy : to_z w64 (of_z w64 c.sum_of_five-dy.result) ≡ c.dy1-item.result +ℤ c.dy2-item.result +ℤ c.dy3-item.result +ℤ
+    c.dy4-item.result +ℤ c.dy5-item.result = search rules in
+    let last = c.back.ensures
+    ∙ (ap (λ x. back x (to_z w64 (of_z w64 c.sum_of_five-dy.result)) c.d6-item.result) dx
+    ∙ ap (λ y. back (c.dx1-item.result +ℤ c.dx2-item.result +ℤ c.dx3-item.result +ℤ c.dx4-item.result +ℤ c.dx5-item.result) y
+    c.d6-item.result) dy) in
+    same-two c.by.ensures c.by-in-len11.ensures c.by-in-len11-2.ensures c.by-in-len11-3.ensures c.by-in-len11-4.ensures last
+    ∙ sym (ap flex1 operands)

@@ -6,8 +6,15 @@ use Rattle.postscript_drawing.specs.Strokes.{by, hflex1}
 
 pub returns-in-len9 : goal.returns-in-len9
 returns-in-len9 c =
-    let operands = items-read c.args.operands.now (c.dx1-item.result ∷ c.dy1-item.result ∷ c.dx2-item.result ∷ c.dy2-item.result ∷ c.dx3-item.result ∷ c.dx4-item.result ∷ c.dx5-item.result ∷ c.dy5-item.result ∷ c.dx6-item.result ∷ []) (omega arith)
-    (c.dx1-item.is, (c.dy1-item.is, (c.dx2-item.is, (c.dy2-item.is, (c.dx3-item.is, (c.dx4-item.is, (c.dx5-item.is, (c.dy5-item.is, (c.dx6-item.is, tt))))))))) in
+    let operands = items-read c.args.operands.now
+    (c.dx1-item.result ∷ c.dy1-item.result ∷ c.dx2-item.result ∷ c.dy2-item.result ∷ c.dx3-item.result ∷ c.dx4-item.result ∷ c.dx5-item.result ∷ c.dy5-item.result ∷ c.dx6-item.result ∷ []) (omega arith) (
+      c.dx1-item.is,
+      (
+        c.dy1-item.is,
+        (c.dx2-item.is, (c.dy2-item.is, (c.dx3-item.is, (c.dx4-item.is, (c.dx5-item.is, (c.dy5-item.is, (c.dx6-item.is, tt))))))),
+      ),
+    ) in
     let dy : to_z w64 (of_z w64 c.sum_of_three.result) ≡ c.dy1-item.result +ℤ c.dy2-item.result +ℤ c.dy5-item.result = search rules in
     let last = c.returning.ensures ∙ ap (λ y. by c.dx6-item.result (neg_ℤ y)) dy in
-    same-two c.by.ensures c.by-in-len9.ensures c.level.ensures c.level-in-len9.ensures c.by-in-len9-2.ensures last ∙ sym (ap hflex1 operands)
+    same-two c.by.ensures c.by-in-len9.ensures c.level.ensures c.level-in-len9.ensures c.by-in-len9-2.ensures last
+    ∙ sym (ap hflex1 operands)

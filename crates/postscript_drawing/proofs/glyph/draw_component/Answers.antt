@@ -13,30 +13,44 @@ pub returns-in_err-own-clause-why : goal.returns-in_err-own-clause-why
 returns-in_err-own-clause-why g c =
     let e = c.in_err-own.field-0.0 in
     passed-on c.from_residual-in_err-own.result e _ c.from_residual-in_err-own.ensures.1
-    (component-undrawn c.draw_own.new.limit c.args.font.now c.args.code c.in_ok-glyph.glyph c.args.origin e c.in_ok-glyph.ensures.found c.in_err-own.ensures.why)
+    (component-undrawn c.draw_own.new.limit c.args.font.now c.args.code c.in_ok-glyph.glyph c.args.origin e c.in_ok-glyph.ensures.found
+    c.in_err-own.ensures.why)
 
 pub returns-in-None-clause-drawn : goal.returns-in-None-clause-drawn
 returns-in-None-clause-drawn g c =
     let own = c.in_ok-own.ensures.own in
     let width = c.in_ok-own.own.width in
-    let P : Option Accent → Type 0 = λ accent. HasOwn c.args.font.now c.in_ok-glyph.glyph c.args.origin own.0 width accent in
-    (own.0, draws-component c.args.font.now c.args.code c.in_ok-glyph.glyph c.args.origin own.0 width c.in_ok-glyph.ensures.found (subst P c.in-None.is own.1), own.2)
+    let P : Option Accent → Type 0 = λ accent. HasOwn c.args.font.now c.in_ok-glyph.glyph c.args.origin own.0 width accent in (
+      own.0,
+      draws-component c.args.font.now c.args.code c.in_ok-glyph.glyph c.args.origin own.0 width c.in_ok-glyph.ensures.found
+          (subst P c.in-None.is own.1),
+      own.2,
+    )
 
 pub returns-in-Some-clause-why : goal.returns-in-Some-clause-why
 returns-in-Some-clause-why g c =
     let own = c.in_ok-own.ensures.own in
     let width = c.in_ok-own.own.width in
     let P : Option Accent → Type 0 = λ accent. HasOwn c.args.font.now c.in_ok-glyph.glyph c.args.origin own.0 width accent in
-    inr (inr (inr (refl, is-nested c.args.font.now c.args.code c.in_ok-glyph.glyph c.args.origin own.0 width c.in-Some.field-0 c.in_ok-glyph.ensures.found (subst P c.in-Some.is own.1))))
+    inr (inr (inr (
+      refl,
+      is-nested c.args.font.now c.args.code c.in_ok-glyph.glyph c.args.origin own.0 width c.in-Some.field-0
+          c.in_ok-glyph.ensures.found (subst P c.in-Some.is own.1),
+    )))
 
 pub returns-in_err-own-clause-front : goal.returns-in_err-own-clause-front
 returns-in_err-own-clause-front g c =
-    on-err c.from_residual-in_err-own.result (component-front c.args.font.now c.args.code c.in_ok-glyph.glyph c.args.origin c.in_ok-glyph.ensures.found c.in_err-own.ensures.front)
+    on-err c.from_residual-in_err-own.result
+    (component-front c.args.font.now c.args.code c.in_ok-glyph.glyph c.args.origin c.in_ok-glyph.ensures.found c.in_err-own.ensures.front)
 
 pub returns-in-Some-clause-front : goal.returns-in-Some-clause-front
 returns-in-Some-clause-front g c =
     let own = c.in_ok-own.ensures.own in
-    inr (c.in_ok-glyph.glyph, c.in_ok-glyph.ensures.found, own-whole c.args.font.now c.in_ok-glyph.glyph c.args.origin own.0 c.in_ok-own.own.width c.in_ok-own.own.accent own.1 own.2)
+    inr (
+      c.in_ok-glyph.glyph,
+      c.in_ok-glyph.ensures.found,
+      own-whole c.args.font.now c.in_ok-glyph.glyph c.args.origin own.0 c.in_ok-own.own.width c.in_ok-own.own.accent own.1 own.2,
+    )
 
 pub returns-in-None-clause-paid : goal.returns-in-None-clause-paid
 returns-in-None-clause-paid g c =

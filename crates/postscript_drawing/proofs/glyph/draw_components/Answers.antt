@@ -10,25 +10,33 @@ use Rattle.postscript_drawing.proofs.Owns.{accent-front, accent-refused, draws-b
 use Rattle.postscript_drawing.proofs.glyph.draw_components.Goals as goal
 
 pub returns-in_err-draw_component-clause-spends : goal.returns-in_err-draw_component-clause-spends
-returns-in_err-draw_component-clause-spends g c = spends-more c.args.font.now 1 c.args.limit.now c.draw_component.new.limit c.draw_component.ensures.spends
+returns-in_err-draw_component-clause-spends g c =
+    spends-more c.args.font.now 1 c.args.limit.now c.draw_component.new.limit c.draw_component.ensures.spends
 
 pub returns-clause-drawn : goal.returns-clause-drawn
 returns-clause-drawn g c =
     let font = c.args.font.now in
     let accent = c.args.accent.now in
-    let P : Point → Type 0 = λ origin. OnOk c.draw_component-2.result (Takes g.S.Sink.after (g.S.Sink.state c.draw_component.new.sink) (g.S.Sink.state c.draw_component-2.new.sink) (DrawsComponent font accent.accent origin)) in
-    draws-both g.S.Sink.after (g.S.Sink.state c.args.sink.now) (g.S.Sink.state c.draw_component.new.sink) (g.S.Sink.state c.draw_component-2.new.sink) c.draw_component-2.result font accent c.in_ok-draw_component.ensures.drawn (subst P c.place_of.ensures c.draw_component-2.ensures.drawn)
+    let P : Point → Type 0 = λ origin. OnOk c.draw_component-2.result
+    (Takes g.S.Sink.after (g.S.Sink.state c.draw_component.new.sink) (g.S.Sink.state c.draw_component-2.new.sink)
+    (DrawsComponent font accent.accent origin)) in
+    draws-both g.S.Sink.after (g.S.Sink.state c.args.sink.now) (g.S.Sink.state c.draw_component.new.sink)
+    (g.S.Sink.state c.draw_component-2.new.sink) c.draw_component-2.result font accent c.in_ok-draw_component.ensures.drawn
+    (subst P c.place_of.ensures c.draw_component-2.ensures.drawn)
 
 pub returns-clause-spends : goal.returns-clause-spends
 returns-clause-spends g c =
-    spends-both c.args.font.now 1 c.args.limit.now c.draw_component.new.limit c.draw_component-2.new.limit c.draw_component.ensures.spends c.draw_component-2.ensures.spends
+    spends-both c.args.font.now 1 c.args.limit.now c.draw_component.new.limit c.draw_component-2.new.limit c.draw_component.ensures.spends
+    c.draw_component-2.ensures.spends
 
 pub returns-clause-why : goal.returns-clause-why
 returns-clause-why g c =
     let font = c.args.font.now in
     let accent = c.args.accent.now in
-    let P : Point → Type 0 = λ origin. IfErr c.draw_component-2.result (λ e. IsWanting c.draw_component-2.new.limit e ⊎ IsComponentRefused font accent.accent origin e) in
-    accent-refused c.draw_component-2.new.limit c.draw_component-2.result font accent (subst P c.place_of.ensures c.draw_component-2.ensures.why)
+    let P : Point → Type 0 = λ origin. IfErr c.draw_component-2.result
+    (λ e. IsWanting c.draw_component-2.new.limit e ⊎ IsComponentRefused font accent.accent origin e) in
+    accent-refused c.draw_component-2.new.limit c.draw_component-2.result font accent
+    (subst P c.place_of.ensures c.draw_component-2.ensures.why)
 
 pub returns-in_err-draw_component-clause-front : goal.returns-in_err-draw_component-clause-front
 returns-in_err-draw_component-clause-front g c = on-err c.from_residual.result (inl c.in_err-draw_component.ensures.front)
@@ -39,9 +47,13 @@ returns-clause-front g c =
     let accent = c.args.accent.now in
     let between = g.S.Sink.state c.draw_component.new.sink in
     let new = g.S.Sink.state c.draw_component-2.new.sink in
-    let P : Point → Type 0 = λ origin. OnErr c.draw_component-2.result (GivesComponent g.S.Sink.after origin between new font accent.accent) in
-    accent-front g.S.Sink.after (g.S.Sink.state c.args.sink.now) between new c.draw_component-2.result font accent c.in_ok-draw_component.ensures.drawn (subst P c.place_of.ensures c.draw_component-2.ensures.front)
+    let P : Point → Type 0 = λ origin. OnErr c.draw_component-2.result
+    (GivesComponent g.S.Sink.after origin between new font accent.accent) in
+    accent-front g.S.Sink.after
+    (g.S.Sink.state c.args.sink.now) between new c.draw_component-2.result font accent c.in_ok-draw_component.ensures.drawn
+    (subst P c.place_of.ensures c.draw_component-2.ensures.front)
 
 pub returns-clause-paid : goal.returns-clause-paid
 returns-clause-paid g c =
-    pays-both c.args.font.now c.args.accent.now c.args.limit.now c.draw_component.new.limit c.draw_component-2.new.limit c.draw_component-2.result c.in_ok-draw_component.ensures.paid c.draw_component-2.ensures.paid
+    pays-both c.args.font.now c.args.accent.now c.args.limit.now c.draw_component.new.limit c.draw_component-2.new.limit
+    c.draw_component-2.result c.in_ok-draw_component.ensures.paid c.draw_component-2.ensures.paid

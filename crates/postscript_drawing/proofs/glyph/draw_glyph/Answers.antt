@@ -9,19 +9,23 @@ use Rattle.postscript_drawing.proofs.glyph.draw_glyph.Goals as goal
 
 pub returns-in_err-width-clause-spends : goal.returns-in_err-width-clause-spends
 returns-in_err-width-clause-spends g c =
-    let left = c.draw_own.new.limit in spends-more c.args.font.now 2 c.args.limit.now left (spends-more c.args.font.now 1 c.args.limit.now left c.draw_own.ensures.spends)
+    let left = c.draw_own.new.limit in
+    spends-more c.args.font.now 2 c.args.limit.now left (spends-more c.args.font.now 1 c.args.limit.now left c.draw_own.ensures.spends)
 
 pub returns-in-None-clause-spends : goal.returns-in-None-clause-spends
 returns-in-None-clause-spends g c =
-    let left = c.draw_own.new.limit in spends-more c.args.font.now 2 c.args.limit.now left (spends-more c.args.font.now 1 c.args.limit.now left c.draw_own.ensures.spends)
+    let left = c.draw_own.new.limit in
+    spends-more c.args.font.now 2 c.args.limit.now left (spends-more c.args.font.now 1 c.args.limit.now left c.draw_own.ensures.spends)
 
 pub returns-in_err-draw_components-in-Some-clause-spends : goal.returns-in_err-draw_components-in-Some-clause-spends
 returns-in_err-draw_components-in-Some-clause-spends g c =
-    spends-both c.args.font.now 2 c.args.limit.now c.draw_own.new.limit c.draw_components.new.limit c.draw_own.ensures.spends c.draw_components.ensures.spends
+    spends-both c.args.font.now 2 c.args.limit.now c.draw_own.new.limit c.draw_components.new.limit c.draw_own.ensures.spends
+    c.draw_components.ensures.spends
 
 pub returns-in_ok-draw_components-in-Some-clause-spends : goal.returns-in_ok-draw_components-in-Some-clause-spends
 returns-in_ok-draw_components-in-Some-clause-spends g c =
-    spends-both c.args.font.now 2 c.args.limit.now c.draw_own.new.limit c.draw_components.new.limit c.draw_own.ensures.spends c.draw_components.ensures.spends
+    spends-both c.args.font.now 2 c.args.limit.now c.draw_own.new.limit c.draw_components.new.limit c.draw_own.ensures.spends
+    c.draw_components.ensures.spends
 
 pub returns-in-None-clause-drawn : goal.returns-in-None-clause-drawn
 returns-in-None-clause-drawn g c =
@@ -36,8 +40,11 @@ returns-in_ok-draw_components-in-Some-clause-drawn g c =
     let width = c.in_ok-width.field-0.width in
     let more = c.in_ok-draw_components-in-Some.ensures.drawn in
     let P : Option Accent → Type 0 = λ accent. HasOwn c.args.font.now c.args.glyph zero_point own.0 width accent in
-    let has = subst P c.in-Some.is own.1 in
-    (own.0 ++ more.0, draws-accented c.args.font.now c.args.glyph own.0 more.0 width c.in-Some.accent has more.1, received-both g.S.Sink.after _ _ _ own.0 more.0 own.2 more.2)
+    let has = subst P c.in-Some.is own.1 in (
+      own.0 ++ more.0,
+      draws-accented c.args.font.now c.args.glyph own.0 more.0 width c.in-Some.accent has more.1,
+      received-both g.S.Sink.after _ _ _ own.0 more.0 own.2 more.2,
+    )
 
 pub returns-in_err-draw_components-in-Some-clause-why : goal.returns-in_err-draw_components-in-Some-clause-why
 returns-in_err-draw_components-in-Some-clause-why g c =
@@ -47,7 +54,8 @@ returns-in_err-draw_components-in-Some-clause-why g c =
     let P : Option Accent → Type 0 = λ accent. HasOwn c.args.font.now c.args.glyph zero_point own.0 width accent in
     let has = subst P c.in-Some.is own.1 in
     passed-on c.from_residual-in_err-draw_components-in-Some.result e _ c.from_residual-in_err-draw_components-in-Some.ensures.1
-    (components-refused c.draw_components.new.limit c.args.font.now c.args.glyph zero_point own.0 width c.in-Some.accent e has c.in_err-draw_components-in-Some.ensures.why)
+    (components-refused c.draw_components.new.limit c.args.font.now c.args.glyph zero_point own.0 width c.in-Some.accent e has
+    c.in_err-draw_components-in-Some.ensures.why)
 
 pub returns-in_err-draw_components-in-Some-clause-front : goal.returns-in_err-draw_components-in-Some-clause-front
 returns-in_err-draw_components-in-Some-clause-front g c =
@@ -55,7 +63,8 @@ returns-in_err-draw_components-in-Some-clause-front g c =
     let width = c.in_ok-width.field-0.width in
     let P : Option Accent → Type 0 = λ accent. HasOwn c.args.font.now c.args.glyph zero_point own.0 width accent in
     on-err c.from_residual-in_err-draw_components-in-Some.result
-    (accented-front c.args.font.now c.args.glyph own.0 width c.in-Some.accent (subst P c.in-Some.is own.1) own.2 c.in_err-draw_components-in-Some.ensures.front)
+    (accented-front c.args.font.now c.args.glyph own.0 width c.in-Some.accent
+    (subst P c.in-Some.is own.1) own.2 c.in_err-draw_components-in-Some.ensures.front)
 
 pub returns-in-None-clause-paid : goal.returns-in-None-clause-paid
 returns-in-None-clause-paid g c =
@@ -65,4 +74,9 @@ returns-in-None-clause-paid g c =
 pub returns-in_ok-draw_components-in-Some-clause-paid : goal.returns-in_ok-draw_components-in-Some-clause-paid
 returns-in_ok-draw_components-in-Some-clause-paid g c =
     let P : Option Accent → Type 0 = λ accent. PaysOwn c.args.font.now c.args.glyph accent c.args.limit.now c.draw_own.new.limit in
-    inr (c.in-Some.accent, c.draw_own.new.limit, subst P c.in-Some.is c.in_ok-width.ensures.paid, c.in_ok-draw_components-in-Some.ensures.paid)
+    inr (
+      c.in-Some.accent,
+      c.draw_own.new.limit,
+      subst P c.in-Some.is c.in_ok-width.ensures.paid,
+      c.in_ok-draw_components-in-Some.ensures.paid,
+    )

@@ -6,12 +6,15 @@ use Rattle.postscript_drawing.proofs.glyph.draw_own.Goals as goal
 pub returns-in-Some-clause-own : goal.returns-in-Some-clause-own
 returns-in-Some-clause-own g c =
     let has = has-run c.args.font.now c.args.glyph c.in-Some.found c.in-Some.ensures.found c.in-Some.ensures.subroutines in
-    own-so g.S.Sink.after (g.S.Sink.state c.args.sink.now) (g.S.Sink.state c.draw_run.new.sink) c.draw_run.result c.args.font.now c.args.glyph c.in-Some.found c.args.origin has c.draw_run.ensures.drawn c.draw_run.ensures.width c.draw_run.ensures.told
+    own-so g.S.Sink.after (g.S.Sink.state c.args.sink.now)
+    (g.S.Sink.state c.draw_run.new.sink) c.draw_run.result c.args.font.now c.args.glyph c.in-Some.found c.args.origin has
+    c.draw_run.ensures.drawn c.draw_run.ensures.width c.draw_run.ensures.told
 
 pub returns-in-Some-clause-spends : goal.returns-in-Some-clause-spends
 returns-in-Some-clause-spends g c =
     let has = has-run c.args.font.now c.args.glyph c.in-Some.found c.in-Some.ensures.found c.in-Some.ensures.subroutines in
-    spends-one c.args.font.now c.args.glyph c.in-Some.found.part.now (run_by c.in-Some.found) c.args.limit.now c.draw_run.new.limit has c.draw_run.ensures.spends
+    spends-one c.args.font.now c.args.glyph c.in-Some.found.part.now
+    (run_by c.in-Some.found) c.args.limit.now c.draw_run.new.limit has c.draw_run.ensures.spends
 
 pub returns-in-Some-clause-why : goal.returns-in-Some-clause-why
 returns-in-Some-clause-why g c =
@@ -24,9 +27,12 @@ returns-in-None-clause-spends g c = nothing-spent c.args.font.now 0 c.args.limit
 pub returns-in-Some-clause-front : goal.returns-in-Some-clause-front
 returns-in-Some-clause-front g c =
     let has = has-run c.args.font.now c.args.glyph c.in-Some.found c.in-Some.ensures.found c.in-Some.ensures.subroutines in
-    own-front g.S.Sink.after (g.S.Sink.state c.args.sink.now) (g.S.Sink.state c.draw_run.new.sink) c.draw_run.result c.args.font.now c.args.glyph c.in-Some.found c.args.origin has c.draw_run.ensures.front
+    own-front g.S.Sink.after (g.S.Sink.state c.args.sink.now)
+    (g.S.Sink.state c.draw_run.new.sink) c.draw_run.result c.args.font.now c.args.glyph c.in-Some.found c.args.origin has
+    c.draw_run.ensures.front
 
 pub returns-in-Some-clause-paid : goal.returns-in-Some-clause-paid
 returns-in-Some-clause-paid g c =
     let has = has-run c.args.font.now c.args.glyph c.in-Some.found c.in-Some.ensures.found c.in-Some.ensures.subroutines in
-    pays-own c.args.font.now c.args.glyph c.in-Some.found.part.now (run_by c.in-Some.found) c.args.limit.now c.draw_run.new.limit c.draw_run.result has c.draw_run.ensures.told c.draw_run.ensures.paid
+    pays-own c.args.font.now c.args.glyph c.in-Some.found.part.now
+    (run_by c.in-Some.found) c.args.limit.now c.draw_run.new.limit c.draw_run.result has c.draw_run.ensures.told c.draw_run.ensures.paid

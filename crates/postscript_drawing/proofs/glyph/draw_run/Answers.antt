@@ -20,7 +20,8 @@ returns-clause-told g c =
     let same : c.operands_at_end.result.now ≡ taken_by (run_by glyph).end =
     c.operands_at_end.ensures ∙ ap told_at_end c.in_ok-width.ensures.ended ∙ ap (λ p. taken_by p.end) c.program-program.ensures in
     told-so c.in_ok-accent.accent c.operands_at_end.result.now (run_by glyph) same
-    (c.runs_end_so.ensures (lent (items_of glyph.global_subroutines) (items_of glyph.part.now.subroutines)) glyph.code.now) c.in_ok-accent.ensures.told
+    (c.runs_end_so.ensures (lent (items_of glyph.global_subroutines) (items_of glyph.part.now.subroutines)) glyph.code.now)
+    c.in_ok-accent.ensures.told
 
 pub returns-in_err-accent-clause-front : goal.returns-in_err-accent-clause-front
 returns-in_err-accent-clause-front g c =

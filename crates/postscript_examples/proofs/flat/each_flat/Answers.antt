@@ -7,7 +7,9 @@ use Rattle.postscript_examples.proofs.flat.each_flat.Goals as goal
 
 pub returns-in_err-flat-clause-refused : goal.returns-in_err-flat-clause-refused
 returns-in_err-flat-clause-refused c =
-    let first = first_so_far (subroutines c.args.global.now c.args.local.now) c.args.codes.now c.loop-code.code-index c.code-item.result c.deref.result.now (refusal_of c.in_err-flat.field-0.0) c.loop-code-test.true c.code-item.is c.deref.ensures.value c.loop-code.invariant.1 in
+    let first = first_so_far (subroutines c.args.global.now c.args.local.now) c.args.codes.now c.loop-code.code-index c.code-item.result
+    c.deref.result.now (refusal_of c.in_err-flat.field-0.0) c.loop-code-test.true c.code-item.is c.deref.ensures.value
+    c.loop-code.invariant.1 in
     elim c.in_err-flat.ensures.refused [
       | inl memory ↦ search (rules, memory)
       | inr refused ↦ search (rules, first refused)
@@ -16,5 +18,6 @@ returns-in_err-flat-clause-refused c =
 pub loop-code-preserved : goal.loop-code-preserved
 loop-code-preserved c = (
   grind (arith, common_steps),
-  none_so_far (subroutines c.args.global.now c.args.local.now) c.args.codes.now c.loop-code.code-index c.code-item.result c.deref.result.now c.loop-code-test.true c.code-item.is c.deref.ensures.value c.loop-code.invariant.1 c.in_ok-flat.ensures.faultless,
+  none_so_far (subroutines c.args.global.now c.args.local.now) c.args.codes.now c.loop-code.code-index c.code-item.result
+      c.deref.result.now c.loop-code-test.true c.code-item.is c.deref.ensures.value c.loop-code.invariant.1 c.in_ok-flat.ensures.faultless,
 )

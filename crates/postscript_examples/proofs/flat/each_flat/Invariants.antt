@@ -6,5 +6,6 @@ use Rattle.postscript_examples.proofs.flat.each_flat.Given as goal
 -- the codes so far
 abbrev pub invariant-loop-code : goal.invariant-loop-code
 invariant-loop-code l =
-    (map (λ code. drawn_by (subroutines [] []) code.items) l.flat_codes.items ≡ map (λ code. drawn_by (subroutines l.fn.global l.fn.local) code.items) (take l.code-index l.codes))
+    (map (λ code. drawn_by (subroutines [] []) code.items) l.flat_codes.items ≡ map
+    (λ code. drawn_by (subroutines l.fn.global l.fn.local) code.items) (take l.code-index l.codes))
     × (first_refused_by (subroutines l.fn.global l.fn.local) (texts (take l.code-index l.codes)) ≡ None)

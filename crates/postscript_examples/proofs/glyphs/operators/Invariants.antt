@@ -6,7 +6,8 @@ use Rattle.postscript_examples.proofs.glyphs.operators.Given as goal
 
 -- the operators so far and those that are left are all of them
 abbrev pub invariant-loop-operators : goal.invariant-loop-operators
-invariant-loop-operators l = l.operators.items ++ map operator_in l.program.answers ≡ map operator_in (run_of (subroutines l.global l.local) l.code).answers
+invariant-loop-operators l =
+    l.operators.items ++ map operator_in l.program.answers ≡ map operator_in (run_of (subroutines l.global l.local) l.code).answers
 
 abbrev pub decreases-loop-operators : goal.decreases-loop-operators
 decreases-loop-operators l = length l.program.answers

@@ -13,7 +13,8 @@ returns-in_err-way c =
     let b = simp (from, distance) at c.in_ok-to.ensures in
     let d = simp to at c.in_ok-end.ensures in
     let e = simp (start, end) at c.in_err-way.ensures in
-    rw c.from_residual-in_err-way.ensures (no-way-held c.args.from c.args.distance c.in_ok-start.start c.in_ok-to.to c.in_ok-end.end a.0 b.0 d.0 e)
+    rw c.from_residual-in_err-way.ensures
+    (no-way-held c.args.from c.args.distance c.in_ok-start.start c.in_ok-to.to c.in_ok-end.end a.0 b.0 d.0 e)
 
 pub returns : goal.returns
 returns c =
@@ -27,5 +28,6 @@ returns c =
     let b = simp (from, distance) at c.in_ok-to.ensures in
     let d = simp to at c.in_ok-end.ensures in
     let e = simp (start, end) at c.in_ok-way.ensures in
-    let both = step-found c.args.from c.args.distance c.in_ok-start.start c.in_ok-to.to c.in_ok-end.end c.in_ok-way.way a.0 a.1 b.0 b.1 d.0 d.1 e.0 e.1 in
+    let both = step-found c.args.from c.args.distance c.in_ok-start.start c.in_ok-to.to c.in_ok-end.end c.in_ok-way.way a.0 a.1 b.0 b.1
+    d.0 d.1 e.0 e.1 in
     (c.from_bits.ensures ∙ way ∙ both.0, to ∙ b.0, both.1)

@@ -11,7 +11,8 @@ returns-clause-written c =
     let code = c.in_ok-code.code.items in
     let same = ap (map said_of) c.deref.ensures.value in
     let is = c.in_ok-code.ensures in
-    static-of c.args.charstring width code (map said_of c.in_ok-sayings.sayings.items) c.in_ok-sayings.ensures.said (subst (λ says. IsWritten width says [] code) same is.ok)
+    static-of c.args.charstring width code (map said_of c.in_ok-sayings.sayings.items) c.in_ok-sayings.ensures.said
+    (subst (λ says. IsWritten width says [] code) same is.ok)
     (subst (AreHeldOrCut width) same is.fits) (subst (BearsWidth width) same is.bears)
 
 pub returns-in_err-code-clause-refused : goal.returns-in_err-code-clause-refused

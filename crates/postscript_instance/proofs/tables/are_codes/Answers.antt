@@ -9,4 +9,5 @@ loop-number-preserved c =
     let code = c.index-codes-number.result in
     let same = c.is_code.ensures (is-true c.is_code.result c.if-not-is_code.false) in
     one-item (items_of c.args.items.now) c.args.codes.now c.loop-number.number code c.loop-number.invariant
-    (found c.args.codes.now c.loop-number.number code c.index-codes-number.is c.loop-number-test.true) (same ∙ ap Some c.deref.ensures.value)
+    (found c.args.codes.now c.loop-number.number code c.index-codes-number.is c.loop-number-test.true)
+    (same ∙ ap Some c.deref.ensures.value)

@@ -6,5 +6,6 @@ use Rattle.postscript_instance.proofs.tables.keep_dictionaries.Goals as goal
 
 pub loop-glyph-preserved : goal.loop-glyph-preserved
 loop-glyph-preserved c =
-    below_more (λ g. KeepsDictionary c.args.old.now c.args.new.now.bytes.now (view_shown c.args.new.now) g) c.loop-glyph.glyph c.loop-glyph.invariant
+    below_more (λ g. KeepsDictionary c.args.old.now c.args.new.now.bytes.now (view_shown c.args.new.now) g) c.loop-glyph.glyph
+    c.loop-glyph.invariant
     (c.keeps_dictionary.ensures (is-true c.keeps_dictionary.result c.if-not-keeps_dictionary.false))

@@ -14,8 +14,10 @@ returns-clause-font c = (
   record {
     items = c.are_codes.ensures (is-true c.are_codes.result c.if-not-are_codes.false);
     none = no-items (items_of c.in-Ok.font.global_subroutines) (sym c.len.ensures ∙ c.if-len-ne0.false);
-    widths = subst (λ parts. HaveNoWidths (parts_shown parts)) c.deref.ensures.value (c.have_no_widths.ensures (is-true c.have_no_widths.result c.if-not-have_no_widths.false));
+    widths = subst (λ parts. HaveNoWidths (parts_shown parts)) c.deref.ensures.value
+        (c.have_no_widths.ensures (is-true c.have_no_widths.result c.if-not-have_no_widths.false));
   },
   subst (λ bytes. IsCalled c.args.naming.now bytes (view_shown c.in-Ok.font)) c.in-Ok.ensures.bytes c.in_ok-called_back.ensures.called,
-  subst (λ bytes. KeepDictionaries c.args.old.now bytes (view_shown c.in-Ok.font) (length c.args.codes.now)) c.in-Ok.ensures.bytes (c.keep_dictionaries.ensures (is-true c.keep_dictionaries.result c.if-not-keep_dictionaries.false)),
+  subst (λ bytes. KeepDictionaries c.args.old.now bytes (view_shown c.in-Ok.font) (length c.args.codes.now)) c.in-Ok.ensures.bytes
+      (c.keep_dictionaries.ensures (is-true c.keep_dictionaries.result c.if-not-keep_dictionaries.false)),
 )

@@ -9,12 +9,15 @@ returns-in-Ok-clause-written c = record {
   is_place = c.in_ok-place.ensures.is;
   widths = c.in_ok-widths.widths.items;
   are_widths = c.in_ok-widths.ensures.are;
-  is_table = subst (λ widths. IsTable (DoesIn c.args.numbers c.args.font.now c.in_ok-place.place) c.args.font.now c.args.naming.now widths c.in-Ok.bytes.items) c.deref.ensures.value
+  is_table =
+      subst (λ widths. IsTable (DoesIn c.args.numbers c.args.font.now c.in_ok-place.place) c.args.font.now c.args.naming.now widths
+      c.in-Ok.bytes.items) c.deref.ensures.value
       c.in-Ok.ensures.written;
 }
 
 pub returns-clause-refused : goal.returns-clause-refused
 returns-clause-refused c =
     let lacks = subst (λ widths. LacksCode c.args.numbers c.args.font.now c.in_ok-place.place widths c.in-Err.e
-    ⊎ HasNoRoom c.args.numbers c.args.font.now c.args.naming.now c.in_ok-place.place widths c.in-Err.e) c.deref.ensures.value c.in-Err.ensures.refused in
+    ⊎ HasNoRoom c.args.numbers c.args.font.now c.args.naming.now c.in_ok-place.place widths c.in-Err.e) c.deref.ensures.value
+    c.in-Err.ensures.refused in
     inr (inr (c.in_ok-place.place, c.in_ok-widths.widths.items, c.in_ok-place.ensures.is, c.in_ok-widths.ensures.are, lacks))

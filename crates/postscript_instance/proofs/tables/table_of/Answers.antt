@@ -11,8 +11,10 @@ use Rattle.postscript_instance.proofs.tables.table_of.Goals as goal
 pub returns-clause-written : goal.returns-clause-written
 returns-clause-written c =
     let back = c.in_ok-read_back.ensures.font in
-    table-of (DoesIn c.args.numbers c.args.font.now c.args.place.now) c.args.font.now c.args.naming.now c.args.widths.now c.in_ok-bytes.bytes.items c.in_ok-codes.codes.items back.0 c.in_ok-codes.ensures.are
+    table-of (DoesIn c.args.numbers c.args.font.now c.args.place.now) c.args.font.now c.args.naming.now c.args.widths.now
+    c.in_ok-bytes.bytes.items c.in_ok-codes.codes.items back.0 c.in_ok-codes.ensures.are
     (subst (λ bytes. IsLaidOut bytes 0 back.0) c.deref-3.ensures.value back.1) (subst (IsPlainFont back.0) c.deref-4.ensures.value back.2)
     (subst (λ bytes. IsCalled c.args.naming.now bytes back.0) c.deref-3.ensures.value back.3)
     (subst (λ bytes. KeepDictionaries c.args.font.now bytes back.0 (length c.in_ok-codes.codes.items)) c.deref-3.ensures.value
-    (subst (λ (codes : List (Vec ℕ Global)). KeepDictionaries c.args.font.now c.deref-3.result.now back.0 (length codes)) c.deref-4.ensures.value back.4))
+    (subst (λ (codes : List (Vec ℕ Global)). KeepDictionaries c.args.font.now c.deref-3.result.now back.0 (length codes))
+    c.deref-4.ensures.value back.4))

@@ -12,7 +12,13 @@ lowered-requires c =
 pub lowered-requires-2 : goal.lowered-requires-2
 lowered-requires-2 c =
     let curve : Curve = record { from = c.raised.result; first = c.raised-2.result; second = c.raised-3.result; to = c.raised-4.result } in
-    spans-high curve c.span-low.result (record { from = c.raised.ensures.room; first = c.raised-2.ensures.room; second = c.raised-3.ensures.room; to = c.raised-4.ensures.room }) c.span-low.ensures
+    spans-high curve c.span-low.result
+    (record {
+      from = c.raised.ensures.room;
+      first = c.raised-2.ensures.room;
+      second = c.raised-3.ensures.room;
+      to = c.raised-4.ensures.room;
+    }) c.span-low.ensures
 
 pub returns : goal.returns
 returns c =

@@ -34,18 +34,24 @@ loop-table-preserved c =
     let was = c.loop-table.invariant.2 in (
       ap (λ xs. xs ++ records_text (c.loop-table.place + c.room_of.result) rest) c.in_ok-sum.ensures.text
           ∙ append_assoc c.loop-table.out.items _ _
-          ∙ ap (λ n. c.loop-table.out.items ++ (record_text c.loop-table.place (get_or c.args.tables.now c.loop-table.table-index empty) ++ records_text (c.loop-table.place + n) rest)) room
+          ∙ ap (λ n. c.loop-table.out.items ++ (record_text c.loop-table.place
+          (get_or c.args.tables.now c.loop-table.table-index empty) ++ records_text (c.loop-table.place + n) rest)) room
           ∙ ap (λ xs. c.loop-table.out.items ++ xs) (sym (records_more c.loop-table.place c.args.tables.now c.loop-table.table-index less))
           ∙ c.loop-table.invariant.0,
-      mod-add-mod (s + one) (2 ^ 32) (checksums rest) ∙ ap (λ n. n % 2 ^ 32) (let eq : s + one + checksums rest ≡ s + checksums (drop c.loop-table.table-index c.args.tables.now) = omega (arith, told, more) in eq) ∙ c.loop-table.invariant.1,
+      mod-add-mod (s + one) (2 ^ 32) (checksums rest)
+          ∙ ap (λ n. n % 2 ^ 32) (let eq : s + one + checksums rest ≡ s + checksums (drop c.loop-table.table-index c.args.tables.now) = omega
+          (arith, told, more) in eq) ∙ c.loop-table.invariant.1,
       omega (arith, e, was, room),
-      λ k t within given. grind (arith, c.loop-table.invariant.3 k t, given_is c.args.tables.now k t empty given, c.in_ok-sum.ensures.tagged),
+      λ k t within given. grind
+          (arith, c.loop-table.invariant.3 k t, given_is c.args.tables.now k t empty given, c.in_ok-sum.ensures.tagged),
     )
 
 pub returns-clause-text : goal.returns-clause-text
 returns-clause-text c =
     let past : length c.args.tables.now ≤ c.loop-table.table-index = omega arith in
-    sym (append-nil c.loop-table.out.items) ∙ ap (λ xs. c.loop-table.out.items ++ xs) (sym (records_done c.loop-table.place c.args.tables.now c.loop-table.table-index past)) ∙ c.loop-table.invariant.0
+    sym (append-nil c.loop-table.out.items)
+    ∙ ap (λ xs. c.loop-table.out.items ++ xs) (sym (records_done c.loop-table.place c.args.tables.now c.loop-table.table-index past))
+    ∙ c.loop-table.invariant.0
 
 pub returns-clause-sum : goal.returns-clause-sum
 returns-clause-sum c =

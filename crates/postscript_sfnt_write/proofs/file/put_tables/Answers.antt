@@ -16,4 +16,6 @@ loop-table-preserved c =
 pub returns : goal.returns
 returns c =
     let past : length c.args.tables.now ≤ c.loop-table.table-index = omega arith in
-    sym (append-nil c.loop-table.out.items) ∙ ap (λ xs. c.loop-table.out.items ++ xs) (sym (tables_done c.args.adjustment c.args.tables.now c.loop-table.table-index past)) ∙ c.loop-table.invariant
+    sym (append-nil c.loop-table.out.items)
+    ∙ ap (λ xs. c.loop-table.out.items ++ xs) (sym (tables_done c.args.adjustment c.args.tables.now c.loop-table.table-index past))
+    ∙ c.loop-table.invariant

@@ -9,7 +9,9 @@ returns-clause-read c =
     let all = ap length c.as_slice-2.ensures.value in
     let few = c.in_ok-all.ensures.few in
     let room = c.requires.room in
-    (large_answer c.in_ok-table.table.items c.as_slice.result.now c.as_slice-2.result.now c.args.mappings.now c.requires.rise (c.as_slice-2.ensures.value ∙ c.in_ok-all.ensures.exact) (omega (arith, low, most)) (omega (arith, all, few, room)) c.in_ok-all.ensures.fit c.in_ok-table.ensures.fit c.in_ok-table.ensures.text).read
+    (large_answer c.in_ok-table.table.items c.as_slice.result.now c.as_slice-2.result.now c.args.mappings.now c.requires.rise
+    (c.as_slice-2.ensures.value ∙ c.in_ok-all.ensures.exact) (omega (arith, low, most))
+    (omega (arith, all, few, room)) c.in_ok-all.ensures.fit c.in_ok-table.ensures.fit c.in_ok-table.ensures.text).read
 
 pub returns-clause-told : goal.returns-clause-told
 returns-clause-told c =
@@ -18,4 +20,6 @@ returns-clause-told c =
     let all = ap length c.as_slice-2.ensures.value in
     let few = c.in_ok-all.ensures.few in
     let room = c.requires.room in
-    (large_answer c.in_ok-table.table.items c.as_slice.result.now c.as_slice-2.result.now c.args.mappings.now c.requires.rise (c.as_slice-2.ensures.value ∙ c.in_ok-all.ensures.exact) (omega (arith, low, most)) (omega (arith, all, few, room)) c.in_ok-all.ensures.fit c.in_ok-table.ensures.fit c.in_ok-table.ensures.text).told
+    (large_answer c.in_ok-table.table.items c.as_slice.result.now c.as_slice-2.result.now c.args.mappings.now c.requires.rise
+    (c.as_slice-2.ensures.value ∙ c.in_ok-all.ensures.exact) (omega (arith, low, most))
+    (omega (arith, all, few, room)) c.in_ok-all.ensures.fit c.in_ok-table.ensures.fit c.in_ok-table.ensures.text).told

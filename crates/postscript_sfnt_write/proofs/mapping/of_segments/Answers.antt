@@ -2,7 +2,9 @@ use Rattle.postscript_sfnt_write.proofs.Chosen.{Answer, small_answer}
 use Rattle.postscript_sfnt_write.proofs.mapping.of_segments.Goals as goal
 
 answer : (c : goal.In_ok-table) → Answer c.in_ok-table.table.items c.args.mappings.now
-answer c = small_answer c.in_ok-table.table.items c.args.segments.now c.args.mappings.now c.requires.rise c.requires.below c.requires.exact c.requires.most c.requires.fit c.in_ok-table.ensures
+answer c =
+    small_answer c.in_ok-table.table.items c.args.segments.now c.args.mappings.now c.requires.rise c.requires.below c.requires.exact
+    c.requires.most c.requires.fit c.in_ok-table.ensures
 
 pub returns-clause-read : goal.returns-clause-read
 returns-clause-read c = (answer c).read

@@ -11,13 +11,15 @@ loop-group-preserved c =
           ∙ append_assoc c.loop-group.out.items _ _
           ∙ ap (λ xs. c.loop-group.out.items ++ xs) (sym (groups_more c.args.groups.now c.loop-group.group-index less))
           ∙ c.loop-group.invariant.0,
-      λ k g within given. grind (arith, c.loop-group.invariant.1 k g, group_is c.args.groups.now k g no_group given, c.in_ok-put_group.ensures.fits),
+      λ k g within given. grind
+          (arith, c.loop-group.invariant.1 k g, group_is c.args.groups.now k g no_group given, c.in_ok-put_group.ensures.fits),
     )
 
 pub returns-clause-text : goal.returns-clause-text
 returns-clause-text c =
     let past : length c.args.groups.now ≤ c.loop-group.group-index = omega arith in
-    sym (append-nil c.loop-group.out.items) ∙ ap (λ xs. c.loop-group.out.items ++ xs) (sym (groups_done c.args.groups.now c.loop-group.group-index past)) ∙ c.loop-group.invariant.0
+    sym (append-nil c.loop-group.out.items)
+    ∙ ap (λ xs. c.loop-group.out.items ++ xs) (sym (groups_done c.args.groups.now c.loop-group.group-index past)) ∙ c.loop-group.invariant.0
 
 pub returns-clause-fit : goal.returns-clause-fit
 returns-clause-fit c = λ i g given.

@@ -11,13 +11,16 @@ loop-metric-preserved c =
           ∙ append_assoc c.loop-metric.table.items _ _
           ∙ ap (λ xs. c.loop-metric.table.items ++ xs) (sym (metrics_more c.args.metrics.now c.loop-metric.metric-index less))
           ∙ c.loop-metric.invariant.0,
-      λ k m within given. grind (arith, c.loop-metric.invariant.1 k m, metric_is c.args.metrics.now k m none given, c.in_ok-put_metric.ensures.fits),
+      λ k m within given. grind
+          (arith, c.loop-metric.invariant.1 k m, metric_is c.args.metrics.now k m none given, c.in_ok-put_metric.ensures.fits),
     )
 
 pub returns-clause-text : goal.returns-clause-text
 returns-clause-text c =
     let past : length c.args.metrics.now ≤ c.loop-metric.metric-index = omega arith in
-    sym (append-nil c.loop-metric.table.items) ∙ ap (λ xs. c.loop-metric.table.items ++ xs) (sym (metrics_done c.args.metrics.now c.loop-metric.metric-index past)) ∙ c.loop-metric.invariant.0
+    sym (append-nil c.loop-metric.table.items)
+    ∙ ap (λ xs. c.loop-metric.table.items ++ xs) (sym (metrics_done c.args.metrics.now c.loop-metric.metric-index past))
+    ∙ c.loop-metric.invariant.0
 
 pub returns-clause-fit : goal.returns-clause-fit
 returns-clause-fit c = λ i m given.

@@ -6,7 +6,8 @@ use Rattle.postscript_sfnt_write.proofs.metrics.without_names.Goals as goal
 text : (c : goal.In_ok-extend_from_slice) → c.extend_from_slice.new.self.items ≡ uint32 0x00030000 ++ take 28 (drop 4 c.args.post.now)
 text c =
     c.in_ok-extend_from_slice.ensures.items
-    ∙ ap (λ xs. xs ++ take 28 (drop 4 c.args.post.now)) (c.in_ok-put_uint32.ensures ∙ ap (λ xs. xs ++ uint32 0x00030000) c.new-new.ensures.items)
+    ∙ ap (λ xs. xs ++ take 28 (drop 4 c.args.post.now))
+    (c.in_ok-put_uint32.ensures ∙ ap (λ xs. xs ++ uint32 0x00030000) c.new-new.ensures.items)
 
 pub returns-clause-version : goal.returns-clause-version
 returns-clause-version c = version_is c.extend_from_slice.new.self.items (take 28 (drop 4 c.args.post.now)) (text c)

@@ -11,7 +11,8 @@ returns-in_err-token c =
       reads = (
         c.in-Some.first.now,
         _,
-        sym c.reached-place.ensures.rest ∙ front-at c.reached-place.result.0.now c.reached-place.result.1 c.in-Some.first.now there.3.0 there.1,
+        sym c.reached-place.ensures.rest
+            ∙ front-at c.reached-place.result.0.now c.reached-place.result.1 c.in-Some.first.now there.3.0 there.1,
         c.in_err-token.ensures.exact,
       );
       room = tt;

@@ -4,7 +4,8 @@ use Rattle.postscript_variable.proofs.Numbers.{nothing-passed, put-more}
 use Rattle.postscript_variable.proofs.routine.numbers_at.Goals as goal
 
 pub loop-next-init : goal.loop-next-init
-loop-next-init c = record { from = omega arith; within = c.requires; few = omega arith; puts = nothing-passed c.args.place c.args.limit none }
+loop-next-init c =
+    record { from = omega arith; within = c.requires; few = omega arith; puts = nothing-passed c.args.place c.args.limit none }
 
 pub loop-next-preserved : goal.loop-next-preserved
 loop-next-preserved c =
@@ -18,8 +19,11 @@ loop-next-preserved c =
       from = omega (arith, before.from, there);
       within = c.in-Some.ensures.room;
       few = omega (arith, before.few, there, longer, one);
-      puts = rw c.in_ok-push.ensures.items (put-more c.args.code.now (drop c.args.place c.args.code.now) c.loop-next.next _ c.args.stack.now.items c.loop-next.stack.items
+      puts =
+          rw c.in_ok-push.ensures.items
+          (put-more c.args.code.now (drop c.args.place c.args.code.now) c.loop-next.next _ c.args.stack.now.items c.loop-next.stack.items
           c.args.limit (c.args.limit - (c.loop-next.next - c.args.place)) _ _ before.puts is
-          (omega (arith, before.few, before.from, c.loop-next-test.true, last.room, c.len.ensures)) (omega (arith, before.from, c.loop-next-test.true, last.limit))
+          (omega (arith, before.few, before.from, c.loop-next-test.true, last.room, c.len.ensures))
+          (omega (arith, before.from, c.loop-next-test.true, last.limit))
           (omega (arith, before.from, there)));
     }

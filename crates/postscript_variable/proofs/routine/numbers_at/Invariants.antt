@@ -8,7 +8,8 @@ invariant-loop-next l = record {
   from : l.fn.place ≤ l.next;
   within : l.next ≤ length l.code;
   few : length l.stack.items + l.fn.place ≤ length l.fn.stack.items + l.next;
-  puts : PutsNumbers (drop l.fn.place l.code) l.fn.stack.items l.fn.limit (drop l.next l.code) l.stack.items (l.fn.limit - (l.next - l.fn.place));
+  puts : PutsNumbers (drop l.fn.place l.code) l.fn.stack.items l.fn.limit (drop l.next l.code) l.stack.items
+      (l.fn.limit - (l.next - l.fn.place));
 }
 
 abbrev pub decreases-loop-next : goal.decreases-loop-next

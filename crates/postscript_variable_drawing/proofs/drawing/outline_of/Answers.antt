@@ -16,5 +16,6 @@ pub returns-in-Ok-clause-drawn : goal.returns-in-Ok-clause-drawn
 returns-in-Ok-clause-drawn c =
     let drawn = c.in-Ok.ensures.drawn in
     let empty : c.in_ok-segments.segments.items ≡ [] = search rules in
-    let same : c.draw.new.sink.items ≡ drawn.segments = list-received drawn.segments _ _ drawn.taken ∙ ap (λ xs. xs ++ drawn.segments) empty in
+    let same : c.draw.new.sink.items ≡ drawn.segments = list-received drawn.segments _ _ drawn.taken
+    ∙ ap (λ xs. xs ++ drawn.segments) empty in
     subst (λ xs. IsOutlineOf origin (begun (run_from c.args.charstring)) xs) (sym same) drawn.drawn

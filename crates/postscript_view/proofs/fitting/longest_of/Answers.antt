@@ -11,5 +11,6 @@ loop-i-preserved c =
     let more : c.loop-i.i < length xs = omega (arith, c.loop-i-test.true, c.len-i-end.ensures) in
     let item : List ℕ = c.item.result.now in
     let all : longest (take (c.loop-i.i + 1) xs) ≡ max (longest (take c.loop-i.i xs)) (length item) =
-    ap longest (take_more xs c.loop-i.i item more) ∙ longest-more (take c.loop-i.i xs) _ ∙ ap (λ code. max (longest (take c.loop-i.i xs)) (length code)) (sym c.item.ensures) in
+    ap longest (take_more xs c.loop-i.i item more) ∙ longest-more (take c.loop-i.i xs) _
+    ∙ ap (λ code. max (longest (take c.loop-i.i xs)) (length code)) (sym c.item.ensures) in
     c.max-most.ensures ∙ ap (λ n. max n (length item)) c.loop-i.invariant ∙ sym all

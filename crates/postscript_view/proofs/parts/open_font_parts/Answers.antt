@@ -15,5 +15,6 @@ returns-clause-held c =
     let items = items_of c.in_ok-dictionaries.dictionaries in
     let opens : opened c.args.bytes.now c.in_ok-place.place ≡ Got items c.in_ok-dictionaries._next = c.in_ok-dictionaries.ensures.reads in
     let stands = ap (λ o. after o (λ (x : List (List ℕ)) _. Got x 0)) opens in
-    let named = names_index c.args.bytes.now c.args.dictionary.now operators.FDArray c.in_ok-place.place 0 0 0 items (c.in_ok-place.ensures.exact c.args.bytes.now 0) stands in
+    let named = names_index c.args.bytes.now c.args.dictionary.now operators.FDArray c.in_ok-place.place 0 0 0 items
+    (c.in_ok-place.ensures.exact c.args.bytes.now 0) stands in
     if-ok c.open_each.result (λ parts few. (items, named.0, few)) c.open_each.ensures.held

@@ -25,7 +25,8 @@ pub returns-in_ok-writeln-in_default-clause-ran : goal.returns-in_ok-writeln-in_
 returns-in_ok-writeln-in_default-clause-ran g c = λ word empty.
     let named = c.named.ensures.complete Run (c.split.ensures.word ∙ word) in
     elim c.in_default.branch [
-      | in_default-via-in-Some-Run+else-is_empty-2 w ↦ search (rules, c.split.ensures.argument ∙ empty, w.if-is_empty-2.ensures, w.if-is_empty-2.false)
+      | in_default-via-in-Some-Run+else-is_empty-2 w ↦ search
+          (rules, c.split.ensures.argument ∙ empty, w.if-is_empty-2.ensures, w.if-is_empty-2.false)
       | in_default-via-in-Some-Flat+else-is_empty-3 w ↦ search (rules, named)
       | in_default-via-in_default w ↦ search (rules, named)
     ]
@@ -35,7 +36,8 @@ returns-in_ok-writeln-in_default-clause-flattened g c = λ word empty.
     let named = c.named.ensures.complete Flat (c.split.ensures.word ∙ word) in
     elim c.in_default.branch [
       | in_default-via-in-Some-Run+else-is_empty-2 w ↦ search (rules, named)
-      | in_default-via-in-Some-Flat+else-is_empty-3 w ↦ search (rules, c.split.ensures.argument ∙ empty, w.if-is_empty-3.ensures, w.if-is_empty-3.false)
+      | in_default-via-in-Some-Flat+else-is_empty-3 w ↦ search
+          (rules, c.split.ensures.argument ∙ empty, w.if-is_empty-3.ensures, w.if-is_empty-3.false)
       | in_default-via-in_default w ↦ search (rules, named)
     ]
 

@@ -4,4 +4,5 @@ use Rattle.psfont_session.specs.Texts.{operand_text}
 use Rattle.psfont_session.proofs.answer.write_operands.Given as goal
 
 abbrev pub invariant-loop-operand : goal.invariant-loop-operand
-invariant-loop-operand g l = Appends (g.W.Write.contents l.fn.writer) (g.W.Write.contents l.writer) (flat_map operand_text (take l.operand-index l.operands))
+invariant-loop-operand g l =
+    Appends (g.W.Write.contents l.fn.writer) (g.W.Write.contents l.writer) (flat_map operand_text (take l.operand-index l.operands))

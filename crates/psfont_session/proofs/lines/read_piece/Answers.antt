@@ -21,18 +21,30 @@ returns-in_ok-extend_from_slice-in-Some-clause-moved g c =
     let place : position (λ byte. byte == 10) shown ≡ Some first = search (rules, c.in-Some.ensures) in
     let past = take-past-position 10 shown first place in
     let rested = c.fill_buf.follows.lender-at-none in
-    let filled = subst (FillKeeps _ (g.R.Read.remaining rested) (g.R.BufRead.consumable_len rested)) c.in-Ok.is c.fill_buf.follows.holds-at-none in
-    let spent = Consumes_shown _ _ _ _ shown (first + 1) past.0 c.in-Ok.ensures.front c.in-Ok.ensures.end filled.0 filled.1 c.consume.ensures.bytes in
-    (take first shown, search (rules, c.in_ok-extend_from_slice-in-Some.ensures.items), All-position-Some 10 shown first place, subst (Consumes _ _) past.1 spent.0)
+    let filled = subst (FillKeeps _ (g.R.Read.remaining rested) (g.R.BufRead.consumable_len rested)) c.in-Ok.is
+    c.fill_buf.follows.holds-at-none in
+    let spent = Consumes_shown _ _ _ _ shown
+    (first + 1) past.0 c.in-Ok.ensures.front c.in-Ok.ensures.end filled.0 filled.1 c.consume.ensures.bytes in (
+      take first shown,
+      search (rules, c.in_ok-extend_from_slice-in-Some.ensures.items),
+      All-position-Some 10 shown first place,
+      subst (Consumes _ _) past.1 spent.0,
+    )
 
 pub returns-in_ok-extend_from_slice-in-None-clause-moved :
     goal.returns-in_ok-extend_from_slice-in-None-clause-moved
 returns-in_ok-extend_from_slice-in-None-clause-moved g c =
     let shown = c.in-Ok.shown.now in
     let rested = c.fill_buf.follows.lender-at-none in
-    let filled = subst (FillKeeps _ (g.R.Read.remaining rested) (g.R.BufRead.consumable_len rested)) c.in-Ok.is c.fill_buf.follows.holds-at-none in
-    let spent = Consumes_shown _ _ _ _ shown (length shown) (le_refl _) c.in-Ok.ensures.front c.in-Ok.ensures.end filled.0 filled.1 c.consume-in-None.ensures.bytes in
-    (shown, search (rules, c.in_ok-extend_from_slice-in-None.ensures.items), All-position-None 10 shown (search (rules, c.in-None.ensures)), subst (Consumes _ _) (take-whole shown) spent.0)
+    let filled = subst (FillKeeps _ (g.R.Read.remaining rested) (g.R.BufRead.consumable_len rested)) c.in-Ok.is
+    c.fill_buf.follows.holds-at-none in
+    let spent = Consumes_shown _ _ _ _ shown (length shown)
+    (le_refl _) c.in-Ok.ensures.front c.in-Ok.ensures.end filled.0 filled.1 c.consume-in-None.ensures.bytes in (
+      shown,
+      search (rules, c.in_ok-extend_from_slice-in-None.ensures.items),
+      All-position-None 10 shown (search (rules, c.in-None.ensures)),
+      subst (Consumes _ _) (take-whole shown) spent.0,
+    )
 
 pub returns-in_ok-extend_from_slice-in-Some-clause-more :
     goal.returns-in_ok-extend_from_slice-in-Some-clause-more
@@ -41,6 +53,8 @@ returns-in_ok-extend_from_slice-in-Some-clause-more g c = λ is.
     let first = c.in-Some.length in
     let below = ltb-true (first + 1) (length shown) (more_of _ is) in
     let rested = c.fill_buf.follows.lender-at-none in
-    let filled = subst (FillKeeps _ (g.R.Read.remaining rested) (g.R.BufRead.consumable_len rested)) c.in-Ok.is c.fill_buf.follows.holds-at-none in
-    let spent = Consumes_shown _ _ _ _ shown (first + 1) (omega (arith, below)) c.in-Ok.ensures.front c.in-Ok.ensures.end filled.0 filled.1 c.consume.ensures.bytes in
+    let filled = subst (FillKeeps _ (g.R.Read.remaining rested) (g.R.BufRead.consumable_len rested)) c.in-Ok.is
+    c.fill_buf.follows.holds-at-none in
+    let spent = Consumes_shown _ _ _ _ shown (first + 1)
+    (omega (arith, below)) c.in-Ok.ensures.front c.in-Ok.ensures.end filled.0 filled.1 c.consume.ensures.bytes in
     goes_on _ _ shown (first + 1) below c.in-Ok.ensures.front spent.0

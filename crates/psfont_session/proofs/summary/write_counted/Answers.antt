@@ -6,4 +6,5 @@ use Rattle.psfont_session.proofs.summary.write_counted.Goals as goal
 
 pub returns-clause-told : goal.returns-clause-told
 returns-clause-told g c = so c.write_lines.result c.write_lines.ensures.told
-    (λ told. both _ _ _ (count_line (codes "dictionaries ") c.args.count) (lines_below (font_shown c.args.font.now) c.args.count) c.in_ok-writeln.ensures.bytes told)
+    (λ told. both _ _ _ (count_line (codes "dictionaries ") c.args.count)
+    (lines_below (font_shown c.args.font.now) c.args.count) c.in_ok-writeln.ensures.bytes told)

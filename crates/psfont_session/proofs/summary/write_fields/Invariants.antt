@@ -4,4 +4,5 @@ use Rattle.psfont_session.specs.Summary.{field_text}
 use Rattle.psfont_session.proofs.summary.write_fields.Given as goal
 
 abbrev pub invariant-loop-field : goal.invariant-loop-field
-invariant-loop-field g l = Appends (g.W.Write.contents l.fn.writer) (g.W.Write.contents l.writer) (flat_map field_text (take l.field-index l.fields))
+invariant-loop-field g l =
+    Appends (g.W.Write.contents l.fn.writer) (g.W.Write.contents l.writer) (flat_map field_text (take l.field-index l.fields))

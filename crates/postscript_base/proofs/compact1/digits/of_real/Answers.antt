@@ -26,31 +26,47 @@ pub of_digits-requires : goal.of_digits-requires
 of_digits-requires c =
     let n = digits_number (c.args.whole.now ++ c.args.fraction.now) in
     let kept = c.push_all-kept.ensures.keeps c.args.whole.now (c.push_all-front.ensures.keeps [] c.new.ensures.keeps) in
-    rw c.from-2.ensures (not_last c.push_all-kept.result.mantissa c.push_all-kept.result.zeros n c.if-kept-eq0.false (as_short _ _ _ n c.if-kept.false kept))
+    rw c.from-2.ensures (not_last c.push_all-kept.result.mantissa c.push_all-kept.result.zeros n c.if-kept-eq0.false
+    (as_short _ _ _ n c.if-kept.false kept))
 
 pub returns-clause-some : goal.returns-clause-some
 returns-clause-some c =
     let n = digits_number (c.args.whole.now ++ c.args.fraction.now) in
     let kept = c.push_all-kept.ensures.keeps c.args.whole.now (c.push_all-front.ensures.keeps [] c.new.ensures.keeps) in
     let short = as_short _ _ _ n c.if-kept.false kept in
-    real_some c.of_digits.result c.args.negative c.args.down n c.from-2.result c.push_all-kept.result.zeros (length c.args.fraction.now) (digits_number c.args.exponent.now) c.up_to_far-far.result _ c.of_digits.ensures.some c.of_digits.ensures.operand
+    real_some c.of_digits.result c.args.negative c.args.down n c.from-2.result c.push_all-kept.result.zeros (length c.args.fraction.now)
+    (digits_number c.args.exponent.now) c.up_to_far-far.result _ c.of_digits.ensures.some c.of_digits.ensures.operand
     (short.whole ∙ ap (λ k. k * 10 ^ c.push_all-kept.result.zeros) (sym c.from-2.ensures))
-    (record { few = search rules; few_places = search rules; near = c.up_to_far-far.ensures.value; computed = let s = c.with_sign-shift.ensures.value in let z = c.with_sign-shift.ensures.size in let near = c.up_to_far-far.ensures.near in omega (arith, ints) })
+    (record {
+      few = search rules;
+      few_places = search rules;
+      near = c.up_to_far-far.ensures.value;
+      computed = let s = c.with_sign-shift.ensures.value in let z = c.with_sign-shift.ensures.size in
+          let near = c.up_to_far-far.ensures.near in omega (arith, ints);
+    })
 
 pub returns-clause-none : goal.returns-clause-none
 returns-clause-none c =
     let n = digits_number (c.args.whole.now ++ c.args.fraction.now) in
     let kept = c.push_all-kept.ensures.keeps c.args.whole.now (c.push_all-front.ensures.keeps [] c.new.ensures.keeps) in
     let short = as_short _ _ _ n c.if-kept.false kept in
-    real_none c.of_digits.result c.args.negative c.args.down n c.from-2.result c.push_all-kept.result.zeros (length c.args.fraction.now) (digits_number c.args.exponent.now) c.up_to_far-far.result _ c.of_digits.ensures.none
+    real_none c.of_digits.result c.args.negative c.args.down n c.from-2.result c.push_all-kept.result.zeros (length c.args.fraction.now)
+    (digits_number c.args.exponent.now) c.up_to_far-far.result _ c.of_digits.ensures.none
     (short.whole ∙ ap (λ k. k * 10 ^ c.push_all-kept.result.zeros) (sym c.from-2.ensures))
     (rw c.from-2.ensures (not_last c.push_all-kept.result.mantissa c.push_all-kept.result.zeros n c.if-kept-eq0.false short))
-    (record { few = search rules; few_places = search rules; near = c.up_to_far-far.ensures.value; computed = let s = c.with_sign-shift.ensures.value in let z = c.with_sign-shift.ensures.size in let near = c.up_to_far-far.ensures.near in omega (arith, ints) })
+    (record {
+      few = search rules;
+      few_places = search rules;
+      near = c.up_to_far-far.ensures.value;
+      computed = let s = c.with_sign-shift.ensures.value in let z = c.with_sign-shift.ensures.size in
+          let near = c.up_to_far-far.ensures.near in omega (arith, ints);
+    })
 
 pub returns-clause-exact : goal.returns-clause-exact
 returns-clause-exact c =
     let a = c.args in
-    real_exact c.of_digits.result (real_value a.negative a.whole.now a.fraction.now a.down a.exponent.now) c.of_digits.ensures.operand (returns-clause-some c) (returns-clause-none c)
+    real_exact c.of_digits.result (real_value a.negative a.whole.now a.fraction.now a.down a.exponent.now) c.of_digits.ensures.operand
+    (returns-clause-some c) (returns-clause-none c)
 
 pub returns-then-kept-clause-exact : goal.returns-then-kept-clause-exact
 returns-then-kept-clause-exact c =

@@ -13,10 +13,12 @@ loop-digit-preserved c =
     elim c.if-size-lt-FAR.branch [
       | then-size-lt-FAR w ↦ record {
         near = let e = w.size-is in let t = w.if-size-lt-FAR.true in let f = w.from.ensures in omega arith;
-        value = limited_more c.loop-digit.size _ c.if-size-lt-FAR.size _ d c.loop-digit.invariant.value more (inl (w.if-size-lt-FAR.true, w.size-is ∙ ap (λ n. 10 * c.loop-digit.size + n) w.from.ensures));
+        value = limited_more c.loop-digit.size _ c.if-size-lt-FAR.size _ d c.loop-digit.invariant.value more
+            (inl (w.if-size-lt-FAR.true, w.size-is ∙ ap (λ n. 10 * c.loop-digit.size + n) w.from.ensures));
       }
       | else-size-lt-FAR w ↦ record {
         near = let e = w.size-is in omega arith;
-        value = limited_more c.loop-digit.size _ c.if-size-lt-FAR.size _ d c.loop-digit.invariant.value more (inr (w.if-size-lt-FAR.false, w.size-is));
+        value = limited_more c.loop-digit.size _ c.if-size-lt-FAR.size _ d c.loop-digit.invariant.value more
+            (inr (w.if-size-lt-FAR.false, w.size-is));
       }
     ]

@@ -9,4 +9,5 @@ pub loop-rest-preserved : goal.loop-rest-preserved
 loop-rest-preserved c = grind (arith, ten_more)
 
 pub returns-clause-few : goal.returns-clause-few
-returns-clause-few c = tens_few c.args.number c.loop-rest.rest c.loop-rest.zeros c.loop-rest.invariant.whole c.loop-rest.invariant.positive (omega arith)
+returns-clause-few c =
+    tens_few c.args.number c.loop-rest.rest c.loop-rest.zeros c.loop-rest.invariant.whole c.loop-rest.invariant.positive (omega arith)

@@ -9,4 +9,5 @@ pub loop-short-preserved : goal.loop-short-preserved
 loop-short-preserved c = grind (arith, ten_more)
 
 pub returns-clause-few : goal.returns-clause-few
-returns-clause-few c = tens_few c.args.number c.loop-short.short c.loop-short.zeros c.loop-short.invariant.whole c.loop-short.invariant.positive (omega arith)
+returns-clause-few c =
+    tens_few c.args.number c.loop-short.short c.loop-short.zeros c.loop-short.invariant.whole c.loop-short.invariant.positive (omega arith)

@@ -16,5 +16,7 @@ loop-operation-preserved c = grind (arith, common_steps)
 pub returns-clause-dictionary : goal.returns-clause-dictionary
 returns-clause-dictionary c =
     let gives = c.into_iter-operation-iterator.ensures.into_iter_gives in
-    let all = YieldsList-end (YieldsList-from_vec c.args.all.items (search rules) (search rules)) c.loop-operation.yielded c.loop-operation.operation-iterator c.loop-operation.yielded_by _ c.next.new.self c.in-None.is c.next.ensures.steps in
-    c.loop-operation.invariant ∙ ap (λ xs. dictionary_of (map (λ operation. (operation.0, operation.1.items)) xs)) (sym (map-id c.loop-operation.yielded) ∙ all.0)
+    let all = YieldsList-end (YieldsList-from_vec c.args.all.items (search rules) (search rules)) c.loop-operation.yielded
+    c.loop-operation.operation-iterator c.loop-operation.yielded_by _ c.next.new.self c.in-None.is c.next.ensures.steps in
+    c.loop-operation.invariant
+    ∙ ap (λ xs. dictionary_of (map (λ operation. (operation.0, operation.1.items)) xs)) (sym (map-id c.loop-operation.yielded) ∙ all.0)

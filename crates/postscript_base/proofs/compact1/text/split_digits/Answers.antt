@@ -9,4 +9,5 @@ pub split_at-requires : goal.split_at-requires
 split_at-requires c = rw c.leading_digits.ensures (prefix_len-le-length is_digit c.args.text.now)
 
 pub returns-clause-digits : goal.returns-clause-digits
-returns-clause-digits c = subst IsDigits (sym (c.split_at.ensures.front ∙ ap (λ n. take n c.args.text.now) c.leading_digits.ensures)) (digits_are c.args.text.now)
+returns-clause-digits c =
+    subst IsDigits (sym (c.split_at.ensures.front ∙ ap (λ n. take n c.args.text.now) c.leading_digits.ensures)) (digits_are c.args.text.now)

@@ -6,4 +6,5 @@ use Rattle.postscript_base.proofs.index.IndexView.are_in_order.Given as goal
 abbrev pub invariant-loop-i : goal.invariant-loop-i
 invariant-loop-i l =
     (offset_at l.self.bytes.now l.self.start l.self.size 0 ≡ 1) × (l.low ≡ offset_at l.self.bytes.now l.self.start l.self.size l.i)
-    × ((k : ℕ) → k < l.i → offset_at l.self.bytes.now l.self.start l.self.size k ≤ offset_at l.self.bytes.now l.self.start l.self.size (k + 1))
+    × ((k : ℕ) → k < l.i → offset_at l.self.bytes.now l.self.start l.self.size k ≤ offset_at l.self.bytes.now l.self.start l.self.size
+    (k + 1))

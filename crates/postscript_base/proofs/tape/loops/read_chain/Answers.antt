@@ -11,8 +11,11 @@ returns-in_err-value-clause-exact g c = λ honest.
     let so_far = c.loop.invariant.0 honest in
     let read = c.in_err-value.ensures.exact so_far.0.0 in
     let error = err_from_is_err_and c.from_residual.result c.from_residual.ensures.1 in
-    let here = rw (so_far.0.1) at read.1 in
-    ((read.0.0, read.0.1 ∙ so_far.0.1), rw (error.1, error.2) (λ other. ends _ _ _ _ _ _ (here other) (chain_more g.W.Linked.reading g.W.Linked.left c.loop.given c.args.length c.loop.counter _ _ c.loop-test.true) so_far.1))
+    let here = rw (so_far.0.1) at read.1 in (
+      (read.0.0, read.0.1 ∙ so_far.0.1),
+      rw (error.1, error.2) (λ other. ends _ _ _ _ _ _ (here other)
+          (chain_more g.W.Linked.reading g.W.Linked.left c.loop.given c.args.length c.loop.counter _ _ c.loop-test.true) so_far.1),
+    )
 
 pub loop-preserved : goal.loop-preserved
 loop-preserved g c = (
@@ -20,9 +23,15 @@ loop-preserved g c = (
       let so_far = c.loop.invariant.0 honest in
       let read = c.in_ok-value.ensures.exact so_far.0.0 in
       let here = rw (so_far.0.1) at read.1 in
-      let longer = views_push g.W.Linked.view g.W.Linked.views g.met.W.Linked.views_each c.loop.values.items c.in_ok-value.value _ c.in_ok-push.ensures.items in
-      ((read.0.0, read.0.1 ∙ so_far.0.1), rw (longer, c.left-given.ensures) (goes_on _ _ _ _ _ _ _ here (chain_more g.W.Linked.reading g.W.Linked.left c.loop.given c.args.length c.loop.counter _ _ c.loop-test.true) so_far.1)),
-  rw (c.in_ok-push.ensures.items, c.left-given.ensures) (front_goes_on _ _ _ _ _ _ _ _ c.loop-test.true c.loop.invariant.1 c.in_ok-value.ensures.follows),
+      let longer = views_push g.W.Linked.view g.W.Linked.views g.met.W.Linked.views_each c.loop.values.items c.in_ok-value.value _
+      c.in_ok-push.ensures.items in (
+        (read.0.0, read.0.1 ∙ so_far.0.1),
+        rw (longer, c.left-given.ensures)
+            (goes_on _ _ _ _ _ _ _ here
+            (chain_more g.W.Linked.reading g.W.Linked.left c.loop.given c.args.length c.loop.counter _ _ c.loop-test.true) so_far.1),
+      ),
+  rw (c.in_ok-push.ensures.items, c.left-given.ensures)
+      (front_goes_on _ _ _ _ _ _ _ _ c.loop-test.true c.loop.invariant.1 c.in_ok-value.ensures.follows),
 )
 
 pub returns-clause-exact : goal.returns-clause-exact

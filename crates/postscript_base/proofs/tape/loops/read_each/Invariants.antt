@@ -12,5 +12,6 @@ invariant-loop-source g l =
     let one = g.S.Source.reading l.fn.given in
     let seen = g.S.Source.seen in
     (IsHonest old → Kept old new
-    × (with_front (g.S.Source.views l.values.items) (each one (map seen (drop l.source-index l.sources)) old.bytes new.place) ≡ each one (map seen l.sources) old.bytes old.place))
+    × (with_front (g.S.Source.views l.values.items) (each one (map seen (drop l.source-index l.sources)) old.bytes new.place) ≡ each one
+    (map seen l.sources) old.bytes old.place))
     × IsFrontFor g.S.Source.fits l.sources l.values.items (drop l.source-index l.sources)

@@ -10,4 +10,5 @@ invariant-loop g l =
     let old = g.T.ReadSeek.state l.fn.tape in
     let new = g.T.ReadSeek.state l.tape in
     IsHonest old → Kept old new
-    × (with_front (g.V.Value.views l.values.items) (many g.V.Value.reading (l.count - l.counter) old.bytes new.place) ≡ many g.V.Value.reading l.count old.bytes old.place)
+    × (with_front (g.V.Value.views l.values.items)
+    (many g.V.Value.reading (l.count - l.counter) old.bytes new.place) ≡ many g.V.Value.reading l.count old.bytes old.place)

@@ -22,8 +22,12 @@ values-preserved g c = (
       let here = rw (so_far.0.1, c.in-Some.is) at next.1 in
       let place = c.in_ok-reached.ensures.exact next.0.0 in
       let at = asked _ _ _ place.1 in
-      let longer = views_push g.V.Value.view g.V.Value.views g.met.V.Value.views_each c.values.values.items c.in-Some.value _ c.in_ok-push.ensures.items in
-      ((place.0.0, place.0.1 ∙ next.0.1 ∙ so_far.0.1), at.1 ∙ sym at.0, rw (longer, at.1) (end_goes_on _ _ _ _ _ _ _ c.requires here so_far.2)),
+      let longer = views_push g.V.Value.view g.V.Value.views g.met.V.Value.views_each c.values.values.items c.in-Some.value _
+      c.in_ok-push.ensures.items in (
+        (place.0.0, place.0.1 ∙ next.0.1 ∙ so_far.0.1),
+        at.1 ∙ sym at.0,
+        rw (longer, at.1) (end_goes_on _ _ _ _ _ _ _ c.requires here so_far.2),
+      ),
   λ honest.
       let so_far = c.values.invariant.0 honest in
       let few = c.values.invariant.1 honest in
@@ -32,8 +36,10 @@ values-preserved g c = (
       let place = c.in_ok-reached.ensures.exact next.0.0 in
       let at = asked _ _ _ place.1 in
       let moved = subst (MovesOn _ _) here (c.requires _ _) in
-      let reached : c.in_ok-reached.reached ≡ (g.T.ReadSeek.state c.next.new.tape).place = at.0 in
-      (omega (arith, c.in_ok-push.ensures.len, few.0, c.if-reached-place.false), omega (arith, c.in_ok-push.ensures.len, few.0, so_far.1, moved.0, moved.1)),
+      let reached : c.in_ok-reached.reached ≡ (g.T.ReadSeek.state c.next.new.tape).place = at.0 in (
+        omega (arith, c.in_ok-push.ensures.len, few.0, c.if-reached-place.false),
+        omega (arith, c.in_ok-push.ensures.len, few.0, so_far.1, moved.0, moved.1),
+      ),
   let few = c.values.invariant.2 in
       omega (arith, c.in_ok-push.ensures.len, few, c.if-reached-place.false),
 )

@@ -10,7 +10,8 @@ invariant-values g l =
     let old = g.T.ReadSeek.state l.fn.tape in
     let new = g.T.ReadSeek.state l.tape in
     IsHonest old → Kept old new
-    × IsBehind g.W.Until.is_last g.W.Linked.reading g.W.Linked.left old.bytes (g.W.Linked.views l.values.items) l.given new.place (until g.W.Until.is_last g.W.Linked.reading g.W.Linked.left l.fn.first old.bytes old.place)
+    × IsBehind g.W.Until.is_last g.W.Linked.reading g.W.Linked.left old.bytes (g.W.Linked.views l.values.items) l.given new.place
+    (until g.W.Until.is_last g.W.Linked.reading g.W.Linked.left l.fn.first old.bytes old.place)
 
 -- the list grows
 abbrev pub decreases-values : goal.decreases-values

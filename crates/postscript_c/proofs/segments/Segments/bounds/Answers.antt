@@ -7,4 +7,5 @@ use Rattle.postscript_c.proofs.segments.Segments.bounds.Goals as goal
 pub returns : goal.returns
 returns c =
     let segments = map meant c.args.self.now.segments.items in
-    subst (λ b. IsBoundsOf b (points segments)) (sym c.args.self.now.bounded) (c.bounds_take_in_points.ensures segments _ (folded taking None segments))
+    subst (λ b. IsBoundsOf b (points segments)) (sym c.args.self.now.bounded)
+    (c.bounds_take_in_points.ensures segments _ (folded taking None segments))

@@ -9,6 +9,8 @@ returns-then-self-eq0-clause-none c =
     let start = ranges.place + 1 + 2 * ranges.size in
     elim c.then-self-eq0.branch [
       | then-self-eq0-via-then-self-eq0 w ↦ λ r there lies. absurd (omega (arith, w.if-self-eq0.true, there))
-      | then-self-eq0-via-else-self-eq0+then-glyph-first w ↦ before_all ranges.bytes.now start ranges.size ranges.count c.args.glyph ranges.ranges.order (omega (arith, w.if-glyph-first.true, w.first.ensures))
-      | then-self-eq0-via-else-self-eq0+else-glyph-first+then-first-glyph w ↦ behind_all ranges.bytes.now start ranges.size ranges.count c.args.glyph ranges.ranges.order (omega (arith, w.if-first-glyph.true, w.first-else-glyph-first.ensures))
+      | then-self-eq0-via-else-self-eq0+then-glyph-first w ↦ before_all ranges.bytes.now start ranges.size ranges.count c.args.glyph
+          ranges.ranges.order (omega (arith, w.if-glyph-first.true, w.first.ensures))
+      | then-self-eq0-via-else-self-eq0+else-glyph-first+then-first-glyph w ↦ behind_all ranges.bytes.now start ranges.size ranges.count
+          c.args.glyph ranges.ranges.order (omega (arith, w.if-first-glyph.true, w.first-else-glyph-first.ensures))
     ]

@@ -14,8 +14,12 @@ returns-in_err-part-clause-exact g c = λ honest.
     let so_far = c.loop-dictionary.invariant honest in
     let read = c.in_err-part.ensures.exact so_far.0.0 in
     let here = rw (so_far.0.1) at read.1 in
-    let error = err_from_is_err_and c.from_residual.result c.from_residual.ensures.1 in
-    ((read.0.0, read.0.1 ∙ so_far.0.1), rw (error.1, error.2) (λ other. refused_after _ _ _ (ends (part c.args.manner c.args.start) so_far.1.0 c.args.dictionaries.now c.loop-dictionary.dictionary-index c.dictionary-item.result _ _ _ _ c.loop-dictionary-test.true c.dictionary-item.is (here other) so_far.1.2)))
+    let error = err_from_is_err_and c.from_residual.result c.from_residual.ensures.1 in (
+      (read.0.0, read.0.1 ∙ so_far.0.1),
+      rw (error.1, error.2) (λ other. refused_after _ _ _
+          (ends (part c.args.manner c.args.start) so_far.1.0 c.args.dictionaries.now c.loop-dictionary.dictionary-index c.dictionary-item.result
+          _ _ _ _ c.loop-dictionary-test.true c.dictionary-item.is (here other) so_far.1.2)),
+    )
 
 pub returns-in_err-push-clause-exact : goal.returns-in_err-push-clause-exact
 returns-in_err-push-clause-exact g c = λ honest.
@@ -34,7 +38,8 @@ loop-dictionary-preserved g c = λ honest.
       (
         so_far.1.0 ++ p ∷ [],
         columns_more so_far.1.0 p ∙ (ap (λ k. more k p) so_far.1.1 ∙ sym c.in_ok-push.ensures.ok),
-        goes_on (part c.args.manner c.args.start) so_far.1.0 c.args.dictionaries.now c.loop-dictionary.dictionary-index c.dictionary-item.result _ _ _ p _ c.loop-dictionary-test.true c.dictionary-item.is here so_far.1.2,
+        goes_on (part c.args.manner c.args.start) so_far.1.0 c.args.dictionaries.now c.loop-dictionary.dictionary-index
+            c.dictionary-item.result _ _ _ p _ c.loop-dictionary-test.true c.dictionary-item.is here so_far.1.2,
       ),
     )
 
@@ -42,5 +47,6 @@ pub returns-clause-exact : goal.returns-clause-exact
 unfolding parts
 returns-clause-exact g c = λ honest.
     let so_far = c.loop-dictionary.invariant honest in
-    let all = is_done (part c.args.manner c.args.start) so_far.1.0 c.args.dictionaries.now c.loop-dictionary.dictionary-index _ _ _ c.loop-dictionary-test.false so_far.1.2 in
+    let all = is_done (part c.args.manner c.args.start) so_far.1.0 c.args.dictionaries.now c.loop-dictionary.dictionary-index _ _ _
+    c.loop-dictionary-test.false so_far.1.2 in
     (so_far.0, rw (all, so_far.1.1) refl)

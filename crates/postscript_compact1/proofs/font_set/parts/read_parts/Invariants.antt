@@ -14,4 +14,5 @@ invariant-loop-dictionary g l =
     let new = g.T.ReadSeek.state l.tape in
     IsHonest old → Kept old new × ((done : List Part)
     × (columns done ≡ parts_shown l.parts)
-    × (with_front done (each (part l.manner l.start) (drop l.dictionary-index l.dictionaries) old.bytes new.place) ≡ each (part l.manner l.start) l.dictionaries old.bytes old.place))
+    × (with_front done (each (part l.manner l.start) (drop l.dictionary-index l.dictionaries) old.bytes new.place) ≡ each
+    (part l.manner l.start) l.dictionaries old.bytes old.place))

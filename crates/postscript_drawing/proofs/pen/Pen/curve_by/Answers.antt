@@ -15,4 +15,6 @@ returns g c =
     let r = c.in-Some.at in
     let there : Pen = record { at = r; is_open = true } in
     let bends : IsDrawnBy pen.at c.args.a c.args.b c.args.c p q r = search rules in
-    rw c.in_ok-begin.ensures.open (stroke_drawn (Curve c.args.a c.args.b c.args.c) pen there (opening pen) (CurveTo p q r) (standing r _) _ (curved pen c.args.a c.args.b c.args.c p q r bends) refl c.in_ok-begin.ensures.begun c.in_ok-add.ensures.taken)
+    rw c.in_ok-begin.ensures.open
+    (stroke_drawn (Curve c.args.a c.args.b c.args.c) pen there (opening pen) (CurveTo p q r) (standing r _) _
+    (curved pen c.args.a c.args.b c.args.c p q r bends) refl c.in_ok-begin.ensures.begun c.in_ok-add.ensures.taken)

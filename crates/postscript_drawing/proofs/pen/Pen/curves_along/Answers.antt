@@ -11,8 +11,10 @@ returns-in_err-curve_by g c =
     let left = curves_along c.args.axis c.loop-bend.off c.loop-bend.ahead.now in
     let rest = curves_along c.args.axis (pos 0) c.in-Some.bend.rest.now in
     let all : left ≡ stroke ∷ rest = search rules in
-    let far : SoFar g.S.Sink.after g.S.Sink.refuses (curves_along c.args.axis c.args.first c.args.operands.now) left c.args.self.now (g.S.Sink.state c.args.sink.now) c.loop-bend.self (g.S.Sink.state c.loop-bend.sink) = search rules in
-    passed-on c.from_residual.result c.in_err-curve_by.field-0.0 c.from_residual.ensures.1 (so_refused (stroke ∷ []) rest all far c.in_err-curve_by.ensures)
+    let far : SoFar g.S.Sink.after g.S.Sink.refuses (curves_along c.args.axis c.args.first c.args.operands.now) left c.args.self.now
+    (g.S.Sink.state c.args.sink.now) c.loop-bend.self (g.S.Sink.state c.loop-bend.sink) = search rules in
+    passed-on c.from_residual.result c.in_err-curve_by.field-0.0 c.from_residual.ensures.1
+    (so_refused (stroke ∷ []) rest all far c.in_err-curve_by.ensures)
 
 pub loop-bend-preserved : goal.loop-bend-preserved
 loop-bend-preserved g c =
@@ -20,6 +22,7 @@ loop-bend-preserved g c =
     let left = curves_along c.args.axis c.loop-bend.off c.loop-bend.ahead.now in
     let rest = curves_along c.args.axis (pos 0) c.in-Some.bend.rest.now in
     let all : left ≡ stroke ∷ rest = search rules in
-    let far : SoFar g.S.Sink.after g.S.Sink.refuses (curves_along c.args.axis c.args.first c.args.operands.now) left c.args.self.now (g.S.Sink.state c.args.sink.now) c.loop-bend.self (g.S.Sink.state c.loop-bend.sink) = search rules in
+    let far : SoFar g.S.Sink.after g.S.Sink.refuses (curves_along c.args.axis c.args.first c.args.operands.now) left c.args.self.now
+    (g.S.Sink.state c.args.sink.now) c.loop-bend.self (g.S.Sink.state c.loop-bend.sink) = search rules in
     let more = so_more (stroke ∷ []) rest all far c.in_ok-curve_by.ensures in
     search rules

@@ -6,7 +6,8 @@ use Rattle.postscript_drawing.proofs.pen.Pen.curves_in_turn.Given as goal
 -- some are drawn, and these are left
 abbrev pub invariant-loop-bend : goal.invariant-loop-bend
 invariant-loop-bend g l =
-    SoFar g.S.Sink.after g.S.Sink.refuses (curves_in_turn l.first l.fn.operands) (curves_in_turn l.first l.ahead) l.fn.self (g.S.Sink.state l.fn.sink) l.self (g.S.Sink.state l.sink)
+    SoFar g.S.Sink.after g.S.Sink.refuses (curves_in_turn l.first l.fn.operands) (curves_in_turn l.first l.ahead) l.fn.self
+    (g.S.Sink.state l.fn.sink) l.self (g.S.Sink.state l.sink)
 
 abbrev pub decreases-loop-bend : goal.decreases-loop-bend
 decreases-loop-bend g l = length (curves_in_turn l.first l.ahead)

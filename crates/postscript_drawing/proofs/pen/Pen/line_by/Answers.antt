@@ -12,4 +12,6 @@ returns g c =
     let at = c.in-Some.at in
     let there : Pen = record { at = at; is_open = true } in
     let reach : reached pen.at c.args.by ≡ Ok at = search rules in
-    rw c.in_ok-begin.ensures.open (stroke_drawn (Line c.args.by) pen there (opening pen) (LineTo at) (standing at _) _ (lined pen c.args.by at reach) refl c.in_ok-begin.ensures.begun c.in_ok-add.ensures.taken)
+    rw c.in_ok-begin.ensures.open
+    (stroke_drawn (Line c.args.by) pen there (opening pen) (LineTo at) (standing at _) _
+    (lined pen c.args.by at reach) refl c.in_ok-begin.ensures.begun c.in_ok-add.ensures.taken)

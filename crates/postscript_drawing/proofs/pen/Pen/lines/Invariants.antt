@@ -6,7 +6,8 @@ use Rattle.postscript_drawing.proofs.pen.Pen.lines.Given as goal
 -- some are drawn, and these are left
 abbrev pub invariant-loop-a : goal.invariant-loop-a
 invariant-loop-a g l =
-    SoFar g.S.Sink.after g.S.Sink.refuses (lines l.fn.operands) (lines l.ahead) l.fn.self (g.S.Sink.state l.fn.sink) l.self (g.S.Sink.state l.sink)
+    SoFar g.S.Sink.after g.S.Sink.refuses (lines l.fn.operands) (lines l.ahead) l.fn.self (g.S.Sink.state l.fn.sink) l.self
+    (g.S.Sink.state l.sink)
 
 abbrev pub decreases-loop-a : goal.decreases-loop-a
 decreases-loop-a g l = length l.ahead

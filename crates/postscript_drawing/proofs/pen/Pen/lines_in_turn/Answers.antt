@@ -8,7 +8,8 @@ pub returns-in_err-line_by : goal.returns-in_err-line_by
 returns-in_err-line_by g c =
     let rest = lines_in_turn (other c.args.first) c.in-Some.behind.now in
     let all : lines_in_turn c.args.first c.loop-a.ahead.now ≡ Line c.in-Some.a ∷ rest = search rules in
-    passed-on c.from_residual.result c.in_err-line_by.field-0.0 c.from_residual.ensures.1 (so_refused (Line c.in-Some.a ∷ []) rest all c.loop-a.invariant c.in_err-line_by.ensures)
+    passed-on c.from_residual.result c.in_err-line_by.field-0.0 c.from_residual.ensures.1
+    (so_refused (Line c.in-Some.a ∷ []) rest all c.loop-a.invariant c.in_err-line_by.ensures)
 
 pub returns-in_default-line_in_turn : goal.returns-in_default-line_in_turn
 returns-in_default-line_in_turn g c =
@@ -25,7 +26,8 @@ returns-in_err-line_by-2 g c =
     let turned : rest ≡ Line c.in-Some-line_in_turn.b ∷ behind = search rules in
     let back = c.from_residual-in_err-line_by-2 in
     passed-on back.result c.in_err-line_by-2.field-0.0 back.ensures.1
-    (so_refused (Line c.in-Some-line_in_turn.b ∷ []) behind turned (so_more (Line c.in-Some.a ∷ []) rest all c.loop-a.invariant c.in_ok-line_by.ensures) c.in_err-line_by-2.ensures)
+    (so_refused (Line c.in-Some-line_in_turn.b ∷ []) behind turned
+    (so_more (Line c.in-Some.a ∷ []) rest all c.loop-a.invariant c.in_ok-line_by.ensures) c.in_err-line_by-2.ensures)
 
 pub loop-a-preserved : goal.loop-a-preserved
 loop-a-preserved g c =
@@ -33,4 +35,5 @@ loop-a-preserved g c =
     let behind = lines_in_turn c.args.first c.in-Some-line_in_turn.rest.now in
     let all : lines_in_turn c.args.first c.loop-a.ahead.now ≡ Line c.in-Some.a ∷ rest = search rules in
     let turned : rest ≡ Line c.in-Some-line_in_turn.b ∷ behind = search rules in
-    so_more (Line c.in-Some-line_in_turn.b ∷ []) behind turned (so_more (Line c.in-Some.a ∷ []) rest all c.loop-a.invariant c.in_ok-line_by.ensures) c.in_ok-line_by-2.ensures
+    so_more (Line c.in-Some-line_in_turn.b ∷ []) behind turned
+    (so_more (Line c.in-Some.a ∷ []) rest all c.loop-a.invariant c.in_ok-line_by.ensures) c.in_ok-line_by-2.ensures

@@ -12,4 +12,5 @@ returns g c =
     let at = c.in-Some.at in
     let there : Pen = record { at = at; is_open = true } in
     let reach : reached pen.at c.args.by ≡ Ok at = search rules in
-    stroke_drawn (Move c.args.by) pen there (closing pen) (MoveTo at) (standing at _) _ (moved pen c.args.by at reach) refl c.in_ok-end.ensures.ended c.in_ok-add.ensures.taken
+    stroke_drawn (Move c.args.by) pen there (closing pen) (MoveTo at) (standing at _) _
+    (moved pen c.args.by at reach) refl c.in_ok-end.ensures.ended c.in_ok-add.ensures.taken

@@ -19,7 +19,9 @@ span-front-requires t c =
     )
 
 pub back-requires : goal.back-requires
-back-requires t c = let small = few-parts c.args.unit c.args.halvings c.requires.parts in record { from = omega arith; first = omega arith; second = omega arith; to = omega arith }
+back-requires t c =
+    let small = few-parts c.args.unit c.args.halvings c.requires.parts in
+    record { from = omega arith; first = omega arith; second = omega arith; to = omega arith }
 
 pub overflow_mul-unit-2 : goal.overflow_mul-unit-2
 overflow_mul-unit-2 t c = let small = few-parts c.args.unit c.args.halvings c.requires.parts in record { fits = omega arith }
@@ -44,4 +46,5 @@ returns t c =
     let unit = c.args.unit in
     let first = subst (Spans c.span-front.result (8 * unit)) c.front.ensures c.span-front.ensures in
     let second = subst (Spans c.span-back.result (8 * unit)) c.back.ensures c.span-back.ensures in
-    subst (λ s. Spans s unit c.args.self) (sym c.joined.ensures) (joined-spans c.args.self c.span-front.result c.span-back.result unit first second)
+    subst (λ s. Spans s unit c.args.self) (sym c.joined.ensures)
+    (joined-spans c.args.self c.span-front.result c.span-back.result unit first second)

@@ -19,5 +19,6 @@ returns-in-Groups c =
     rw c.in-Groups.is (record {
       behind = c.next_held-in-Groups.ensures.behind;
       within = c.next_held-in-Groups.ensures.within;
-      none = λ k from below. lost (first12 table) (last12 table) (gives12 table) c.in-Groups.groups.count k (c.next_held-in-Groups.ensures.none k from below);
+      none = λ k from below. lost (first12 table) (last12 table) (gives12 table) c.in-Groups.groups.count k
+          (c.next_held-in-Groups.ensures.none k from below);
     })

@@ -13,7 +13,8 @@ loop-links-preserved c =
       within = i.chain.within char i.within;
       behind = omega (arith, i.behind, i.chain.onward char i.within);
       chain = halved_chain links char next (get_or links next 0) i.chain i.within refl refl;
-      links = λ first last count to are. halved_links links char next (get_or links next 0) i.chain i.within refl refl c.loop-links-test.true first last count to (i.links first last count to are);
+      links = λ first last count to are. halved_links links char next
+          (get_or links next 0) i.chain i.within refl refl c.loop-links-test.true first last count to (i.links first last count to are);
       over = λ first last count to are k behind below. elim (cases_lt k char) [
         | inl before ↦ i.over first last count to are k behind before
         | inr past ↦ (i.links first last count to are).over char k i.within past below

@@ -9,7 +9,8 @@ invariant-loop-links l = record {
   behind : l.from ≤ l.char;
   chain : IsChain l.links;
   links : (first last : ℕ → ℕ) (count to : ℕ) → AreLinks first last count to l.fn.links → AreLinks first last count to l.links;
-  over : (first last : ℕ → ℕ) (count to : ℕ) → AreLinks first last count to l.fn.links → (k : ℕ) → l.from ≤ k → k < l.char → IsHeldTo first last count to k;
+  over : (first last : ℕ → ℕ) (count to : ℕ) → AreLinks first last count to l.fn.links → (k : ℕ) → l.from ≤ k → k < l.char →
+      IsHeldTo first last count to k;
 }
 
 abbrev pub decreases-loop-links : goal.decreases-loop-links

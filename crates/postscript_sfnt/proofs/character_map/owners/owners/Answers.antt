@@ -11,7 +11,12 @@ pub loop-i-init : goal.loop-i-init
 loop-i-init c =
     let firsts : ℕ → ℕ = λ k. get_or c.args.firsts.now k 0 in
     let lasts : ℕ → ℕ = λ k. get_or c.args.lasts.now k 0 in
-    record { owners = c.in_ok-owners.ensures firsts lasts; chain = c.in_ok-links.ensures.chain; links = c.in_ok-links.ensures.links firsts lasts }
+    record {
+      owners =
+          c.in_ok-owners.ensures firsts lasts;
+      chain = c.in_ok-links.ensures.chain;
+      links = c.in_ok-links.ensures.links firsts lasts;
+    }
 
 pub paint-requires-clause-links : goal.paint-requires-clause-links
 paint-requires-clause-links c =
@@ -25,8 +30,10 @@ loop-i-preserved c =
     let lasts : ℕ → ℕ = λ k. get_or c.args.lasts.now k 0 in
     let old = c.loop-i in
     let new = c.paint in
-    let owners = back old.owners.len new.new.owners (drop (length new.new.owners) old.owners.items) (omega (arith, new.ensures.owners.all, old.invariant.owners.all, old.owners.ok.0)) in
-    let links = back old.links.len new.new.links (drop (length new.new.links) old.links.items) (omega (arith, new.ensures.chain.all, old.invariant.chain.all, old.links.ok.0)) in
+    let owners = back old.owners.len new.new.owners (drop (length new.new.owners) old.owners.items)
+    (omega (arith, new.ensures.owners.all, old.invariant.owners.all, old.owners.ok.0)) in
+    let links = back old.links.len new.new.links (drop (length new.new.links) old.links.items)
+    (omega (arith, new.ensures.chain.all, old.invariant.chain.all, old.links.ok.0)) in
     record {
       owners = subst (λ (xs : List ℕ). AreOwners firsts lasts (old.i + 1) xs) owners new.ensures.owners;
       chain = subst (λ (xs : List ℕ). IsChain xs) links new.ensures.chain;

@@ -12,4 +12,5 @@ returns-else-others-eq0-clause-count c = some-alone c.args.bytes c.fits-bytes.0 
 
 pub returns-else-others-eq0-clause-room : goal.returns-else-others-eq0-clause-room
 returns-else-others-eq0-clause-room c =
-    subst (λ n. n ≤ 8) (sym (returns-else-others-eq0-clause-count c)) (omega (arith, prefix_len-le-length is_alone c.args.bytes, c.fits-bytes.0))
+    subst (λ n. n ≤ 8) (sym (returns-else-others-eq0-clause-count c))
+    (omega (arith, prefix_len-le-length is_alone c.args.bytes, c.fits-bytes.0))

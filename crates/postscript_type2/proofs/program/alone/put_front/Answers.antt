@@ -9,4 +9,12 @@ returns-clause-stack c =
     let stack = c.args.stack.now.items in
     let whole = ap length c.in_ok-put_all.ensures.stack in
     rw (c.truncate.ensures.items, c.in_ok-put_all.ensures.stack)
-    (kept stack c.args.bytes c.alone_front-count.result _ (omega (arith, c.len.ensures, whole, length-append stack (map alone c.args.bytes), length-map c.args.bytes alone, c.alone_front-count.ensures.room)))
+    (kept stack c.args.bytes c.alone_front-count.result _
+    (omega (
+      arith,
+      c.len.ensures,
+      whole,
+      length-append stack (map alone c.args.bytes),
+      length-map c.args.bytes alone,
+      c.alone_front-count.ensures.room,
+    )))

@@ -18,5 +18,15 @@ returns c =
     ∙ more stack _ _ (c.push_reserved-3.ensures.items
     ∙ more stack _ _ (c.push_reserved-2.ensures.items
     ∙ more stack _ _ c.push_reserved.ensures.items))))))
-    ∙ rw (c.alone.ensures, c.alone-2.ensures, c.alone-3.ensures, c.alone-4.ensures, c.alone-5.ensures, c.alone-6.ensures, c.alone-7.ensures, c.alone-8.ensures, c.as_array.ensures)
+    ∙ rw (
+      c.alone.ensures,
+      c.alone-2.ensures,
+      c.alone-3.ensures,
+      c.alone-4.ensures,
+      c.alone-5.ensures,
+      c.alone-6.ensures,
+      c.alone-7.ensures,
+      c.alone-8.ensures,
+      c.as_array.ensures,
+    )
     (ap (λ v. stack ++ map alone v) (pick_l_whole 0 c.args.bytes 8 (omega arith)))

@@ -6,7 +6,8 @@ use Rattle.postscript_type2.proofs.program.routine.phrase_at.Given as goal
 abbrev pub invariant-loop-first : goal.invariant-loop-first
 invariant-loop-first l = record {
   within : l.next ≤ length l.code;
-  passed : (k : ℕ) × (l.next ≡ l.fn.place + k) × (fronted l.stack.items k (phrase (drop l.next l.code)) ≡ fronted l.fn.stack.items 0 (phrase (drop l.fn.place l.code)));
+  passed : (k : ℕ) × (l.next ≡ l.fn.place + k) × (fronted l.stack.items k (phrase (drop l.next l.code)) ≡ fronted l.fn.stack.items 0
+      (phrase (drop l.fn.place l.code)));
 }
 
 abbrev pub decreases-loop-first : goal.decreases-loop-first

@@ -11,7 +11,14 @@ returns-in-Ok-Some c =
     let goes : (c.match-self.self-inside.phase ≡ phases.Running) × (c.args.self.now ≡ begun (still_of c.match-self.self-inside.machine)) =
     elim c.match-self.branch [ in-Running w ↦ search rules | in-Paused w ↦ search rules ] in (
       (refl, λ _. tt, search rules),
-      record { steps = tt; head = ((still_emptied c.reach.new.self).answers, search rules); listed = tt; ended = search rules; failed = search rules },
+      record {
+        steps =
+            tt;
+        head = ((still_emptied c.reach.new.self).answers, search rules);
+        listed = tt;
+        ended = search rules;
+        failed = search rules;
+      },
     )
 
 pub returns-in-Ok-None : goal.returns-in-Ok-None

@@ -26,7 +26,15 @@ returns-in-Ok-At c =
     let goes : (c.match-self.self-inside.phase ≡ phases.Running) × (c.args.self.now ≡ begun (still_of c.match-self.self-inside.machine)) =
     elim c.match-self.branch [ in-Running w ↦ search rules | in-Paused w ↦ search rules ] in (
       (refl, λ _. tt, search rules),
-      record { steps = tt; head = ((still_emptied c.reach_within.new.self).answers, search rules); listed = tt; ended = search rules; failed = search rules; suffices = search rules },
+      record {
+        steps =
+            tt;
+        head = ((still_emptied c.reach_within.new.self).answers, search rules);
+        listed = tt;
+        ended = search rules;
+        failed = search rules;
+        suffices = search rules;
+      },
     )
 
 pub returns-in-Ok-End : goal.returns-in-Ok-End
@@ -42,10 +50,12 @@ returns-in-Ok-Paused c =
     let goes : (c.match-self.self-inside.phase ≡ phases.Running) × (c.args.self.now ≡ begun (still_of c.match-self.self-inside.machine)) =
     elim c.match-self.branch [ in-Running w ↦ search rules | in-Paused w ↦ search rules ] in
     let there = ap (λ (p : Pending). p.costs) goes.1 in
-    let reaches = subst (λ reach. ReachesWithin (still_of c.match-self.self-inside.machine) c.args.limit.now (Ok reach) c.reach_within.new.self c.reach_within.new.limit)
+    let reaches = subst (λ reach. ReachesWithin (still_of c.match-self.self-inside.machine) c.args.limit.now
+    (Ok reach) c.reach_within.new.self c.reach_within.new.limit)
     c.in-Ok-Paused.field-0-is c.in-Ok-Paused.ensures.reaches in
     let spends : Spends c.args.limit.now c.args.self.now.costs c.reach_within.new.limit (still_of c.reach_within.new.self).costs =
-    subst (λ costs. Spends c.args.limit.now costs c.reach_within.new.limit (still_of c.reach_within.new.self).costs) (sym there) reaches.3 in
+    subst (λ costs. Spends c.args.limit.now costs c.reach_within.new.limit (still_of c.reach_within.new.self).costs)
+    (sym there) reaches.3 in
     let none : c.reach_within.new.limit ≡ 0 = search rules in (
       (refl, λ _. tt, search rules),
       record {
@@ -54,7 +64,8 @@ returns-in-Ok-Paused c =
         listed = tt;
         ended = search rules;
         failed = search rules;
-        suffices = λ less _. runs-out c.args.limit.now c.args.self.now.costs c.reach_within.new.limit (still_of c.reach_within.new.self).costs spends none less;
+        suffices = λ less _. runs-out c.args.limit.now c.args.self.now.costs c.reach_within.new.limit
+            (still_of c.reach_within.new.self).costs spends none less;
       },
     )
 
@@ -63,5 +74,13 @@ returns-in-Err c =
     let goes : (c.match-self.self-inside.phase ≡ phases.Running) × (c.args.self.now ≡ begun (still_of c.match-self.self-inside.machine)) =
     elim c.match-self.branch [ in-Running w ↦ search rules | in-Paused w ↦ search rules ] in (
       (refl, λ _. tt, search rules),
-      record { steps = tt; head = search rules; listed = grind (arith, machine-ends); ended = search rules; failed = search rules; suffices = search rules },
+      record {
+        steps =
+            tt;
+        head = search rules;
+        listed = grind (arith, machine-ends);
+        ended = search rules;
+        failed = search rules;
+        suffices = search rules;
+      },
     )

@@ -11,7 +11,13 @@ loop-glyph-preserved c =
     let glyph = c.loop-glyph.glyph in
     let here : Names set glyph c.args.identifier → ⊥ =
     λ names. elim c.match-identifier.branch [
-      | in-Some+else-found-identifier w ↦ absurd (grind (arith, nat_tests, named_once set glyph w.in-Some.found c.args.identifier w.in-Some.ensures.found names, w.if-found-identifier.false))
+      | in-Some+else-found-identifier w ↦ absurd
+          (grind (
+            arith,
+            nat_tests,
+            named_once set glyph w.in-Some.found c.args.identifier w.in-Some.ensures.found names,
+            w.if-found-identifier.false,
+          ))
       | in_default w ↦ w.in_default.ensures.none c.args.identifier names
     ] in
     one_more set c.args.identifier glyph c.loop-glyph.invariant here

@@ -13,7 +13,12 @@ returns-in-Some c =
     let local = items_of glyph.part.now.subroutines in
     let run = run_of (lent (items_of glyph.global_subroutines) local) glyph.code.now in
     let has : HasRun font c.args.i glyph.part.now run =
-    record { code = glyph.code.now; has = c.in-Some.ensures.found; runs = ap (λ global. run_of (lent global local) glyph.code.now) c.in-Some.ensures.subroutines } in
+    record {
+      code =
+          glyph.code.now;
+      has = c.in-Some.ensures.found;
+      runs = ap (λ global. run_of (lent global local) glyph.code.now) c.in-Some.ensures.subroutines;
+    } in
     record {
       found = found c.advance.result font c.args.i glyph.part.now run has c.advance.ensures.advance;
       none = none c.advance.result font c.args.i glyph.part.now run has c.advance.ensures.advance;

@@ -12,7 +12,8 @@ returns-in_default-clause-alone c = λ part one.
     let codes = items_of c.args.self.now.char_strings in
     let single : length parts ≡ 1 = ap length one in
     let not_there : c.args.i < length codes → ⊥ =
-    λ there. c.in_default.ensures.none 0 (record { glyph_there = there; part_there = omega (arith, single); selected = inl (single, refl) }) in
+    λ there. c.in_default.ensures.none 0
+    (record { glyph_there = there; part_there = omega (arith, single); selected = inl (single, refl) }) in
     let past : length codes ≤ c.args.i = omega (arith, not_there) in
     (sym (slice_get_past codes c.args.i past), tt)
 
@@ -24,6 +25,7 @@ returns-clause-found c =
     record {
       number = number;
       has_number = c.in-Some.ensures.found;
-      has_part = subst (λ parts. slice_get parts number ≡ Some part) c.deref.ensures.value (slice_get_read _ _ number part refl (ltb-true _ _ (sym lookup.0)) lookup.1);
+      has_part = subst (λ parts. slice_get parts number ≡ Some part) c.deref.ensures.value
+          (slice_get_read _ _ number part refl (ltb-true _ _ (sym lookup.0)) lookup.1);
       has_code = sym c.in-Some-Some.ensures;
     }

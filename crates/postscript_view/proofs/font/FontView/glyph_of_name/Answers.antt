@@ -21,4 +21,6 @@ loop-glyph-preserved c =
     one_more_name font set name glyph c.loop-glyph.invariant here
 
 pub returns-clause-none : goal.returns-clause-none
-returns-clause-none c = no_more_names (view_shown c.args.self.now) c.args.set.now c.args.name.now c.loop-glyph.glyph (omega (arith, c.loop-glyph-test.false, c.len-glyph-end.ensures)) c.loop-glyph.invariant
+returns-clause-none c =
+    no_more_names (view_shown c.args.self.now) c.args.set.now c.args.name.now c.loop-glyph.glyph
+    (omega (arith, c.loop-glyph-test.false, c.len-glyph-end.ensures)) c.loop-glyph.invariant

@@ -11,4 +11,5 @@ returns-clause-none c =
     let font = c.args.self.now in
     let set = c.args.set.now in
     let glyph = c.args.glyph in
-    name_none c.string.result (view_shown font) set glyph (string_none c.string.result set (items_of font.strings) glyph c.in-Some.identifier c.in-Some.ensures.found c.string.ensures)
+    name_none c.string.result (view_shown font) set glyph
+    (string_none c.string.result set (items_of font.strings) glyph c.in-Some.identifier c.in-Some.ensures.found c.string.ensures)

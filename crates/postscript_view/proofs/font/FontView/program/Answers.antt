@@ -8,5 +8,10 @@ use Rattle.postscript_view.proofs.font.FontView.program.Goals as goal
 pub returns-clause-found : goal.returns-clause-found
 returns-clause-found c =
     let code = c.in-Some.glyph.code.now in
-    let part = c.in-Some.glyph.part.now in
-    (code, part, c.in-Some.ensures.found, subst (λ global. c.program.result ≡ begun (run_of (lent global (items_of part.subroutines)) code)) c.in-Some.ensures.subroutines c.program.ensures)
+    let part = c.in-Some.glyph.part.now in (
+      code,
+      part,
+      c.in-Some.ensures.found,
+      subst (λ global. c.program.result ≡ begun (run_of (lent global (items_of part.subroutines)) code)) c.in-Some.ensures.subroutines
+          c.program.ensures,
+    )

@@ -4,4 +4,5 @@ use Rattle.postscript_view.specs.Marks.{AreSet}
 use Rattle.postscript_view.proofs.marks.Marks.before.Given as goal
 
 abbrev pub invariant-loop-r : goal.invariant-loop-r
-invariant-loop-r l = record { marked : AreSet l.ranges l.size l.marks.places l.marks.covers l.marks.set; counted : l.covered ≡ covered l.ranges l.size l.r }
+invariant-loop-r l =
+    record { marked : AreSet l.ranges l.size l.marks.places l.marks.covers l.marks.set; counted : l.covered ≡ covered l.ranges l.size l.r }

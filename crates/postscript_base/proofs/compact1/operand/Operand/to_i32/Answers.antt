@@ -9,10 +9,20 @@ use Rattle.postscript_base.proofs.compact1.operand.Operand.to_i32.Goals as goal
 use Rattle.postscript_base.proofs.compact1.operand.Operand.to_i32.Goals.{then-exponent-lt0-via-then-exponent-lt0, then-exponent-lt0-via-else-exponent-lt0+then-exponent-gt9}
 
 pub returns-then-exponent-lt0-clause-exact : goal.returns-then-exponent-lt0-clause-exact
-returns-then-exponent-lt0-clause-exact c = grind (arith, then-exponent-lt0-via-then-exponent-lt0, i32_below, ints, to_z-of_z, then-exponent-lt0-via-else-exponent-lt0+then-exponent-gt9, i32_above)
+returns-then-exponent-lt0-clause-exact c =
+    grind (
+      arith,
+      then-exponent-lt0-via-then-exponent-lt0,
+      i32_below,
+      ints,
+      to_z-of_z,
+      then-exponent-lt0-via-else-exponent-lt0+then-exponent-gt9,
+      i32_above,
+    )
 
 pub returns-then-exponent-lt0-clause-none : goal.returns-then-exponent-lt0-clause-none
-returns-then-exponent-lt0-clause-none c = none_if_none _ c.args.self.now c.mantissa-mantissa.ensures.operand (returns-then-exponent-lt0-clause-exact c)
+returns-then-exponent-lt0-clause-none c =
+    none_if_none _ c.args.self.now c.mantissa-mantissa.ensures.operand (returns-then-exponent-lt0-clause-exact c)
 
 pub returns-clause-exact : goal.returns-clause-exact
 returns-clause-exact c =
@@ -20,7 +30,10 @@ returns-clause-exact c =
     let is = c.exponent-exponent.ensures in
     let low = c.if-exponent-lt0.false in
     let wide : to_z w128 (of_z w128 c.raised.result) ≡ c.raised.result = grind (arith, ints, to_z-of_z) in
-    let power = wide ∙ c.raised.ensures ∙ scaled_at (to_z w64 (of_z w64 c.mantissa-mantissa.result)) d.mantissa (unsigned_abs (to_z w32 (of_z w32 c.exponent-exponent.result))) (unsigned_abs d.exponent) (grind (arith, ints, to_z-of_z)) (grind (arith, ints, to_z-of_z)) in
+    let power = wide ∙ c.raised.ensures
+    ∙ scaled_at (to_z w64 (of_z w64 c.mantissa-mantissa.result)) d.mantissa
+    (unsigned_abs (to_z w32 (of_z w32 c.exponent-exponent.result))) (unsigned_abs d.exponent) (grind (arith, ints, to_z-of_z))
+    (grind (arith, ints, to_z-of_z)) in
     finds_whole c.in_32_bits.result d c.mantissa-mantissa.ensures.operand (grind (arith, ints, to_z-of_z))
     (subst (λ x. IfSome c.in_32_bits.result (λ v. (v ≡ x) × IsOf32Bits v)) power c.in_32_bits.ensures.some)
     (subst (λ x. IfNone c.in_32_bits.result (IsOf32Bits x → ⊥)) power c.in_32_bits.ensures.none)

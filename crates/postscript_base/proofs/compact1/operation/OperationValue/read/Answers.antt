@@ -5,7 +5,12 @@ use Rattle.postscript_base.proofs.OperationSteps.{starts, goes_on, ends, refused
 use Rattle.postscript_base.proofs.compact1.operation.OperationValue.read.Goals as goal
 
 pub operands-init : goal.operands-init
-operands-init g c = λ honest. ((honest, refl), starts c.in_ok-operands.operands.items (g.T.ReadSeek.state c.args.tape.now).bytes (g.T.ReadSeek.state c.args.tape.now).place c.in_ok-operands.ensures.items)
+operands-init g c =
+    λ honest. (
+      (honest, refl),
+      starts c.in_ok-operands.operands.items (g.T.ReadSeek.state c.args.tape.now).bytes
+          (g.T.ReadSeek.state c.args.tape.now).place c.in_ok-operands.ensures.items,
+    )
 
 pub returns-in_err-operator-clause-exact : goal.returns-in_err-operator-clause-exact
 returns-in_err-operator-clause-exact g c = λ honest.

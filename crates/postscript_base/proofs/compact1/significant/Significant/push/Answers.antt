@@ -22,12 +22,15 @@ returns-then-self-eq0-clause-keeps c = grind arith
 pub returns-then-mantissa-lt-LONG-clause-keeps : goal.returns-then-mantissa-lt-LONG-clause-keeps
 returns-then-mantissa-lt-LONG-clause-keeps c = λ n h.
     let s = c.args.self in
-    short_more s.mantissa s.zeros n c.args.digit _ c.if-digit-eq0.false c.requires.digit (cc) c.if-mantissa-lt-LONG.true (as_short s.is_long s.mantissa s.zeros n c.if-self.false h)
+    short_more s.mantissa s.zeros n c.args.digit _ c.if-digit-eq0.false c.requires.digit (cc) c.if-mantissa-lt-LONG.true
+    (as_short s.is_long s.mantissa s.zeros n c.if-self.false h)
 
 pub returns-else-mantissa-lt-LONG-clause-keeps : goal.returns-else-mantissa-lt-LONG-clause-keeps
 returns-else-mantissa-lt-LONG-clause-keeps c = λ n h.
     let s = c.args.self in
-    short_long s.mantissa s.zeros n c.args.digit (c.from.result * c.pow.result + c.from-then-self-lt18.result) c.if-digit-eq0.false c.requires.digit (cc) c.if-mantissa-lt-LONG.false (as_short s.is_long s.mantissa s.zeros n c.if-self.false h)
+    short_long s.mantissa s.zeros n c.args.digit
+    (c.from.result * c.pow.result + c.from-then-self-lt18.result) c.if-digit-eq0.false c.requires.digit (cc) c.if-mantissa-lt-LONG.false
+    (as_short s.is_long s.mantissa s.zeros n c.if-self.false h)
 
 pub returns-else-self-lt18-clause-keeps : goal.returns-else-self-lt18-clause-keeps
 returns-else-self-lt18-clause-keeps c = grind (arith, short_far, as_short)

@@ -14,7 +14,8 @@ passed : (known : Option (List ℕ)) (all : List ℕ) (place more : ℕ) → IfS
 passed None all place more is = tt
 passed (Some bytes) all place more is =
     let count : place + more - place ≡ more = omega arith in
-    rw (count, is) (sym (take-append-drop more (drop place bytes)) ∙ ap (λ rest. take more (drop place bytes) ++ rest) (drop-drop more place bytes))
+    rw (count, is) (sym (take-append-drop more (drop place bytes))
+    ∙ ap (λ rest. take more (drop place bytes) ++ rest) (drop-drop more place bytes))
 
 pub returns-clause-bytes : goal.returns-clause-bytes
 returns-clause-bytes g c = grind (arith, behind, passed)

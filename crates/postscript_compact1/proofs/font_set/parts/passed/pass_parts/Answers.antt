@@ -11,8 +11,12 @@ returns-in_err-pass_part-clause-exact g c = λ honest.
     let so_far = c.loop-dictionary.invariant honest in
     let read = c.in_err-pass_part.ensures.exact so_far.0.0 in
     let here = rw (so_far.0.1) at read.1 in
-    let error = err_from_is_err_and c.from_residual.result c.from_residual.ensures.1 in
-    ((read.0.0, read.0.1 ∙ so_far.0.1), rw (error.1, error.2) (λ other. refused_after _ _ _ (ends (passed_part c.args.manner c.args.start) so_far.1.0 c.args.dictionaries.now c.loop-dictionary.dictionary-index c.dictionary-item.result _ _ _ _ c.loop-dictionary-test.true c.dictionary-item.is (here other) so_far.1.1)))
+    let error = err_from_is_err_and c.from_residual.result c.from_residual.ensures.1 in (
+      (read.0.0, read.0.1 ∙ so_far.0.1),
+      rw (error.1, error.2) (λ other. refused_after _ _ _
+          (ends (passed_part c.args.manner c.args.start) so_far.1.0 c.args.dictionaries.now c.loop-dictionary.dictionary-index
+          c.dictionary-item.result _ _ _ _ c.loop-dictionary-test.true c.dictionary-item.is (here other) so_far.1.1)),
+    )
 
 pub loop-dictionary-preserved : goal.loop-dictionary-preserved
 loop-dictionary-preserved g c = λ honest.
@@ -22,7 +26,8 @@ loop-dictionary-preserved g c = λ honest.
       (read.0.0, read.0.1 ∙ so_far.0.1),
       (
         so_far.1.0 ++ tt ∷ [],
-        goes_on (passed_part c.args.manner c.args.start) so_far.1.0 c.args.dictionaries.now c.loop-dictionary.dictionary-index c.dictionary-item.result _ _ _ tt _ c.loop-dictionary-test.true c.dictionary-item.is here so_far.1.1,
+        goes_on (passed_part c.args.manner c.args.start) so_far.1.0 c.args.dictionaries.now c.loop-dictionary.dictionary-index
+            c.dictionary-item.result _ _ _ tt _ c.loop-dictionary-test.true c.dictionary-item.is here so_far.1.1,
       ),
     )
 

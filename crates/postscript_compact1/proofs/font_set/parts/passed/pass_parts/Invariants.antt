@@ -11,4 +11,5 @@ invariant-loop-dictionary g l =
     let old = g.T.ReadSeek.state l.fn.tape in
     let new = g.T.ReadSeek.state l.tape in
     IsHonest old → Kept old new × ((done : List (Unit {0}))
-    × (with_front done (each (passed_part l.manner l.start) (drop l.dictionary-index l.dictionaries) old.bytes new.place) ≡ each (passed_part l.manner l.start) l.dictionaries old.bytes old.place))
+    × (with_front done (each (passed_part l.manner l.start) (drop l.dictionary-index l.dictionaries) old.bytes new.place) ≡ each
+    (passed_part l.manner l.start) l.dictionaries old.bytes old.place))

@@ -8,7 +8,8 @@ use Rattle.postscript_compact1.proofs.index.dictionaries.Dictionaries.into.Given
 abbrev pub invariant-maps : goal.invariant-maps
 invariant-maps l =
     let items = l.fn.self.items in
-    (bytes : List ℕ) (place : ℕ) → with_front l.maps.items (each map_of (drop (vec_len l.maps) items) bytes place) ≡ each map_of items bytes place
+    (bytes : List ℕ) (place : ℕ) → with_front l.maps.items
+    (each map_of (drop (vec_len l.maps) items) bytes place) ≡ each map_of items bytes place
 
 abbrev pub decreases-maps : goal.decreases-maps
 decreases-maps l = length l.fn.self.items - vec_len l.maps

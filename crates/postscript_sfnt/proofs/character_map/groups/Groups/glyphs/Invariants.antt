@@ -6,5 +6,6 @@ use Rattle.postscript_sfnt.proofs.character_map.groups.Groups.glyphs.Given as go
 abbrev pub invariant-loop-char : goal.invariant-loop-char
 invariant-loop-char l = record {
   all : length l.glyphs.items ≡ l.char;
-  each : (k : ℕ) → k < l.char → IsGlyphOf (first12 l.self.table.now) (last12 l.self.table.now) (gives12 l.self.table.now) l.self.count k (get_or l.glyphs.items k 0);
+  each : (k : ℕ) → k < l.char → IsGlyphOf (first12 l.self.table.now) (last12 l.self.table.now)
+      (gives12 l.self.table.now) l.self.count k (get_or l.glyphs.items k 0);
 }

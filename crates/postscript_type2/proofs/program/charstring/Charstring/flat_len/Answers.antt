@@ -8,7 +8,8 @@ use Rattle.postscript_type2.proofs.Telling.{of-meant}
 use Rattle.postscript_type2.proofs.program.charstring.Charstring.flat_len.Goals as goal
 
 pub returns-clause-listed : goal.returns-clause-listed
-returns-clause-listed c = flatten-listed c.measured.result (still_of c.over.result).end (machine-ends c.over.result) c.measured.ensures.refused
+returns-clause-listed c =
+    flatten-listed c.measured.result (still_of c.over.result).end (machine-ends c.over.result) c.measured.ensures.refused
 
 pub returns-clause-meant : goal.returns-clause-meant
 returns-clause-meant c = of-meant (λ len. len) flat_len (lists_of c.args.self.subroutines) c.args.self.code.now c.measured.result

@@ -20,7 +20,8 @@ pub returns-clause-law : goal.returns-clause-law
 returns-clause-law c = law
 
 pub returns-clause-listed : goal.returns-clause-listed
-returns-clause-listed c = flatten-listed c.flat_code.result (still_of c.over.result).end (machine-ends c.over.result) c.flat_code.ensures.refused
+returns-clause-listed c =
+    flatten-listed c.flat_code.result (still_of c.over.result).end (machine-ends c.over.result) c.flat_code.ensures.refused
 
 pub returns-clause-meant : goal.returns-clause-meant
 returns-clause-meant c = of-meant (λ v. v.items) flat_text (lists_of c.args.self.subroutines) c.args.self.code.now c.flat_code.result

@@ -8,7 +8,9 @@ use Rattle.postscript_type2.proofs.program.charstring.Charstring.run.Goals.{Afte
 use Rattle.postscript_type2.proofs.program.charstring.Charstring.run.Goals as goal
 
 -- what the run of the code tells
-told : (c : After-drop-program-2) → MatchResult c.all_answers.result (λ told. Tells told (run_of (lists_of c.args.self.subroutines) c.args.self.code.now)) (λ e. e ≡ Memory)
+told : (c : After-drop-program-2) →
+    MatchResult c.all_answers.result (λ told. Tells told (run_of (lists_of c.args.self.subroutines) c.args.self.code.now))
+    (λ e. e ≡ Memory)
 told c = grind arith
 
 pub returns-clause-listed : goal.returns-clause-listed

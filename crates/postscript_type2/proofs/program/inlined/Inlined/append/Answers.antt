@@ -8,4 +8,5 @@ returns-in_ok-extend_from_slice-in-Stands-clause-ok c =
     let is = c.in-Stands.ensures in
     let added = (c.in_ok-extend_from_slice-in-Stands.ensures).items in
     let all : c.len-self.result ≡ length c.extend_from_slice.new.self.items = search rules in
-    stands-written c.args.self.now (record { code = c.extend_from_slice.new.self; whole = c.len-self.result }) c.in-Stands.bytes.now is.0 (said_of c.args.said) added all is.1
+    stands-written c.args.self.now (record { code = c.extend_from_slice.new.self; whole = c.len-self.result }) c.in-Stands.bytes.now is.0
+    (said_of c.args.said) added all is.1
