@@ -2,12 +2,11 @@
 use Rattle.std.specs.Prelude.{◌≡◌, ◌≢◌, ◌⊎◌, ℕ, ℤ, Bool, true, pos, List, [], length, Result, Ok, Err, IfOk, IfErr, OnOk, Vec}
 use Rattle.std.specs.declared.alloc.Global.{Global}
 use Rattle.postscript_base.specs.Error.{code}
-use Rattle.postscript_base.specs.Tape.Outcome.{Got}
 use Rattle.postscript_c.specs.Fitting.{FirstFits, TellsFits}
 use Rattle.postscript_c.specs.Texts.{HandsOver, Lent}
 use Rattle.postscript_c.specs.declared.written.PsfRefusal.{PsfRefusal}
-use Rattle.postscript_view.specs.Order.{view}
 use Rattle.postscript_view.specs.Contents.{View}
+use Rattle.postscript_view.specs.Layout.{IsLaidOut}
 use Rattle.postscript_write.specs.Components.{IsSubset as IsSubsetFont}
 use Rattle.postscript_write.specs.Drawings.{DrawsKept, KeepsDrawings}
 use Rattle.postscript_write.specs.Glyphs.{Sources}
@@ -67,5 +66,5 @@ pub record IsSubset (kept : Bool) (sources : (closed : List ℕ) (glyphs : ℕ) 
   pub written : IfOk answer (λ flat. IsSubsetFont kept sources named bytes flat.items)
   pub drawn : IfOk answer (λ flat. DrawsKept sources named bytes flat.items)
   pub refused : IfErr answer (λ e. IsSubsetRefusedBy named sources bytes e)
-  pub there : OnOk answer ((font : View) → view bytes 0 ≡ Got font 0 → AreThere named (length font.char_strings))
+  pub there : OnOk answer ((font : View) → IsLaidOut bytes 0 font → AreThere named (length font.char_strings))
   pub some : named ≡ [] → answer ≡ Err NoGlyphs

@@ -4,6 +4,7 @@ use Rattle.std.specs.Prelude.{◌⊎◌, ◌↔◌, ◌&&◌, Option, Some, None
 use Rattle.std.proofs.lemmas.Bool.{leb-true, ltb-true}
 use Rattle.std.proofs.lemmas.List.{length-map}
 use Rattle.postscript_base.specs.Compact1.Defaults.{look}
+use Rattle.postscript_write.proofs.ReadAgain.{one_view}
 use Rattle.postscript_write.proofs.Operators.{ros-stays}
 use Rattle.postscript_write.specs.declared.error.Error.{Error}
 use Rattle.std.specs.declared.alloc.Global.{Global}
@@ -13,14 +14,13 @@ use Rattle.postscript_drawing.specs.Accents.{IsAccent}
 use Rattle.postscript_drawing.specs.Components.{IsComponent, glyphs_of, standard_identifier}
 use Rattle.postscript_drawing.specs.Refused.{IsAccented}
 use Rattle.postscript_drawing.specs.declared.accent.Accent.{Accent}
-use Rattle.postscript_base.specs.Tape.Outcome.{Got}
 use Rattle.postscript_base.specs.Index.Lent.{items_of}
 use Rattle.postscript_type2.specs.Program.Runs.{Run}
 use Rattle.postscript_type2.specs.Program.Routines.{lent}
 use Rattle.postscript_view.specs.Advances.{HasRun}
 use Rattle.postscript_view.specs.CharSets.{IsCharSetOf}
 use Rattle.postscript_view.specs.Cids.{IsCidKeyed}
-use Rattle.postscript_view.specs.Order.{view as the_view}
+use Rattle.postscript_view.specs.Layout.{IsLaidOut}
 use Rattle.postscript_view.specs.Contents.{View, PrivateDict as ShownDict}
 use Rattle.postscript_view.specs.Naming.{IsFirstNamed, Names}
 use Rattle.postscript_view.specs.Select.{IsSelected}
@@ -106,16 +106,16 @@ from-shown font glyph run h = by (slice_get font.parts.items h.number) refl
         )
 
 -- a font that is opened shows the view of its bytes
-shows : (bytes : List ℕ) (font : FontView) (v : View) → IsOpened bytes font → the_view bytes 0 ≡ Got v 0 → view_shown font ≡ v
-shows bytes font v opened is = let both : Got (view_shown font) 0 ≡ Got v 0 = sym opened.shown ∙ is in cc
+shows : (bytes : List ℕ) (font : FontView) (v : View) → IsOpened bytes font → IsLaidOut bytes 0 v → view_shown font ≡ v
+shows bytes font v opened is = one_view bytes v (view_shown font) is opened.laid
 
 run-at : (bytes : List ℕ) (font : FontView) (v : View) (glyph : ℕ) (part : PrivateDict) (run : Run) → IsOpened bytes font →
-    the_view bytes 0 ≡ Got v 0 → HasRun font glyph part run → RunAt bytes v glyph run
+    IsLaidOut bytes 0 v → HasRun font glyph part run → RunAt bytes v glyph run
 run-at bytes font v glyph part run opened is has =
     subst (λ (v : View). RunAt bytes v glyph run) (shows bytes font v opened is)
     (subst (λ (bs : List ℕ). RunAt bs (view_shown font) glyph run) opened.there (to-shown font glyph part run has))
 
-run-from : (bytes : List ℕ) (font : FontView) (v : View) (glyph : ℕ) (run : Run) → IsOpened bytes font → the_view bytes 0 ≡ Got v 0 →
+run-from : (bytes : List ℕ) (font : FontView) (v : View) (glyph : ℕ) (run : Run) → IsOpened bytes font → IsLaidOut bytes 0 v →
     RunAt bytes v glyph run → (part : PrivateDict) × HasRun font glyph part run
 run-from bytes font v glyph run opened is at =
     from-shown font glyph run
@@ -129,14 +129,14 @@ record ComponentAt (bytes : List ℕ) (font : View) (code glyph : ℕ) : Type 0 
   pub is_set : IsCharSetOf set bytes font.tables.dictionary (length font.char_strings)
   pub first : IsFirstNamed set (standard_identifier code) (length font.char_strings) glyph
 
-component-at : (bytes : List ℕ) (font : FontView) (v : View) (code glyph : ℕ) → IsOpened bytes font → the_view bytes 0 ≡ Got v 0 →
+component-at : (bytes : List ℕ) (font : FontView) (v : View) (code glyph : ℕ) → IsOpened bytes font → IsLaidOut bytes 0 v →
     IsComponent font code glyph → ComponentAt bytes v code glyph
 component-at bytes font v code glyph opened is c =
     subst (λ (v : View). ComponentAt bytes v code glyph) (shows bytes font v opened is)
     (subst (λ (bs : List ℕ). ComponentAt bs (view_shown font) code glyph) opened.there
     (record { not_keyed = c.not_keyed; set = c.set; is_set = c.is_set; first = c.first }))
 
-component-from : (bytes : List ℕ) (font : FontView) (v : View) (code glyph : ℕ) → IsOpened bytes font → the_view bytes 0 ≡ Got v 0 →
+component-from : (bytes : List ℕ) (font : FontView) (v : View) (code glyph : ℕ) → IsOpened bytes font → IsLaidOut bytes 0 v →
     ComponentAt bytes v code glyph → IsComponent font code glyph
 component-from bytes font v code glyph opened is at =
     by (subst (λ (bs : List ℕ). ComponentAt bs (view_shown font) code glyph) (sym opened.there)
@@ -156,7 +156,7 @@ record MadeRuns (old new : FontView) (glyph i : ℕ) : Type 0 where
   pub same : SameRuns run other
 
 made-runs : (bytes flat : List ℕ) (old new : FontView) (ov nv : View) (glyph i : ℕ) → IsOpened bytes old → IsOpened flat new →
-    the_view bytes 0 ≡ Got ov 0 → the_view flat 0 ≡ Got nv 0 →
+    IsLaidOut bytes 0 ov → IsLaidOut flat 0 nv →
     IsMadeOf bytes ov glyph flat nv i → MadeRuns old new glyph i
 made-runs bytes flat old new ov nv glyph i o n was is m =
     let first = run-from bytes old ov glyph (run_in ov m.old_part m.old_code) o was
@@ -243,15 +243,15 @@ pub component-moved : (bytes : List ℕ) (a b : FontView) (from one : ℕ) → I
     IsComponentOf b from one
 component-moved bytes a b from one was is c =
     let v = view_shown a in
-    let run = run-from bytes b v from c.accented.run is was.shown
-    (run-at bytes a v from c.accented.part c.accented.run was was.shown c.accented.has) in
+    let run = run-from bytes b v from c.accented.run is was.laid
+    (run-at bytes a v from c.accented.part c.accented.run was was.laid c.accented.has) in
     record {
       accent = c.accent;
       accented = record { part = run.0; run = c.accented.run; has = run.1; accented = c.accented.accented };
       named = elim c.named [
-        | inl h ↦ inl (component-from bytes b v c.accent.base one is was.shown (component-at bytes a v c.accent.base one was was.shown h))
-        | inr h ↦ inr (component-from bytes b v c.accent.accent one is was.shown
-            (component-at bytes a v c.accent.accent one was was.shown h))
+        | inl h ↦ inl (component-from bytes b v c.accent.base one is was.laid (component-at bytes a v c.accent.base one was was.laid h))
+        | inr h ↦ inr (component-from bytes b v c.accent.accent one is was.laid
+            (component-at bytes a v c.accent.accent one was was.laid h))
       ];
     }
 
@@ -264,8 +264,8 @@ closes bytes named closed are font from one opened kept is =
     (are.all one).1 (is_drawn_with from one ((are.all from).0 kept) (component-moved bytes font are.font from one opened are.opened is))
 
 -- What a font draws that is made of these glyphs, where each place stands for one of the old font.
-draws : (kept_numbers : Bool) (kept : ℕ → Type 0) (bytes flat : List ℕ) (ov nv : View) (sources : Sources) → the_view bytes 0 ≡ Got ov 0 →
-    the_view flat 0 ≡ Got nv 0 →
+draws : (kept_numbers : Bool) (kept : ℕ → Type 0) (bytes flat : List ℕ) (ov nv : View) (sources : Sources) → IsLaidOut bytes 0 ov →
+    IsLaidOut flat 0 nv →
     (made : IsFontOf kept_numbers sources bytes ov flat nv) → Closes bytes kept → (origin : ℕ → ℕ) → Placed kept sources
     (length ov.char_strings) origin →
     NamesKept sources made.naming.old_set made.naming.new_set origin →
@@ -356,7 +356,7 @@ draws kept_numbers kept bytes flat ov nv sources shown_old shown_new made all or
         )
 
 -- The number of glyphs of an opened font.
-pub many-of : (bytes : List ℕ) (font : FontView) (v : View) → IsOpened bytes font → the_view bytes 0 ≡ Got v 0 →
+pub many-of : (bytes : List ℕ) (font : FontView) (v : View) → IsOpened bytes font → IsLaidOut bytes 0 v →
     glyphs_of font ≡ length v.char_strings
 many-of bytes font v opened is = ap (λ (v : View). length v.char_strings) (shows bytes font v opened is)
 

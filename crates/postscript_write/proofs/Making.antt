@@ -1,9 +1,8 @@
 -- A font that is made of glyphs.
 use Rattle.std.proofs.Common.{◌≡◌, refl, sym, subst, ap, ◌∙◌, ℕ, ◌<◌, List, [], length, slice_get, slice_index_or, inl, inr}
-use Rattle.std.specs.Prelude.{◌≢◌, ◌⊎◌, Option, Some, None, Result, Ok, Err, IfOk, IfErr}
+use Rattle.std.specs.Prelude.{◌≢◌, ◌⊎◌, Option, Some, None, Result, Ok, Err, IfOk, IfErr, OnOk}
 use Rattle.std.proofs.lemmas.Option.{slice_get-get_or}
 use Rattle.postscript_base.specs.RefusalOf.{refusal_of}
-use Rattle.postscript_base.specs.Tape.Outcome.{Got}
 use Rattle.postscript_base.specs.declared.error.Error as base
 use Rattle.postscript_base.specs.declared.error.Error.TheVariants as causes
 use Rattle.postscript_type2.specs.Program.Runs.{fault_of}
@@ -12,7 +11,7 @@ use Rattle.postscript_base.specs.Index.Lent.{items_of}
 use Rattle.postscript_view.specs.CharSets.{IsCharSetOf}
 use Rattle.postscript_view.specs.Glyphs.{HasPartNumber}
 use Rattle.postscript_view.specs.Naming.{Names}
-use Rattle.postscript_view.specs.Order.{view}
+use Rattle.postscript_view.specs.Layout.{IsLaidOut}
 use Rattle.postscript_view.specs.Contents.{View, PrivateDict}
 use Rattle.postscript_view.specs.Select.{IsSelected}
 use Rattle.postscript_view.specs.Value.{view_shown, part_shown, parts_shown}
@@ -138,7 +137,7 @@ too_large bytes font sources numbers flats are codes large = (
 pub memory_bytes : (sources : (glyphs : ℕ) → Sources) (bytes : List ℕ) (e : Error) → e ≡ Refused causes.Memory → IsRefusedBy sources bytes e
 memory_bytes sources bytes e is = subst (IsRefusedBy sources bytes) (sym is) (λ n. absurd (n refl))
 
-pub is_refused : (sources : (glyphs : ℕ) → Sources) (bytes : List ℕ) (font : View) (e : Error) → view bytes 0 ≡ Got font 0 →
+pub is_refused : (sources : (glyphs : ℕ) → Sources) (bytes : List ℕ) (font : View) (e : Error) → IsLaidOut bytes 0 font →
     FontRefusedBy bytes font (sources (length font.char_strings)) e → IsRefusedBy sources bytes e
 is_refused sources bytes font (Glyph glyph cause) is h = (font, is, h)
 is_refused sources bytes font (Refused cause) is h = λ n. inr (font, is, h n)
@@ -180,6 +179,10 @@ run_refused font glyph number code part cause e has_code has_part fault is = eli
     },
   )
 ]
+
+pub on_ok : {A E P : Type 0} (r : Result A E) → P → OnOk r P
+on_ok (Ok a) is = is
+on_ok (Err e) is = tt
 
 pub if_ok : {A E : Type 0} {P Q : A → Type 0} (r : Result A E) → ((a : A) → P a → Q a) → IfOk r P → IfOk r Q
 if_ok (Ok a) f h = f a h

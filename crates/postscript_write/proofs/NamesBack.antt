@@ -37,7 +37,6 @@ use Rattle.postscript_write.proofs.LaidOut.{laid_out}
 use Rattle.postscript_write.proofs.NamedAgain.{same_operands}
 use Rattle.postscript_write.proofs.ReadAgain.{one_view}
 use Rattle.postscript_view.specs.Layout.{IsLaidOut}
-use Rattle.postscript_view.proofs.LayoutLaws.{reads_layout}
 use Rattle.postscript_write.proofs.NoByteBeside.{dictionary_is, end_is, last_there, places_held, set_look, some_tables}
 use Rattle.postscript_write.proofs.Operators.{among}
 use Rattle.postscript_write.proofs.StringsAgain.{glyph_has, new_low, operator_same, string_again, string_needed}
@@ -270,7 +269,7 @@ pub names_back : (font : FontView) (glyphs : Glyphs) (codes : List (List ℕ)) (
     HasNames (keeps_strings kept font.dictionary) sources (view_shown font) set out new
 names_back font glyphs codes out w read exactly kept sources identifiers set is names many new laid =
     subst (HasNames (keeps_strings kept font.dictionary) sources (view_shown font) set out)
-    (sym (one_view out own.view new ((reads_layout out 0 own.view).1 own.laid) laid))
+    (sym (one_view out own.view new own.laid laid))
     (by kept identifiers names.sources_are names.strings names.char_set)
   where
     own : IsLaidOutOf font glyphs codes out

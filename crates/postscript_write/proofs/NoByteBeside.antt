@@ -19,7 +19,6 @@ use Rattle.postscript_view.specs.Layout.{AreParts, ArePartsOf, IsLaidOut, NamesI
 use Rattle.postscript_view.specs.Layout.AreParts.{OfFont, OfFontDictionaries}
 use Rattle.postscript_view.specs.Value.{parts_shown}
 use Rattle.postscript_view.specs.declared.font.FontView.{FontView}
-use Rattle.postscript_view.proofs.LayoutLaws.{reads_layout}
 use Rattle.postscript_write.specs.Arrangement.{beginnings, dictionaries_place, place_at, place_if, standard_place, text_of}
 use Rattle.postscript_write.specs.ArrangedText.{parts_text, tables_text}
 use Rattle.postscript_write.specs.Dictionaries.{IsHeld}
@@ -357,6 +356,6 @@ whole_out font glyphs codes out w read exactly given =
     let laid = laid_out font glyphs codes out w read exactly in
     let t = w.tables_stand read.laid.tables in (
       laid.view,
-      (reads_layout out 0 laid.view).1 laid.laid,
+      laid.laid,
       none_beside_view font glyphs codes out w t laid.view laid.laid laid.char_strings read exactly given,
     )

@@ -7,14 +7,16 @@ use Rattle.postscript_view.specs.CharSets.{IsCharSetOf}
 use Rattle.postscript_view.specs.Contents.{View}
 use Rattle.postscript_view.specs.Encodings.{IsEncodingOf}
 use Rattle.postscript_view.specs.Layout.{IsLaidOut}
-use Rattle.postscript_view.specs.Order.{view}
+use Rattle.postscript_view.specs.Value.{view_shown}
 use Rattle.postscript_view.specs.declared.char_set.CharSetView.{CharSetView}
 use Rattle.postscript_view.specs.declared.encoding.EncodingView.{EncodingView}
+use Rattle.postscript_view.specs.declared.font.FontView.{FontView}
 use Rattle.postscript_view.proofs.LayoutLaws.{reads_layout}
 use Rattle.postscript_write.specs.Fonts.{IsFontOf}
 use Rattle.postscript_write.specs.Glyphs.{AreCodesOf, AreNumbersOf, Sources}
 use Rattle.postscript_write.specs.Naming.{GivesWay, KeepsCodes, SameName, SameNames}
 use Rattle.postscript_write.specs.ReadBack.{AreStrings, HasCodes, IsReadAs}
+use Rattle.postscript_write.specs.Sizes.{IsLarge, IsSmall}
 use Rattle.postscript_write.specs.Strings.{SameStrings, keeps_strings}
 use Rattle.postscript_write.proofs.Encoded.{keeps_code}
 use Rattle.postscript_write.proofs.Making.{made}
@@ -23,8 +25,16 @@ use Rattle.postscript_write.proofs.Renamed.{texts_of}
 same_got : {A : Type 0} (x y : A) (n : ℕ) → Got x n ≡ Got y n → x ≡ y
 same_got x y n e = cc
 
-pub one_view : (flat : List ℕ) (a b : View) → view flat 0 ≡ Got a 0 → IsLaidOut flat 0 b → b ≡ a
-one_view flat a b found laid = same_got b a 0 (sym ((reads_layout flat 0 b).1 laid) ∙ found)
+pub one_view : (flat : List ℕ) (a b : View) → IsLaidOut flat 0 a → IsLaidOut flat 0 b → b ≡ a
+one_view flat a b found laid = same_got b a 0 (sym ((reads_layout flat 0 b).1 laid) ∙ (reads_layout flat 0 a).1 found)
+
+-- what is written has few bytes, over all views of the bytes
+pub small_so : (font : FontView) (bytes flat : List ℕ) → IsLaidOut bytes 0 (view_shown font) → font.bytes.now ≡ bytes →
+    ((new : View) → IsLaidOut flat 0 new → IsLarge font.bytes.now (view_shown font) new.char_strings → ⊥) → IsSmall bytes flat
+small_so font bytes flat is same small old new was laid large =
+    let view : view_shown font ≡ old = one_view bytes old (view_shown font) was is in
+    small new laid (subst (λ (bs : List ℕ). IsLarge bs (view_shown font) new.char_strings) (sym same)
+    (subst (λ v. IsLarge bytes v new.char_strings) (sym view) large))
 
 strings_as : (keeps : Bool) (sources : Sources) (old : View) (old_set : CharSetView) (new : View) (new_set : CharSetView) →
     AreStrings keeps sources old old_set new new_set → SameStrings keeps sources old old_set new new_set

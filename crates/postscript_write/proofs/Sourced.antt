@@ -5,8 +5,8 @@ use Rattle.std.specs.Option.{is_some}
 use Rattle.std.proofs.lemmas.List.{get_or-map, length-map}
 use Rattle.std.proofs.lemmas.List.FromFn.{get_or-map-range_with_len, length-map-range_with_len, length-range_with_len}
 use Rattle.std.proofs.lemmas.List.Sums.{count_by-le-length, length-filter}
-use Rattle.postscript_write.specs.Identified.{AreRenewed, KeepNumbers}
-use Rattle.postscript_write.specs.Sources.{chosen, every, is_kept, keeping, kept_of, kept_or_none}
+use Rattle.postscript_write.specs.Identified.{AreRenewed, AreSources, KeepNumbers}
+use Rattle.postscript_write.specs.Sources.{choice_by, chosen, every, is_kept, keeping, kept_of, kept_or_none}
 
 pub every_long : (glyphs : ℕ) → length (every glyphs) ≡ glyphs
 every_long glyphs = length-map-range_with_len Some 0 glyphs
@@ -78,3 +78,13 @@ chosen_renewed named (suc glyphs) some = subst AreRenewed (sym is) (record {
 
     is : chosen named (suc glyphs) ≡ map Some (0 ∷ rest)
     is = ap (λ b. map Some (cond b (0 ∷ rest) rest)) (first_kept named)
+
+-- either way
+pub long_by : (retain_gids : Bool) (named : List ℕ) (glyphs : ℕ) → length (choice_by retain_gids named glyphs) ≤ glyphs
+long_by true named glyphs = omega (arith, keeping_long named glyphs)
+long_by false named glyphs = chosen_long named glyphs
+
+pub sources_by : (retain_gids : Bool) (named : List ℕ) (glyphs : ℕ) → 0 < glyphs →
+    AreSources retain_gids glyphs (choice_by retain_gids named glyphs)
+sources_by true named glyphs some = keeping_kept named glyphs
+sources_by false named glyphs some = chosen_renewed named glyphs some

@@ -2,9 +2,8 @@
 use Rattle.std.proofs.Common.{◌≡◌, sym, subst, ◌∙◌, inl, inr, ℕ, ◌<◌, List, length, get_or, arith, true}
 use Rattle.std.specs.Prelude.{◌↔◌, Bool, Result, Ok, Err, IfOk, IfErr, Vec}
 use Rattle.std.specs.declared.alloc.Global.{Global}
-use Rattle.postscript_base.specs.Tape.Outcome.{Got}
 use Rattle.postscript_view.specs.CharSets.{IsCharSetOf}
-use Rattle.postscript_view.specs.Order.{view}
+use Rattle.postscript_view.specs.Layout.{IsLaidOut}
 use Rattle.postscript_view.specs.Contents.{View}
 use Rattle.postscript_view.specs.Value.{view_shown}
 use Rattle.postscript_view.specs.declared.font.FontView.{FontView}
@@ -29,7 +28,7 @@ closed-so bytes named closed font opened all = record { font = font; opened = op
 pub subset-made : (r : Result (Vec ℕ Global) Error) (kept : Bool) (choice : Choice) (font : FontView) (bytes named closed : List ℕ)
     (sources : Sources) → IsOpened bytes font → AreClosed bytes named closed →
     sources ≡ choice closed (length (view_shown font).char_strings) →
-    IfOk r (λ flat. (new : View) × (view flat.items 0 ≡ Got new 0) × IsFontOf kept sources font.bytes.now
+    IfOk r (λ flat. (new : View) × IsLaidOut flat.items 0 new × IsFontOf kept sources font.bytes.now
     (view_shown font) flat.items new) → IfOk r (λ flat. IsSubset kept choice named bytes flat.items)
 subset-made (Ok flat) kept choice font bytes named closed sources opened are same made = record {
   closed = closed;
@@ -37,7 +36,7 @@ subset-made (Ok flat) kept choice font bytes named closed sources opened are sam
   written = record {
     old = view_shown font;
     new = made.0;
-    was = opened.shown;
+    was = opened.laid;
     is = made.1;
     made = subst (λ (s : Sources). IsFontOf kept s bytes (view_shown font) flat.items made.0) same
         (subst (λ (bs : List ℕ). IsFontOf kept sources bs (view_shown font) flat.items made.0) opened.there made.2);
@@ -63,7 +62,7 @@ pub subset-refused : (r : Result (Vec ℕ Global) Error) (choice : Choice) (font
     IfErr r (λ e. FontRefusedBy font.bytes.now (view_shown font) sources e) → IfErr r (λ e. IsSubsetRefusedBy named choice bytes e)
 subset-refused (Ok flat) choice font bytes named closed sources opened are same h = tt
 subset-refused (Err e) choice font bytes named closed sources opened are same h =
-    of-closed named closed choice bytes e are (is_refused (choice closed) bytes (view_shown font) e opened.shown
+    of-closed named closed choice bytes e are (is_refused (choice closed) bytes (view_shown font) e opened.laid
     (subst (λ (s : Sources). FontRefusedBy bytes (view_shown font) s e) same
     (subst (λ (bs : List ℕ). FontRefusedBy bs (view_shown font) sources e) opened.there h)))
 
@@ -84,10 +83,10 @@ pub not-closed : (named : List ℕ) (choice : Choice) (bytes : List ℕ) (font :
 not-closed named choice bytes font (Refused cause) opened h =
     λ n. inr (
       view_shown font,
-      opened.shown,
+      opened.laid,
       inl (λ has. h n has.0 (subst (λ (bs : List ℕ). IsCharSetOf has.0 bs font.dictionary (glyphs_of font)) (sym opened.there) has.1)),
     )
-not-closed named choice bytes font (MissingGlyph glyph) opened h = (view_shown font, opened.shown, h)
+not-closed named choice bytes font (MissingGlyph glyph) opened h = (view_shown font, opened.laid, h)
 not-closed named choice bytes font (Glyph glyph cause) opened h = absurd h
 not-closed named choice bytes font SeveralFonts opened h = absurd h
 not-closed named choice bytes font (MissingPart glyph) opened h = absurd h
@@ -137,10 +136,10 @@ pub choice-not-closed : (named bytes : List ℕ) (font : FontView) (e : Error) �
     IsChoiceRefusedBy named bytes e
 choice-not-closed named bytes font (Refused cause) opened h = λ n. inr (
   view_shown font,
-  opened.shown,
+  opened.laid,
   λ has. h n has.0 (subst (λ (bs : List ℕ). IsCharSetOf has.0 bs font.dictionary (glyphs_of font)) (sym opened.there) has.1),
 )
-choice-not-closed named bytes font (MissingGlyph glyph) opened h = (view_shown font, opened.shown, h)
+choice-not-closed named bytes font (MissingGlyph glyph) opened h = (view_shown font, opened.laid, h)
 choice-not-closed named bytes font (Glyph glyph cause) opened h = h
 choice-not-closed named bytes font SeveralFonts opened h = absurd h
 choice-not-closed named bytes font (MissingPart glyph) opened h = h

@@ -1,15 +1,13 @@
 -- What is written has room.
-use Rattle.std.proofs.Common.{◌≡◌, sym, ap, subst, ℕ, ◌+◌, ◌^◌, ◌<◌, ◌≤◌, List, [], ◌∷◌, ◌++◌, length, length-append, arith}
-use Rattle.std.specs.Prelude.{All}
+use Rattle.std.proofs.Common.{◌≡◌, refl, ap, ℕ, ◌+◌, ◌^◌, ◌<◌, ◌≤◌, List, [], ◌∷◌, ◌++◌, length, length-append, arith}
 use Rattle.postscript_base.specs.Index.Lent.{items_of}
 use Rattle.postscript_type2.specs.Program.Routines.{texts}
 use Rattle.postscript_view.specs.declared.font.FontView.{FontView}
 use Rattle.postscript_write.specs.Arrangement.{beginnings, places_of}
-use Rattle.postscript_write.specs.ArrangedText.{tables_text}
-use Rattle.postscript_write.specs.Dictionaries.{IsHeld}
+use Rattle.postscript_write.specs.ArrangedText.{AreTablesOf, tables_text}
 use Rattle.postscript_write.specs.DictionarySizes.{HasSize, places_size}
 use Rattle.postscript_write.specs.Index.{Fits, index_text}
-use Rattle.postscript_write.specs.Privates.{privates_text}
+use Rattle.postscript_write.specs.Privates.{IsSomeDictionary, privates_text}
 use Rattle.postscript_write.specs.Renumbered.{all_renamed}
 use Rattle.postscript_write.specs.Room.{HasRoom, index_room}
 use Rattle.postscript_write.specs.declared.dictionaries.Place.{Place}
@@ -17,7 +15,7 @@ use Rattle.postscript_write.specs.declared.layout.Glyphs.{Glyphs}
 use Rattle.postscript_write.specs.declared.layout.Parts.{Parts}
 use Rattle.postscript_write.specs.declared.strings.Strings.{Strings}
 use Rattle.postscript_write.proofs.Few.{all_bytes}
-use Rattle.postscript_write.proofs.Room.{index_most, places_few, places_held, renamed_few, they_fit}
+use Rattle.postscript_write.proofs.Room.{index_most, places_few, renamed_few, they_fit}
 use Rattle.postscript_write.proofs.Without.{sized_within}
 
 index_within : (items : List (List ℕ)) → length (index_text items) ≤ index_room items
@@ -88,10 +86,31 @@ tables_within font glyphs dictionary placed places few size =
       length-append (index_text strings) (index_text []),
     )
 
--- the places of parts can be written
-pub all_held : (font : FontView) (codes : List (List ℕ)) (parts : Parts) (start : ℕ) (places : List Place) →
-    HasRoom font parts.glyphs.now codes → HasFew font codes parts → start ≤ tables_room font parts.glyphs.now →
-    places ≡ places_of start parts →
-    All IsHeld places
-all_held font codes parts start places room few begins are =
-    subst (All IsHeld) (sym are) (places_held start parts (end_within font codes parts start room few begins))
+-- tables that are written have no more
+pub tables_end : (font : FontView) (codes : List (List ℕ)) (parts : Parts) (dictionary : List ℕ) (start : ℕ) (out : List ℕ) →
+    HasRoom font parts.glyphs.now codes → HasFew font codes parts →
+    length dictionary ≤ length font.bytes.now + places_size (all_renamed parts.glyphs.now.strings font.dictionary) →
+    start ≤ tables_room font parts.glyphs.now → AreTablesOf font dictionary parts start out → length out ≤ tables_room font parts.glyphs.now
+tables_end font codes parts dictionary start out room few long begins are =
+    let end = end_within font codes parts start room few begins in
+    let places : List Place = places_of start parts in
+    let size = are.sized (omega (arith, end)) in
+    let within = dictionary_within font parts.glyphs.now.strings dictionary parts start places long refl in
+    omega (arith, ap length are.text, tables_within font parts.glyphs.now dictionary are.placed places within size)
+
+-- they are not refused, but for memory
+abbrev pub RefusesTables : FontView → (dictionary : List ℕ) → Parts → (start : ℕ) → Type 0
+RefusesTables font dictionary parts start =
+    IsSomeDictionary dictionary → (beginnings start parts).end < 2 ^ 31 → length dictionary + places_size (places_of start parts) < 2 ^ 31 →
+    Fits (items_of font.names) → Fits (texts parts.glyphs.now.strings.texts.items) → ⊥
+
+pub tables_written : (font : FontView) (codes : List (List ℕ)) (parts : Parts) (dictionary : List ℕ) (start : ℕ) →
+    HasRoom font parts.glyphs.now codes → HasFew font codes parts →
+    length dictionary ≤ length font.bytes.now + places_size (all_renamed parts.glyphs.now.strings font.dictionary) →
+    start ≤ tables_room font parts.glyphs.now → IsSomeDictionary dictionary → RefusesTables font dictionary parts start → ⊥
+tables_written font codes parts dictionary start room few long begins some refuses =
+    let all = room.all in
+    let within = dictionary_within font parts.glyphs.now.strings dictionary parts start (places_of start parts) long refl in
+    refuses some (end_within font codes parts start room few begins) (omega (arith, within, all))
+    (names_fit font parts.glyphs.now codes room)
+    (strings_fit font parts.glyphs.now codes room)

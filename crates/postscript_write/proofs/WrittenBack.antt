@@ -41,7 +41,6 @@ use Rattle.postscript_write.proofs.NoByteBeside.{dictionary_is, encoding_look, k
 use Rattle.postscript_write.proofs.OneEncoding.{one_encoding, standing_kept}
 use Rattle.postscript_write.proofs.PlacesNamed.{named_by}
 use Rattle.postscript_write.proofs.ReadAgain.{one_view}
-use Rattle.postscript_view.proofs.LayoutLaws.{reads_layout}
 
 -- FDSelect gives a glyph its number where the dictionary names it
 selected : (new : Dictionary) (out : List ℕ) (select : Option (Vec ℕ Global)) (numbers : List ℕ) (place i : ℕ)
@@ -215,7 +214,7 @@ pub as_written : (font : FontView) (glyphs : Glyphs) (codes : List (List ℕ)) (
     (length codes) numbers → (view : View) → IsLaidOut out 0 view → IsAsWritten numbers codes (view_shown font) out view
 as_written font glyphs codes out w read exactly given numbers their view laid =
     subst (IsAsWritten numbers codes (view_shown font) out)
-    (sym (one_view out own.view view ((reads_layout out 0 own.view).1 own.laid) laid)) (record {
+    (sym (one_view out own.view view own.laid laid)) (record {
       header = t.header;
       repeats = own.repeats;
       char_strings = own.char_strings;

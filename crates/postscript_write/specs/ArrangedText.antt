@@ -1,15 +1,20 @@
 -- The bytes of the tables and of the parts of a font, as they are written (Technical Note 5176, "CFF Data Layout").
-use Rattle.std.specs.Prelude.{ℕ, List, [], ◌∷◌, ◌++◌, Option, Some, None, IsSome, Vec}
+use Rattle.std.specs.Prelude.{All, ◌≡◌, ℕ, ◌<◌, ◌^◌, List, [], ◌∷◌, ◌++◌, length, Option, Some, None, IsSome, Vec}
 use Rattle.std.specs.declared.alloc.Global.{Global}
 use Rattle.postscript_base.specs.declared.compact1.operator.Operator.TheVariants.{FDArray}
 use Rattle.postscript_base.specs.Compact1.Dictionary.{Dictionary}
+use Rattle.postscript_base.specs.Index.Lent.{items_of}
+use Rattle.postscript_type2.specs.Program.Routines.{texts}
 use Rattle.postscript_view.specs.Layout.{NamesIndex}
-use Rattle.postscript_write.specs.Index.{index_text}
+use Rattle.postscript_view.specs.declared.font.FontView.{FontView}
+use Rattle.postscript_write.specs.Dictionaries.{IsHeld, IsWithPlaces}
+use Rattle.postscript_write.specs.DictionarySizes.{HasSize}
+use Rattle.postscript_write.specs.Index.{Fits, index_text}
 use Rattle.postscript_write.specs.Texts.{Stands}
 use Rattle.postscript_write.specs.Privates.{AreFontDictionaries, AreSized, privates_text}
 use Rattle.postscript_write.specs.declared.layout.Parts.{Parts}
 use Rattle.postscript_write.specs.declared.layout.Private.{Private}
-use Rattle.postscript_write.specs.Arrangement.{text_of, Beginnings}
+use Rattle.postscript_write.specs.Arrangement.{Beginnings, beginnings, places_of, text_of}
 
 -- a font with an FDSelect has an INDEX of font dictionaries
 abbrev pub dictionaries_text : (select : Option (Vec ℕ Global)) → (dictionaries : List (List ℕ)) → List ℕ
@@ -55,3 +60,15 @@ tables_text names dictionary strings =
     ++ (index_text (dictionary ∷ [])
     ++ (index_text strings
     ++ index_text [])))
+
+-- The tables of a font whose parts stand from a place on: their dictionary is another one with the places of these parts, where they end
+-- before 2^64. What is written has room.
+pub record AreTablesOf (font : FontView) (dictionary : List ℕ) (parts : Parts) (start : ℕ) (out : List ℕ) : Type 0 where
+  pub placed : List ℕ
+  pub text : out ≡ tables_text (items_of font.names) placed (texts parts.glyphs.now.strings.texts.items)
+  pub places : (beginnings start parts).end < 2 ^ 64 → IsWithPlaces dictionary (places_of start parts) placed
+  pub sized : (beginnings start parts).end < 2 ^ 64 → HasSize dictionary (places_of start parts) (length placed)
+  pub held : (beginnings start parts).end < 2 ^ 64 → All IsHeld (places_of start parts)
+  pub names_fit : Fits (items_of font.names)
+  pub dictionary_fits : Fits (placed ∷ [])
+  pub strings_fit : Fits (texts parts.glyphs.now.strings.texts.items)

@@ -7,10 +7,9 @@ use Rattle.postscript_drawing.specs.Accents.{IsAccentOf}
 use Rattle.postscript_drawing.specs.Components.{HasCharSet, IsComponent, glyphs_of}
 use Rattle.postscript_drawing.specs.Refused.{IsAccented}
 use Rattle.postscript_drawing.specs.declared.accent.Accent.{Accent}
-use Rattle.postscript_base.specs.Tape.Outcome.{Got}
 use Rattle.postscript_base.specs.declared.error.Error.TheVariants.{Memory}
 use Rattle.postscript_type2.specs.Program.Runs.{Run}
-use Rattle.postscript_view.specs.Order.{view}
+use Rattle.postscript_view.specs.Layout.{IsLaidOut}
 use Rattle.postscript_view.specs.Value.{view_shown}
 use Rattle.postscript_view.specs.declared.char_set.CharSetView.{CharSetView}
 use Rattle.postscript_view.specs.declared.font.FontView.{FontView}
@@ -32,7 +31,7 @@ pub data IsReached (font : FontView) (named : List ℕ) : ℕ → Type 0 where
 
 -- The font that bytes begin with, opened in place.
 pub record IsOpened (bytes : List ℕ) (font : FontView) : Type 0 where
-  pub shown : view bytes 0 ≡ Got (view_shown font) 0
+  pub laid : IsLaidOut bytes 0 (view_shown font)
   pub there : font.bytes.now ≡ bytes
 
 -- Those that are kept are the glyphs that are reached from those that are named, in the font that the bytes begin with.

@@ -3,6 +3,7 @@ use Rattle.std.specs.Prelude.{◌≡◌, ◌≢◌, ◌⊎◌, ℕ, ◌<◌, ◌
 use Rattle.postscript_base.specs.Tape.Outcome.{Got, RefusedAs}
 use Rattle.postscript_base.specs.declared.error.Error as causes
 use Rattle.postscript_base.specs.declared.error.Error.TheVariants.{Memory}
+use Rattle.postscript_view.specs.Layout.{IsLaidOut}
 use Rattle.postscript_view.specs.Order.{fonts, view}
 use Rattle.postscript_view.specs.Contents.{View}
 use Rattle.postscript_write.specs.Components.{AreClosed}
@@ -33,7 +34,7 @@ FontRefusedBy bytes font sources NoGlyphs = ⊥
 
 -- a font begins the bytes, of which this holds
 abbrev pub OfFont : List ℕ → (View → Type 0) → Type 0
-OfFont bytes P = (old : View) × (view bytes 0 ≡ Got old 0) × P old
+OfFont bytes P = (old : View) × IsLaidOut bytes 0 old × P old
 
 -- the font set has another number of fonts than one
 abbrev pub HasOtherFonts : List ℕ → Type 0

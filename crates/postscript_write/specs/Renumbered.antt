@@ -1,4 +1,5 @@
--- The identifiers of the strings that are written, and the dictionary of a font that names them (Technical Note 5176, sections 9, 10 and 18).
+-- The identifiers of the strings that are written, and the dictionary of a font that names them (Technical Note 5176, sections 9, 10
+-- and 18).
 use Rattle.std.specs.Prelude.{◌≡◌, ◌≢◌, ℕ, ◌-◌, ◌==◌, nat_lt, if◌then◌else◌, List, [], ◌∷◌, Option, Some, None, flat_map, slice_index_or}
 use Rattle.std.specs.Option.{unwrap_or}
 use Rattle.postscript_base.specs.Compact1.Defaults.{look}

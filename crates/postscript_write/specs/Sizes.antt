@@ -1,10 +1,9 @@
 -- How many bytes a font may have that is written (Technical Note 5176, sections 3 and 5: its offsets have at most four bytes).
-use Rattle.std.specs.Prelude.{◌≡◌, ℕ, ◌+◌, ◌*◌, ◌≤◌, List, Vec, length}
+use Rattle.std.specs.Prelude.{ℕ, ◌+◌, ◌*◌, ◌≤◌, List, Vec, length}
 use Rattle.std.specs.List.{sum_by}
 use Rattle.std.specs.declared.alloc.Global.{Global}
-use Rattle.postscript_base.specs.Tape.Outcome.{Got}
-use Rattle.postscript_view.specs.Order.{view}
 use Rattle.postscript_view.specs.Contents.{View}
+use Rattle.postscript_view.specs.Layout.{IsLaidOut}
 
 -- the bytes of items together
 abbrev pub bytes_in : List (List ℕ) → ℕ
@@ -21,4 +20,4 @@ IsLarge bytes font codes =
 
 -- with the codes of the new font the old one is not too large
 abbrev pub IsSmall : (bytes flat : List ℕ) → Type 0
-IsSmall bytes flat = (old new : View) → view bytes 0 ≡ Got old 0 → view flat 0 ≡ Got new 0 → IsLarge bytes old new.char_strings → ⊥
+IsSmall bytes flat = (old new : View) → IsLaidOut bytes 0 old → IsLaidOut flat 0 new → IsLarge bytes old new.char_strings → ⊥

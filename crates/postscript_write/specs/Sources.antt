@@ -1,8 +1,7 @@
 -- The glyphs that a font is made of.
-use Rattle.std.specs.Prelude.{◌≡◌, ℕ, ◌<◌, ◌==◌, ◌||◌, List, [], ◌∷◌, Bool, false, Option, Some, None, map, length, slice_index_or, if◌then◌else◌}
+use Rattle.std.specs.Prelude.{◌≡◌, ℕ, ◌<◌, ◌==◌, ◌||◌, List, [], ◌∷◌, Bool, true, false, Option, Some, None, map, length, slice_index_or, if◌then◌else◌}
 use Rattle.std.specs.List.{filter, range_with_len}
-use Rattle.postscript_base.specs.Tape.Outcome.{Got}
-use Rattle.postscript_view.specs.Order.{view}
+use Rattle.postscript_view.specs.Layout.{IsLaidOut}
 use Rattle.postscript_view.specs.Contents.{View}
 use Rattle.postscript_write.specs.Fonts.{IsFontOf}
 use Rattle.postscript_write.specs.Glyphs.{Sources}
@@ -31,6 +30,11 @@ kept_or_none named glyph = if is_kept named glyph then Some glyph else None
 abbrev pub keeping : (named : List ℕ) → (glyphs : ℕ) → Sources
 keeping named glyphs = map (kept_or_none named) (range_with_len 0 glyphs)
 
+-- where glyphs keep their numbers, and where they get new ones
+abbrev pub choice_by : (retain_gids : Bool) → (named : List ℕ) → (glyphs : ℕ) → Sources
+choice_by true = keeping
+choice_by false = chosen
+
 -- each one that is named is one of so many glyphs
 abbrev pub AreThere : (named : List ℕ) → (glyphs : ℕ) → Type 0
 AreThere named glyphs = (k : ℕ) → k < length named → slice_index_or named k 0 < glyphs
@@ -45,6 +49,6 @@ pub record AreMarks (named : List ℕ) (glyphs : ℕ) (marks : List Bool) : Type
 pub record IsWritten (kept : Bool) (sources : (glyphs : ℕ) → Sources) (bytes flat : List ℕ) : Type 0 where
   pub old : View
   pub new : View
-  pub was : view bytes 0 ≡ Got old 0
-  pub is : view flat 0 ≡ Got new 0
+  pub was : IsLaidOut bytes 0 old
+  pub is : IsLaidOut flat 0 new
   pub made : IsFontOf kept (sources (length old.char_strings)) bytes old flat new

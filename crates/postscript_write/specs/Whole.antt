@@ -4,14 +4,13 @@ use Rattle.std.specs.Prelude.{◌≡◌, ◌⊎◌, ℕ, ◌+◌, ◌-◌, ◌*�
 use Rattle.std.specs.Option.{unwrap_or}
 use Rattle.postscript_base.specs.Compact1.Defaults.{look, first_two_of}
 use Rattle.postscript_base.specs.Compact1.Dictionary.{Dictionary}
-use Rattle.postscript_base.specs.Tape.Outcome.{Got}
 use Rattle.postscript_base.specs.declared.compact1.operator.Operator.{Operator}
 use Rattle.postscript_base.specs.declared.compact1.operator.Operator.TheVariants as operators
 use Rattle.postscript_compact1.specs.FontSet.Parts.{HasTwo}
 use Rattle.postscript_base.specs.Index.{number_at, IsIndex}
 use Rattle.postscript_view.specs.CharSet.{covered}
 use Rattle.postscript_view.specs.Cids.{IsCidKeyed}
-use Rattle.postscript_view.specs.Order.{view}
+use Rattle.postscript_view.specs.Layout.{IsLaidOut}
 use Rattle.postscript_view.specs.Contents.{PrivateDict, View}
 use Rattle.postscript_view.specs.Select.{offset_of}
 
@@ -115,4 +114,4 @@ HasNoByteBeside flat new = PartsEnd flat new (length flat)
 
 -- bytes that begin with a font, and no byte stands beside its parts
 abbrev pub IsWhole : List ℕ → Type 0
-IsWhole flat = (font : View) × (view flat 0 ≡ Got font 0) × HasNoByteBeside flat font
+IsWhole flat = (font : View) × IsLaidOut flat 0 font × HasNoByteBeside flat font

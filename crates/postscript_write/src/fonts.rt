@@ -2,7 +2,8 @@
 ghost use Rattle.std.specs.Prelude.{◌≡◌, ◌<◌, ◌^◌, [], true, false, Err, length, IfOk, IfErr, OnOk};
 ghost use Rattle.postscript_base.specs.Index.Lent.{items_of};
 ghost use Rattle.postscript_base.specs.Tape.Outcome.{Got};
-ghost use Rattle.postscript_view.specs.Order.{fonts as the_fonts, view as the_view};
+ghost use Rattle.postscript_view.specs.Layout.{IsLaidOut};
+ghost use Rattle.postscript_view.specs.Order.{fonts as the_fonts};
 ghost use Rattle.postscript_view.specs.Contents.{View};
 ghost use Rattle.postscript_view.specs.Value.{view_shown};
 ghost use Rattle.postscript_write.specs.Components.{AreKept, IsSubset};
@@ -12,21 +13,21 @@ ghost use Rattle.postscript_write.specs.Refusals.{IsChoiceRefusedBy, IsRefusedBy
 ghost use Rattle.postscript_write.specs.Room.{IsRead};
 ghost use Rattle.postscript_write.specs.Selected.{AreLow};
 ghost use Rattle.postscript_write.specs.Sizes.{IsSmall};
-ghost use Rattle.postscript_write.specs.Sources.{AreThere, IsWritten, chosen as the_chosen, every as the_every, keeping as the_keeping};
+ghost use Rattle.postscript_write.specs.Sources.{AreThere, IsWritten, choice_by, chosen as the_chosen, every as the_every, keeping as the_keeping};
 ghost use Rattle.postscript_write.specs.Steps.{IsNotOpened};
 ghost use Rattle.postscript_write.specs.Whole.{IsWhole};
 ghost use Rattle.postscript_write.specs.declared.error.Error.TheVariants as errors;
 
 use crate::closure::closed_over;
 use crate::error::{Error, Result};
-use crate::sources::{chosen, every, keeping, kept_of};
+use crate::sources::{every, kept_of, sources_by};
 use crate::whole::font_of;
 use postscript_view::FontView;
 use std::alloc::Global;
 
 /// The only font of a font set.
 fn only_font<'l>(alloc: Global, bytes: &'l [u8]) -> Result<FontView<'l>>
-    ensures is { IfOk result (λ font. the_view bytes.now 0 ≡ Got (view_shown font) 0) }
+    ensures is { IfOk result (λ font. IsLaidOut bytes.now 0 (view_shown font)) }
     ensures bytes { IfOk result (λ font. font.bytes.now ≡ bytes.now) }
     ensures read { IfOk result (λ font. IsRead font) }
     ensures low { IfOk result (λ font. AreLow font.bytes.now) }
@@ -73,7 +74,7 @@ pub fn kept_glyphs(alloc: Global, bytes: &[u8], named: &[usize]) -> Result<Vec<u
     ensures kept { IfOk result (λ kept. AreKept named.now bytes.now kept.items) }
     ensures one { OnOk result (the_fonts bytes.now 0 ≡ Got 1 0) }
     ensures refused { IfErr result (λ e. IsChoiceRefusedBy named.now bytes.now e) }
-    ensures there { OnOk result ((font : View) → the_view bytes.now 0 ≡ Got font 0 → AreThere named.now (length font.char_strings)) }
+    ensures there { OnOk result ((font : View) → IsLaidOut bytes.now 0 font → AreThere named.now (length font.char_strings)) }
     ensures none { named.now ≡ [] → result ≡ Err errors.NoGlyphs }
 {
     if named.len() == 0 {
@@ -82,6 +83,26 @@ pub fn kept_glyphs(alloc: Global, bytes: &[u8], named: &[usize]) -> Result<Vec<u
     let font = only_font(alloc, bytes)?;
     let closed = closed_over(alloc, &font, named)?;
     kept_of(alloc, &closed, font.char_strings.len())
+}
+
+/// What `subset` answers, or `subset_keeping`, where glyphs keep their numbers.
+fn subset_by(alloc: Global, bytes: &[u8], named: &[usize], retain_gids: bool) -> Result<Vec<u8>>
+    ensures written { IfOk result (λ flat. IsSubset retain_gids (choice_by retain_gids) named.now bytes.now flat.items) }
+    ensures whole { IfOk result (λ flat. IsWhole flat.items) }
+    ensures small { IfOk result (λ flat. IsSmall bytes.now flat.items) }
+    ensures lenient { IfOk result (λ flat. HasLenientFont bytes.now → HasLenientFont flat.items) }
+    ensures one { OnOk result (the_fonts bytes.now 0 ≡ Got 1 0) }
+    ensures refused { IfErr result (λ e. IsSubsetRefusedBy named.now (choice_by retain_gids) bytes.now e) }
+    ensures there { OnOk result ((font : View) → IsLaidOut bytes.now 0 font → AreThere named.now (length font.char_strings)) }
+    ensures none { named.now ≡ [] → result ≡ Err errors.NoGlyphs }
+{
+    if named.len() == 0 {
+        return Err(Error::NoGlyphs);
+    }
+    let font = only_font(alloc, bytes)?;
+    let closed = closed_over(alloc, &font, named)?;
+    let sources = sources_by(alloc, &closed, font.char_strings.len(), retain_gids)?;
+    font_of(alloc, &font, &sources, retain_gids)
 }
 
 /// The font that the bytes begin with, with these glyphs alone: `.notdef`, those that are named, and the base and the accent of each
@@ -102,16 +123,10 @@ pub fn subset(alloc: Global, bytes: &[u8], named: &[usize]) -> Result<Vec<u8>>
     ensures lenient { IfOk result (λ flat. HasLenientFont bytes.now → HasLenientFont flat.items) }
     ensures one { OnOk result (the_fonts bytes.now 0 ≡ Got 1 0) }
     ensures refused { IfErr result (λ e. IsSubsetRefusedBy named.now the_chosen bytes.now e) }
-    ensures there { OnOk result ((font : View) → the_view bytes.now 0 ≡ Got font 0 → AreThere named.now (length font.char_strings)) }
+    ensures there { OnOk result ((font : View) → IsLaidOut bytes.now 0 font → AreThere named.now (length font.char_strings)) }
     ensures none { named.now ≡ [] → result ≡ Err errors.NoGlyphs }
 {
-    if named.len() == 0 {
-        return Err(Error::NoGlyphs);
-    }
-    let font = only_font(alloc, bytes)?;
-    let closed = closed_over(alloc, &font, named)?;
-    let sources = chosen(alloc, &closed, font.char_strings.len())?;
-    font_of(alloc, &font, &sources, false)
+    subset_by(alloc, bytes, named, false)
 }
 
 /// As `subset`, but each glyph keeps its number: the glyphs between those that are kept are empty (`endchar`), and keep their
@@ -127,14 +142,8 @@ pub fn subset_keeping(alloc: Global, bytes: &[u8], named: &[usize]) -> Result<Ve
     ensures lenient { IfOk result (λ flat. HasLenientFont bytes.now → HasLenientFont flat.items) }
     ensures one { OnOk result (the_fonts bytes.now 0 ≡ Got 1 0) }
     ensures refused { IfErr result (λ e. IsSubsetRefusedBy named.now the_keeping bytes.now e) }
-    ensures there { OnOk result ((font : View) → the_view bytes.now 0 ≡ Got font 0 → AreThere named.now (length font.char_strings)) }
+    ensures there { OnOk result ((font : View) → IsLaidOut bytes.now 0 font → AreThere named.now (length font.char_strings)) }
     ensures none { named.now ≡ [] → result ≡ Err errors.NoGlyphs }
 {
-    if named.len() == 0 {
-        return Err(Error::NoGlyphs);
-    }
-    let font = only_font(alloc, bytes)?;
-    let closed = closed_over(alloc, &font, named)?;
-    let sources = keeping(alloc, &closed, font.char_strings.len())?;
-    font_of(alloc, &font, &sources, true)
+    subset_by(alloc, bytes, named, true)
 }

@@ -60,7 +60,7 @@ fn refusal(glyph: usize, cause: Cause) -> Error
     }
 }
 
-/// The code as it is written: where it has no byte, 0 and `drop`, since the items of an INDEX have a byte at least, as `FontSet` reads them.
+/// The code as it is written: where it has no byte, 0 and `drop`, since `FontSet` reads no INDEX with items of no bytes.
 fn never_empty(code: Vec<u8>) -> Result<Vec<u8>>
     ensures code { IfOk result (λ written. written.items ≡ code_text code.items) }
     ensures memory { IfErr result (λ e. e ≡ errors.Refused causes.Memory) }

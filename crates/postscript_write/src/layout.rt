@@ -19,7 +19,7 @@ ghost use Rattle.postscript_view.specs.Sizes.{IsKeyed, size_named};
 ghost use Rattle.postscript_view.specs.Value.{parts_shown, view_shown};
 ghost use Rattle.postscript_view.specs.declared.encoding.EncodingView.{EncodingView};
 ghost use Rattle.postscript_write.specs.Arrangement.{beginnings, dictionaries_place, only_place, place_if, places_of, standard_place, text_of};
-ghost use Rattle.postscript_write.specs.ArrangedText.{AreSizedFor, NameParts, dictionaries_text, parts_text, tables_text};
+ghost use Rattle.postscript_write.specs.ArrangedText.{AreSizedFor, AreTablesOf, NameParts, dictionaries_text, parts_text, tables_text};
 ghost use Rattle.postscript_write.specs.Dictionaries.{IsHeld, IsPlaced, IsWithPlaces};
 ghost use Rattle.postscript_write.specs.DictionarySizes.{HasSize, places_size};
 ghost use Rattle.postscript_write.specs.Fonts.{NamesNoPrivateIfKeyed};
@@ -544,6 +544,26 @@ fn put_tables(
     put_index(out, &[])
 }
 
+/// The tables of a font whose parts stand from a place on, which the dictionary names.
+fn tables_of(
+    alloc: Global,
+    font: &FontView<'_>,
+    dictionary: &[u8],
+    parts: &Parts<'_>,
+    start: usize,
+) -> Result<Vec<u8>>
+    ensures tables { IfOk result (λ out. AreTablesOf font.now dictionary.now parts.now start out.items) }
+    ensures refused { IfErr result (λ e. e ≢ errors.Memory → IsSomeDictionary dictionary.now →
+        (beginnings start parts.now).end < 2 ^ 31 → length dictionary.now + places_size (places_of start parts.now) < 2 ^ 31 →
+        Fits (items_of font.now.names) → Fits (texts parts.now.glyphs.now.strings.texts.items) → ⊥) }
+{
+    let places = places_from(alloc, start, parts)?;
+    let mut out = Vec::new(alloc);
+    let strings = &parts.glyphs.strings.texts;
+    put_tables(alloc, &mut out, font, dictionary, strings, &places)?;
+    Ok(out)
+}
+
 /// Appends bytes, if there are any.
 fn put_if(out: &mut Vec<u8>, bytes: &Option<Vec<u8>>) -> Result<()>
     ensures text { OnOk result (out.new.items ≡ out.old.items ++ text_of bytes.now) }
@@ -696,13 +716,8 @@ pub(crate) fn written(
         privates,
     };
     let dictionary = dictionary_with(alloc, font, &glyphs.strings)?;
-    let texts = &glyphs.strings.texts;
-    let mut draft = Vec::new(alloc);
-    let places = places_from(alloc, 0, &parts)?;
-    put_tables(alloc, &mut draft, font, &dictionary, texts, &places)?;
-    let mut out = Vec::new(alloc);
-    let places = places_from(alloc, draft.len(), &parts)?;
-    put_tables(alloc, &mut out, font, &dictionary, texts, &places)?;
+    let draft = tables_of(alloc, font, &dictionary, &parts, 0)?;
+    let mut out = tables_of(alloc, font, &dictionary, &parts, draft.len())?;
     put_parts(alloc, &mut out, font, &parts)?;
     Ok(out)
 }

@@ -1,7 +1,7 @@
 //! The glyphs that a font is made of.
 ghost use Rattle.std.specs.Prelude.{◌≡◌, ◌<◌, ◌==◌, ◌||◌, ◌++◌, ℕ, [], ◌∷◌, Some, None, false, length, map, slice_index_or, if◌then◌else◌, IfOk, IfErr, OnOk};
 ghost use Rattle.postscript_base.specs.declared.error.Error.TheVariants as causes;
-ghost use Rattle.postscript_write.specs.Sources.{AreMarks, AreThere, chosen as the_chosen, every as the_every, keeping as the_keeping, kept_of as the_kept};
+ghost use Rattle.postscript_write.specs.Sources.{AreMarks, AreThere, choice_by, chosen as the_chosen, every as the_every, keeping as the_keeping, kept_of as the_kept};
 ghost use Rattle.postscript_write.specs.Steps.{IsNotChosen};
 ghost use Rattle.postscript_write.specs.declared.error.Error.TheVariants as errors;
 
@@ -92,7 +92,7 @@ fn made_of(alloc: Global, glyphs: &[usize]) -> Result<Vec<Option<usize>>>
 }
 
 /// The kept ones of so many glyphs, in ascending order.
-pub(crate) fn chosen(alloc: Global, named: &[usize], glyphs: usize) -> Result<Vec<Option<usize>>>
+fn chosen(alloc: Global, named: &[usize], glyphs: usize) -> Result<Vec<Option<usize>>>
     ensures sources { IfOk result (λ sources. sources.items ≡ the_chosen named.now glyphs) }
     ensures there { OnOk result (AreThere named.now glyphs) }
     ensures refused { IfErr result (λ e. IsNotChosen named.now glyphs e) }
@@ -109,7 +109,7 @@ fn kept_or_none(kept: bool, glyph: usize) -> Option<usize>
 }
 
 /// The kept ones of so many glyphs, each in its place, and empty ones between them.
-pub(crate) fn keeping(alloc: Global, named: &[usize], glyphs: usize) -> Result<Vec<Option<usize>>>
+fn keeping(alloc: Global, named: &[usize], glyphs: usize) -> Result<Vec<Option<usize>>>
     ensures sources { IfOk result (λ sources. sources.items ≡ the_keeping named.now glyphs) }
     ensures there { OnOk result (AreThere named.now glyphs) }
     ensures refused { IfErr result (λ e. IsNotChosen named.now glyphs e) }
@@ -121,4 +121,20 @@ pub(crate) fn keeping(alloc: Global, named: &[usize], glyphs: usize) -> Result<V
         sources.push(kept_or_none(kept, glyph))?;
     }
     Ok(sources)
+}
+
+/// The kept ones of so many glyphs: alone, or each in its place, where glyphs keep their numbers.
+pub(crate) fn sources_by(
+    alloc: Global,
+    named: &[usize],
+    glyphs: usize,
+    retain_gids: bool,
+) -> Result<Vec<Option<usize>>>
+    ensures sources { IfOk result (λ sources. sources.items ≡ choice_by retain_gids named.now glyphs) }
+    ensures refused { IfErr result (λ e. IsNotChosen named.now glyphs e) }
+{
+    if retain_gids {
+        return keeping(alloc, named, glyphs);
+    }
+    chosen(alloc, named, glyphs)
 }

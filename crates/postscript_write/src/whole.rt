@@ -5,7 +5,7 @@ ghost use Rattle.postscript_base.specs.declared.error.Error.TheVariants as cause
 ghost use Rattle.postscript_type2.specs.Program.Routines.{texts};
 ghost use Rattle.postscript_view.specs.CharSets.{IsCharSetOf};
 ghost use Rattle.postscript_view.specs.Encodings.{IsEncodingOf};
-ghost use Rattle.postscript_view.specs.Order.{view as the_view};
+ghost use Rattle.postscript_view.specs.Layout.{IsLaidOut};
 ghost use Rattle.postscript_view.specs.Contents.{View};
 ghost use Rattle.postscript_base.specs.Index.Lent.{items_of};
 ghost use Rattle.postscript_view.specs.Value.{view_shown};
@@ -63,10 +63,10 @@ fn put_together(
     requires small { IsLarge from.now.font.now.bytes.now (view_shown from.now.font.now) (texts from.now.codes.now) → ⊥ }
     ensures made { IfOk result (λ flat. (new : View) × IsReadAs from.now.retain_gids from.now.sources.now (view_shown from.now.font.now)
         from.now.set.now from.now.encoding.now from.now.numbers.now (texts from.now.codes.now) flat.items new) }
-    ensures font { IfOk result (λ flat. (new : View) × (the_view flat.items 0 ≡ Got new 0)
+    ensures font { IfOk result (λ flat. (new : View) × IsLaidOut flat.items 0 new
         × IsFontOf from.now.retain_gids from.now.sources.now from.now.font.now.bytes.now (view_shown from.now.font.now) flat.items new) }
     ensures whole { IfOk result (λ flat. IsWhole flat.items) }
-    ensures codes { IfOk result (λ flat. (new : View) → the_view flat.items 0 ≡ Got new 0 → new.char_strings ≡ texts from.now.codes.now) }
+    ensures codes { IfOk result (λ flat. (new : View) → IsLaidOut flat.items 0 new → new.char_strings ≡ texts from.now.codes.now) }
     ensures lenient { IfOk result (λ flat. HasLenientFont from.now.font.now.bytes.now → HasLenientFont flat.items) }
     ensures memory { IfErr result (λ e. e ≡ errors.Refused causes.Memory) }
 {
@@ -109,10 +109,10 @@ pub(crate) fn font_of(
     requires low { AreLow font.now.bytes.now }
     requires few { length sources.now < 2 ^ 16 }
     requires sources { AreSources retain_gids (length (items_of font.now.char_strings)) sources.now }
-    ensures font { IfOk result (λ flat. (new : View) × (the_view flat.items 0 ≡ Got new 0)
+    ensures font { IfOk result (λ flat. (new : View) × IsLaidOut flat.items 0 new
         × IsFontOf retain_gids sources.now font.now.bytes.now (view_shown font.now) flat.items new) }
     ensures whole { IfOk result (λ flat. IsWhole flat.items) }
-    ensures small { IfOk result (λ flat. (new : View) → the_view flat.items 0 ≡ Got new 0 →
+    ensures small { IfOk result (λ flat. (new : View) → IsLaidOut flat.items 0 new →
         IsLarge font.now.bytes.now (view_shown font.now) new.char_strings → ⊥) }
     ensures lenient { IfOk result (λ flat. HasLenientFont font.now.bytes.now → HasLenientFont flat.items) }
     ensures refused { IfErr result (λ e. FontRefusedBy font.now.bytes.now (view_shown font.now) sources.now e) }

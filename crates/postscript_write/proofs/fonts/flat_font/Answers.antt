@@ -6,8 +6,9 @@ use Rattle.postscript_write.specs.Readings.{HasLenientFont}
 use Rattle.postscript_write.specs.Refusals.{FontRefusedBy}
 use Rattle.postscript_write.specs.Sources.{every}
 use Rattle.std.proofs.lemmas.Result.{err_from_is_err_and}
+use Rattle.postscript_write.proofs.ReadAgain.{small_so}
 use Rattle.postscript_write.proofs.Drawings.{flat-drawn}
-use Rattle.postscript_write.proofs.Making.{if_ok, if_err, is_refused, memory_bytes, not_opened}
+use Rattle.postscript_write.proofs.Making.{if_err, if_ok, is_refused, memory_bytes, not_opened, on_ok}
 use Rattle.postscript_base.specs.Index.Lent.{items_of}
 use Rattle.postscript_write.specs.Identified.{KeepNumbers}
 use Rattle.postscript_write.proofs.Sourced.{every_kept, every_long}
@@ -68,3 +69,12 @@ font_of-requires-clause-sources c =
     let glyphs = length (items_of c.in_ok-font.font.char_strings) in
     let is = c.deref.ensures.value ∙ c.in_ok-sources.ensures.sources ∙ ap (λ n. every n) c.len.ensures in
     subst (λ (s : List (Option ℕ)). KeepNumbers s glyphs) (sym is) (every_kept glyphs)
+
+pub returns-clause-one : goal.returns-clause-one
+returns-clause-one c = on_ok c.font_of.result c.in_ok-font.ensures.one
+
+pub returns-clause-small : goal.returns-clause-small
+returns-clause-small c =
+    if_ok c.font_of.result (λ flat small. small_so c.in_ok-font.font c.args.bytes.now flat.items c.in_ok-font.ensures.is
+    c.in_ok-font.ensures.bytes small)
+    c.font_of.ensures.small

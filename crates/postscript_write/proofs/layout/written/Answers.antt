@@ -1,22 +1,20 @@
-use Rattle.std.proofs.Common.{◌≡◌, refl, sym, ◌∙◌, ap, subst, ◌++◌, ◌<◌, ◌≤◌, ◌+◌, ◌^◌, List, Vec, ℕ, inl, inr, length, length-append, arith}
+use Rattle.std.proofs.Common.{◌≡◌, refl, sym, ◌∙◌, ap, subst, ◌++◌, ◌<◌, ◌^◌, List, ℕ, inl, inr, length, length-append, arith}
 use Rattle.std.specs.Prelude.{All}
-use Rattle.std.specs.declared.alloc.Global.{Global}
 use Rattle.std.proofs.lemmas.Result.{err_from_is_err_and}
 use Rattle.postscript_base.specs.Index.Lent.{items_of}
 use Rattle.postscript_type2.specs.Program.Routines.{texts}
 use Rattle.postscript_write.specs.Arrangement.{beginnings, places_of}
-use Rattle.postscript_write.specs.ArrangedText.{AreSizedFor, dictionaries_text, parts_text, tables_text}
+use Rattle.postscript_write.specs.ArrangedText.{AreSizedFor, AreTablesOf, dictionaries_text, parts_text, tables_text}
 use Rattle.postscript_write.specs.Dictionaries.{IsHeld, IsWithPlaces}
-use Rattle.postscript_write.specs.DictionarySizes.{HasSize, places_size}
-use Rattle.postscript_write.specs.Index.{Fits, index_text}
-use Rattle.postscript_write.specs.Privates.{AreOwnPrivates, IsSomeDictionary, privates_text}
+use Rattle.postscript_write.specs.Index.{index_text}
+use Rattle.postscript_write.specs.Privates.{AreOwnPrivates, privates_text}
 use Rattle.postscript_view.specs.Value.{parts_shown}
 use Rattle.postscript_write.specs.declared.layout.Parts.{Parts}
 use Rattle.postscript_write.proofs.Lengths.{parts_end, parts_stand, same_tables, same_text}
 use Rattle.postscript_write.specs.Texts.{Stands}
 use Rattle.postscript_write.proofs.Arranged.{private_there}
 use Rattle.postscript_write.proofs.TablesStand.{dictionaries_there, header_is, index_there, tables_are}
-use Rattle.postscript_write.proofs.Within.{all_held, codes_fit, dictionary_within, end_within, HasFew, names_fit, strings_fit, tables_room, tables_within}
+use Rattle.postscript_write.proofs.Within.{HasFew, RefusesTables, codes_fit, end_within, tables_end, tables_written}
 use Rattle.postscript_write.proofs.LaidOut.{laid_out}
 use Rattle.postscript_write.specs.Fonts.{NamesNoPrivateIfKeyed}
 use Rattle.postscript_write.specs.ReadBack.{HasCharSetText}
@@ -39,73 +37,60 @@ returns-clause-written c =
     let dictionary : List ℕ = c.in_ok-dictionary.dictionary.items in
     let names : List (List ℕ) = items_of font.names in
     let strings : List (List ℕ) = texts glyphs.strings.texts.items in
-    let draft = c.in_ok-put_tables.ensures.text in
-    let put = c.in_ok-put_tables-2.ensures.text in
+    let start : ℕ = c.len.result in
+    let draft = subst (λ (d : List ℕ). AreTablesOf font d parts 0 c.in_ok-draft.draft.items) c.deref-2.ensures.value
+    c.in_ok-draft.ensures.tables in
+    let put = subst (λ (d : List ℕ). AreTablesOf font d parts start c.in_ok-out.out.items) c.deref-3.ensures.value
+    c.in_ok-out.ensures.tables in
     let behind = c.in_ok-put_parts.ensures.text in
     let counted = c.in_ok-dictionaries_len.ensures.len in
-    let tables : List ℕ = c.put_tables-2.new.out.items in
-    let are_draft : c.put_tables.new.out.items ≡ tables_text names draft.0 strings =
-    draft.1 ∙ ap (λ xs. xs ++ tables_text names draft.0 (texts c.deref-3.result.now)) c.new-draft.ensures.items
-    ∙ ap (λ ts. tables_text names draft.0 (texts ts)) c.deref-3.ensures.value in
-    let are_tables : tables ≡ tables_text names put.0 strings =
-    put.1 ∙ ap (λ xs. xs ++ tables_text names put.0 (texts c.deref-6.result.now)) c.new-out.ensures.items
-    ∙ ap (λ ts. tables_text names put.0 (texts ts)) c.deref-6.ensures.value in
+    let tables : List ℕ = c.in_ok-out.out.items in
     let len : parts.dictionaries ≡ length (dictionaries_text glyphs.select behind.0) =
     counted.1 ∙ same_text font.bytes.now font.dictionary parts.privates.items glyphs.select counted.0 behind.0
     (λ is. subst (λ ps. AreSizedFor font.bytes.now font.dictionary ps counted.0) c.deref.ensures.value (counted.2 is)) behind.3 in
     let written = ap length behind.1 ∙ length-append tables (parts_text parts behind.0) in
-    let begins : c.len.result ≡ length c.put_tables.new.out.items = omega (arith, c.len.ensures, c.put_tables.new.out.ok.0) in
-    let few = c.put_tables.new.out.small in
+    let begins : start ≡ length c.in_ok-draft.draft.items = omega (arith, c.len.ensures, c.in_ok-draft.draft.ok.0) in
+    let few = c.in_ok-draft.draft.small in
     let small = c.put_parts.new.out.small in
-    let fits : (beginnings c.len.result parts).end < 2 ^ 64 =
+    let first : (beginnings 0 parts).end < 2 ^ 64 = omega
+    (arith, parts_end parts behind.0 0 len, written, small, c.put_parts.new.out.ok.0) in
+    let fits : (beginnings start parts).end < 2 ^ 64 =
     omega (
       arith,
-      parts_end parts behind.0 c.len.result len,
+      parts_end parts behind.0 start len,
       written,
       begins,
       few,
       small,
-      c.put_tables.new.out.ok.0,
+      c.in_ok-draft.draft.ok.0,
       c.put_parts.new.out.ok.0,
     ) in
-    let fits_first : (beginnings 0 parts).end < 2 ^ 64 =
-    omega (arith, parts_end parts behind.0 0 len, written, small, c.put_parts.new.out.ok.0) in
-    let first_places = c.deref-4.ensures.value ∙ c.in_ok-places.ensures.places fits_first in
-    let second_places = c.deref-7.ensures.value ∙ c.in_ok-places-2.ensures.places fits in
-    let first_size : HasSize dictionary (places_of 0 parts) (length draft.0) =
-    subst (λ (d : List ℕ). HasSize d (places_of 0 parts) (length draft.0)) c.deref-2.ensures.value
-    (subst (λ ps. HasSize c.deref-2.result.now ps (length draft.0)) first_places draft.3) in
-    let second_size : HasSize dictionary (places_of c.len.result parts) (length put.0) =
-    subst (λ (d : List ℕ). HasSize d (places_of c.len.result parts) (length put.0)) c.deref-5.ensures.value
-    (subst (λ ps. HasSize c.deref-5.result.now ps (length put.0)) second_places put.3) in
-    let place : c.len.result ≡ length tables = begins ∙ ap length are_draft
-    ∙ same_tables names strings dictionary parts 0 c.len.result draft.0 put.0 first_size second_size ∙ sym (ap length are_tables) in
+    let place : start ≡ length tables = begins ∙ ap length draft.text
+    ∙ same_tables names strings dictionary parts 0 start draft.placed put.placed (draft.sized first) (put.sized fits)
+    ∙ sym (ap length put.text) in
     let out : List ℕ = c.put_parts.new.out.items in
-    let whole : out ≡ tables_text names put.0 strings ++ parts_text parts behind.0 = behind.1
-    ∙ ap (λ xs. xs ++ parts_text parts behind.0) are_tables in
+    let whole : out ≡ tables_text names put.placed strings ++ parts_text parts behind.0 = behind.1
+    ∙ ap (λ xs. xs ++ parts_text parts behind.0) put.text in
     let less : length out < 2 ^ 64 = omega (arith, small, c.put_parts.new.out.ok.0) in
     let stand = parts_stand parts behind.0 tables out len behind.1 in
     let codes_are : parts.char_strings.items ≡ index_text (texts c.args.codes.now) =
     c.in_ok-put_index.ensures.ok ∙ ap (λ xs. xs ++ index_text (texts c.args.codes.now)) c.new-char_strings.ensures.items in
     let at = beginnings (length tables) parts in
-    let strings_fit = subst (λ ts. Fits (texts ts)) c.deref-6.ensures.value c.in_ok-put_tables-2.ensures.strings_fit in
-    let places : IsWithPlaces dictionary (places_of (length tables) parts) put.0 =
-    subst (λ n. IsWithPlaces dictionary (places_of n parts) put.0) place
-    (subst (λ (d : List ℕ). IsWithPlaces d (places_of c.len.result parts) put.0) c.deref-5.ensures.value
-    (subst (λ ps. IsWithPlaces c.deref-5.result.now ps put.0) second_places put.2)) in
+    let places : IsWithPlaces dictionary (places_of (length tables) parts) put.placed =
+    subst (λ n. IsWithPlaces dictionary (places_of n parts) put.placed) place (put.places fits) in
     record {
       parts = parts;
       dictionary = dictionary;
-      placed = put.0;
+      placed = put.placed;
       dictionaries = behind.0;
       tables = tables;
-      are_tables = are_tables;
+      are_tables = put.text;
       text = behind.1;
       of_glyphs = refl;
       counted = len;
-      names_fit = c.in_ok-put_tables-2.ensures.names_fit;
-      dictionary_fits = put.4;
-      strings_fit = strings_fit;
+      names_fit = put.names_fit;
+      dictionary_fits = put.dictionary_fits;
+      strings_fit = put.strings_fit;
       char_strings_fit = c.in_ok-put_index.ensures.fits;
       dictionaries_fit = behind.4;
       char_strings = codes_are;
@@ -113,18 +98,18 @@ returns-clause-written c =
       none_named = c.in_ok-privates.ensures.named;
       renamed = c.in_ok-dictionary.ensures.renamed;
       places = places;
-      held = subst (λ n. All IsHeld (places_of n parts)) place (subst (All IsHeld) second_places c.in_ok-put_tables-2.ensures.held);
+      held = subst (λ n. All IsHeld (places_of n parts)) place (put.held fits);
       tables_stand = λ are.
           let named = c.in_ok-dictionary.ensures.renamed are in
           let new = places named.0 named.1 in
           record {
-            header = header_is out (parts_text parts behind.0) names strings put.0 whole;
+            header = header_is out (parts_text parts behind.0) names strings put.placed whole;
             named = named.0;
             new = new.0;
             renamed = named.2;
             placed = new.2;
-            are = tables_are out (parts_text parts behind.0) names strings put.0 new.0 whole c.in_ok-put_tables-2.ensures.names_fit put.4
-                strings_fit new.1;
+            are = tables_are out (parts_text parts behind.0) names strings put.placed new.0 whole put.names_fit put.dictionary_fits
+                put.strings_fit new.1;
           };
       codes_stand = index_there (texts c.args.codes.now) out at.char_strings less c.in_ok-put_index.ensures.fits
           (subst (λ xs. Stands xs out at.char_strings) codes_are stand.char_strings);
@@ -217,11 +202,10 @@ returns-in_err-dictionary-clause-refused c =
     rw (error.1, error.2) (λ other read selects room. c.in_err-dictionary.ensures.refused other read.laid.header read.laid.tables
     room.renamed)
 
-pub returns-in_err-put_tables-clause-refused : goal.returns-in_err-put_tables-clause-refused
-returns-in_err-put_tables-clause-refused c =
-    let error = err_from_is_err_and c.from_residual-in_err-put_tables.result c.from_residual-in_err-put_tables.ensures.1 in
+pub returns-in_err-draft-clause-refused : goal.returns-in_err-draft-clause-refused
+returns-in_err-draft-clause-refused c =
+    let error = err_from_is_err_and c.from_residual-in_err-draft.result c.from_residual-in_err-draft.ensures.1 in
     let font = c.args.font.now in
-    let glyphs = c.args.glyphs.now in
     let codes : List (List ℕ) = texts c.args.codes.now in
     let parts : Parts = record {
       glyphs = c.args.glyphs;
@@ -229,7 +213,6 @@ returns-in_err-put_tables-clause-refused c =
       privates = c.in_ok-privates.privates;
       dictionaries = c.in_ok-dictionaries_len.field-0;
     } in
-    let dictionary : List ℕ = c.in_ok-dictionary.dictionary.items in
     let codes_are : parts.char_strings.items ≡ index_text codes = c.in_ok-put_index.ensures.ok
     ∙ ap (λ xs. xs ++ index_text codes) c.new-char_strings.ensures.items in
     rw (error.1, error.2) (λ other read selects room.
@@ -238,25 +221,15 @@ returns-in_err-put_tables-clause-refused c =
       privates = c.in_ok-privates.ensures.few read;
       dictionaries = c.in_ok-dictionaries_len.ensures.few read selects room.few_parts;
     } in
-    let end_first = end_within font codes parts 0 room few (omega arith) in
-    let first_places : c.deref-4.result.now ≡ places_of 0 parts = c.deref-4.ensures.value
-    ∙ c.in_ok-places.ensures.places (omega (arith, end_first)) in
-    let first_few = dictionary_within font glyphs.strings dictionary parts 0 c.deref-4.result.now c.in_ok-dictionary.ensures.sized
-    first_places in
     let new = c.in_ok-dictionary.ensures.renamed read.laid.tables in
-    let all = room.all in
-    let is = sym c.deref-2.ensures.value in
-    c.in_err-put_tables.ensures.refused other (all_held font codes parts 0 c.deref-4.result.now room few (omega arith) first_places)
-    (subst (λ (d : List ℕ). IsSomeDictionary d) is (new.0, new.1))
-    (subst (λ (d : List ℕ). length d + places_size c.deref-4.result.now < 2 ^ 31) is (omega (arith, first_few, all)))
-    (names_fit font glyphs codes room)
-    (subst (λ (ts : List (Vec ℕ Global)). Fits (texts ts)) (sym c.deref-3.ensures.value) (strings_fit font glyphs codes room)))
+    tables_written font codes parts c.in_ok-dictionary.dictionary.items 0 room few c.in_ok-dictionary.ensures.sized (omega arith)
+    (new.0, new.1)
+    (subst (λ (d : List ℕ). RefusesTables font d parts 0) c.deref-2.ensures.value (c.in_err-draft.ensures.refused other)))
 
-pub returns-in_err-put_tables-2-clause-refused : goal.returns-in_err-put_tables-2-clause-refused
-returns-in_err-put_tables-2-clause-refused c =
-    let error = err_from_is_err_and c.from_residual-in_err-put_tables-2.result c.from_residual-in_err-put_tables-2.ensures.1 in
+pub returns-in_err-out-clause-refused : goal.returns-in_err-out-clause-refused
+returns-in_err-out-clause-refused c =
+    let error = err_from_is_err_and c.from_residual-in_err-out.result c.from_residual-in_err-out.ensures.1 in
     let font = c.args.font.now in
-    let glyphs = c.args.glyphs.now in
     let codes : List (List ℕ) = texts c.args.codes.now in
     let parts : Parts = record {
       glyphs = c.args.glyphs;
@@ -267,51 +240,25 @@ returns-in_err-put_tables-2-clause-refused c =
     let dictionary : List ℕ = c.in_ok-dictionary.dictionary.items in
     let codes_are : parts.char_strings.items ≡ index_text codes = c.in_ok-put_index.ensures.ok
     ∙ ap (λ xs. xs ++ index_text codes) c.new-char_strings.ensures.items in
-    let draft = c.in_ok-put_tables.ensures.text in
-    let are_draft : c.put_tables.new.out.items ≡ tables_text (items_of font.names) draft.0 (texts glyphs.strings.texts.items) =
-    draft.1
-    ∙ ap (λ xs. xs ++ tables_text (items_of font.names) draft.0 (texts c.deref-3.result.now)) c.new-draft.ensures.items
-    ∙ ap (λ ts. tables_text (items_of font.names) draft.0 (texts ts)) c.deref-3.ensures.value in
-    let first_size : HasSize dictionary c.deref-4.result.now (length draft.0) = subst
-    (λ (d : List ℕ). HasSize d c.deref-4.result.now (length draft.0)) c.deref-2.ensures.value draft.3 in
+    let draft = subst (λ (d : List ℕ). AreTablesOf font d parts 0 c.in_ok-draft.draft.items) c.deref-2.ensures.value
+    c.in_ok-draft.ensures.tables in
     rw (error.1, error.2) (λ other read selects room.
     let few : HasFew font codes parts = record {
       char_strings = codes_are;
       privates = c.in_ok-privates.ensures.few read;
       dictionaries = c.in_ok-dictionaries_len.ensures.few read selects room.few_parts;
     } in
-    let end_first = end_within font codes parts 0 room few (omega arith) in
-    let first_places : c.deref-4.result.now ≡ places_of 0 parts = c.deref-4.ensures.value
-    ∙ c.in_ok-places.ensures.places (omega (arith, end_first)) in
-    let first_few = dictionary_within font glyphs.strings dictionary parts 0 c.deref-4.result.now c.in_ok-dictionary.ensures.sized
-    first_places in
-    let begins : c.len.result ≤ tables_room font glyphs =
-    omega (
-      arith,
-      tables_within font glyphs dictionary draft.0 c.deref-4.result.now first_few first_size,
-      ap length are_draft,
-      c.len.ensures,
-      c.put_tables.new.out.ok.0,
-    ) in
-    let end = end_within font codes parts c.len.result room few begins in
-    let places : c.deref-7.result.now ≡ places_of c.len.result parts = c.deref-7.ensures.value
-    ∙ c.in_ok-places-2.ensures.places (omega (arith, end)) in
-    let second_few = dictionary_within font glyphs.strings dictionary parts c.len.result c.deref-7.result.now
-    c.in_ok-dictionary.ensures.sized places in
     let new = c.in_ok-dictionary.ensures.renamed read.laid.tables in
-    let all = room.all in
-    let is = sym c.deref-5.ensures.value in
-    c.in_err-put_tables-2.ensures.refused other (all_held font codes parts c.len.result c.deref-7.result.now room few begins places)
-    (subst (λ (d : List ℕ). IsSomeDictionary d) is (new.0, new.1))
-    (subst (λ (d : List ℕ). length d + places_size c.deref-7.result.now < 2 ^ 31) is (omega (arith, second_few, all)))
-    (names_fit font glyphs codes room)
-    (subst (λ (ts : List (Vec ℕ Global)). Fits (texts ts)) (sym c.deref-6.ensures.value) (strings_fit font glyphs codes room)))
+    let sized = c.in_ok-dictionary.ensures.sized in
+    let begins = tables_end font codes parts dictionary 0 c.in_ok-draft.draft.items room few sized (omega arith) draft in
+    tables_written font codes parts dictionary c.len.result room few sized
+    (omega (arith, begins, c.len.ensures, c.in_ok-draft.draft.ok.0)) (new.0, new.1)
+    (subst (λ (d : List ℕ). RefusesTables font d parts c.len.result) c.deref-3.ensures.value (c.in_err-out.ensures.refused other)))
 
 pub returns-in_err-put_parts-clause-refused : goal.returns-in_err-put_parts-clause-refused
 returns-in_err-put_parts-clause-refused c =
     let error = err_from_is_err_and c.from_residual-in_err-put_parts.result c.from_residual-in_err-put_parts.ensures.1 in
     let font = c.args.font.now in
-    let glyphs = c.args.glyphs.now in
     let codes : List (List ℕ) = texts c.args.codes.now in
     let parts : Parts = record {
       glyphs = c.args.glyphs;
@@ -322,46 +269,19 @@ returns-in_err-put_parts-clause-refused c =
     let dictionary : List ℕ = c.in_ok-dictionary.dictionary.items in
     let codes_are : parts.char_strings.items ≡ index_text codes = c.in_ok-put_index.ensures.ok
     ∙ ap (λ xs. xs ++ index_text codes) c.new-char_strings.ensures.items in
-    let draft = c.in_ok-put_tables.ensures.text in
-    let are_draft : c.put_tables.new.out.items ≡ tables_text (items_of font.names) draft.0 (texts glyphs.strings.texts.items) =
-    draft.1
-    ∙ ap (λ xs. xs ++ tables_text (items_of font.names) draft.0 (texts c.deref-3.result.now)) c.new-draft.ensures.items
-    ∙ ap (λ ts. tables_text (items_of font.names) draft.0 (texts ts)) c.deref-3.ensures.value in
-    let first_size : HasSize dictionary c.deref-4.result.now (length draft.0) = subst
-    (λ (d : List ℕ). HasSize d c.deref-4.result.now (length draft.0)) c.deref-2.ensures.value draft.3 in
-    let put = c.in_ok-put_tables-2.ensures.text in
-    let tables : List ℕ = c.put_tables-2.new.out.items in
-    let are_tables : tables ≡ tables_text (items_of font.names) put.0 (texts glyphs.strings.texts.items) =
-    put.1
-    ∙ ap (λ xs. xs ++ tables_text (items_of font.names) put.0 (texts c.deref-6.result.now)) c.new-out.ensures.items
-    ∙ ap (λ ts. tables_text (items_of font.names) put.0 (texts ts)) c.deref-6.ensures.value in
-    let second_size : HasSize dictionary c.deref-7.result.now (length put.0) = subst
-    (λ (d : List ℕ). HasSize d c.deref-7.result.now (length put.0)) c.deref-5.ensures.value put.3 in
+    let draft = subst (λ (d : List ℕ). AreTablesOf font d parts 0 c.in_ok-draft.draft.items) c.deref-2.ensures.value
+    c.in_ok-draft.ensures.tables in
+    let put = subst (λ (d : List ℕ). AreTablesOf font d parts c.len.result c.in_ok-out.out.items) c.deref-3.ensures.value
+    c.in_ok-out.ensures.tables in
     rw (error.1, error.2) (λ other read selects room.
     let few : HasFew font codes parts = record {
       char_strings = codes_are;
       privates = c.in_ok-privates.ensures.few read;
       dictionaries = c.in_ok-dictionaries_len.ensures.few read selects room.few_parts;
     } in
-    let end_first = end_within font codes parts 0 room few (omega arith) in
-    let first_places : c.deref-4.result.now ≡ places_of 0 parts = c.deref-4.ensures.value
-    ∙ c.in_ok-places.ensures.places (omega (arith, end_first)) in
-    let first_few = dictionary_within font glyphs.strings dictionary parts 0 c.deref-4.result.now c.in_ok-dictionary.ensures.sized
-    first_places in
-    let begins : c.len.result ≤ tables_room font glyphs =
-    omega (
-      arith,
-      tables_within font glyphs dictionary draft.0 c.deref-4.result.now first_few first_size,
-      ap length are_draft,
-      c.len.ensures,
-      c.put_tables.new.out.ok.0,
-    ) in
-    let end = end_within font codes parts c.len.result room few begins in
-    let places : c.deref-7.result.now ≡ places_of c.len.result parts = c.deref-7.ensures.value
-    ∙ c.in_ok-places-2.ensures.places (omega (arith, end)) in
-    let second_few = dictionary_within font glyphs.strings dictionary parts c.len.result c.deref-7.result.now
-    c.in_ok-dictionary.ensures.sized places in
-    let within : length tables ≤ tables_room font glyphs = omega
-    (arith, tables_within font glyphs dictionary put.0 c.deref-7.result.now second_few second_size, ap length are_tables) in
+    let sized = c.in_ok-dictionary.ensures.sized in
+    let begins = tables_end font codes parts dictionary 0 c.in_ok-draft.draft.items room few sized (omega arith) draft in
+    let within = tables_end font codes parts dictionary c.len.result c.in_ok-out.out.items room few sized
+    (omega (arith, begins, c.len.ensures, c.in_ok-draft.draft.ok.0)) put in
     c.in_err-put_parts.ensures.refused other read selects room.few_parts (c.in_ok-privates.ensures.own read.laid.parts)
-    (end_within font codes parts (length tables) room few within))
+    (end_within font codes parts (length c.in_ok-out.out.items) room few within))

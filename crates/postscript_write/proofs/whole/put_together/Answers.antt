@@ -1,6 +1,5 @@
 use Rattle.std.proofs.Common.{◌<◌, ◌^◌, sym, ap, subst, ◌∙◌, length, arith}
 use Rattle.postscript_type2.specs.Program.Routines.{texts}
-use Rattle.postscript_view.proofs.LayoutLaws.{reads_layout}
 use Rattle.postscript_view.specs.Contents.{View}
 use Rattle.postscript_view.specs.Value.{view_shown}
 use Rattle.postscript_write.proofs.Counts.{numbers_low}
@@ -73,7 +72,7 @@ returns-in-Ok-clause-font c =
     let from = c.args.from.now in
     let made = returns-in-Ok-clause-made c in (
       made.0,
-      (reads_layout c.in-Ok.flat.items 0 made.0).1 made.1.laid,
+      made.1.laid,
       font_as from.sources.now from.font.now.bytes.now (view_shown from.font.now) from.set.now from.encoding.now from.numbers.now
           (texts from.codes.now) c.in-Ok.flat.items made.0 c.requires.encoding
           from.retain_gids c.requires.set c.requires.numbers c.requires.codes made.1,
@@ -82,7 +81,7 @@ returns-in-Ok-clause-font c =
 pub returns-in-Ok-clause-whole : goal.returns-in-Ok-clause-whole
 returns-in-Ok-clause-whole c =
     let made = returns-in-Ok-clause-made c in
-    (made.0, (reads_layout c.in-Ok.flat.items 0 made.0).1 made.1.laid, made.1.written.whole)
+    (made.0, made.1.laid, made.1.written.whole)
 
 pub returns-in-Ok-clause-codes : goal.returns-in-Ok-clause-codes
 returns-in-Ok-clause-codes c = λ new is.
