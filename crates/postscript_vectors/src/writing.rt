@@ -11,12 +11,12 @@ use std::io::Cursor;
 use std::process::Abort;
 
 /// What is told of each glyph of the CID-keyed font without subroutines: what was told with them, but for the bytes of the codes
-/// `87 9f 16 0e` and `92 bd 16 0e`, and for the operator Subrs of the first private dictionary.
+/// `87 9f 16 0e`, `92 bd 16 0e` and `8b 0c 12`, and for the operator Subrs of the first private dictionary.
 const FLAT: &[&str] = &[
     "cid 0 part 0 bytes 1 advance 5e2 bits 32768000 5e-4 0 0 5e-4 0 0 private 2",
     "cid 10 part 0 bytes 4 advance 6e2 and -4 bits 39059456 5e-4 0 0 5e-4 0 0 private 2",
     "cid 11 part 1 bytes 4 advance -3e1 and 7 bits -1507328 1e-3 0 0 1e-3 0 0 private 2",
-    "cid 100 part 1 bytes 0 advance 25e1 bits 16384000 1e-3 0 0 1e-3 0 0 private 2",
+    "cid 100 part 1 bytes 3 advance 25e1 bits 16384000 1e-3 0 0 1e-3 0 0 private 2",
     "",
 ];
 
