@@ -160,7 +160,7 @@ pub enum Error {
 }
 
 /// All that have a number.
-const ERRORS: [Error; 64] = [
+const ERRORS: [Error; 63] = [
     Error::UnexpectedEof,
     Error::Memory,
     Error::MalformedOffset,
