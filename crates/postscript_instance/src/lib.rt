@@ -16,8 +16,6 @@ mod rooms;
 mod rounding;
 mod statics;
 mod tables;
-#[cfg(test)]
-mod tests;
 mod texts;
 mod whole;
 

@@ -7,8 +7,6 @@ mod file;
 mod mapping;
 mod metrics;
 mod numbers;
-#[cfg(test)]
-mod tests;
 
 pub use checksums::checksum;
 pub use error::{Error, Result};

@@ -10,8 +10,6 @@ mod program;
 mod routine;
 mod sayings;
 mod state;
-#[cfg(test)]
-mod tests;
 mod within;
 
 pub use charstring::{Blends, Charstring};

@@ -5,8 +5,6 @@
 mod drawing;
 mod glyph;
 pub mod laws;
-#[cfg(test)]
-mod tests;
 
 pub use drawing::{draw, draw_program, outline_of};
 pub use glyph::draw_glyph;

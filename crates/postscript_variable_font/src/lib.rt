@@ -6,8 +6,6 @@ mod error;
 mod glyph;
 pub mod laws;
 mod place;
-#[cfg(test)]
-mod tests;
 
 pub use error::{Error, Result};
 pub use glyph::charstring;

@@ -44,6 +44,8 @@ mod sessions;
 #[cfg(test)]
 mod sfnt;
 #[cfg(test)]
+mod sfnt_write;
+#[cfg(test)]
 mod starts;
 pub mod synthetic;
 #[cfg(test)]

@@ -1,5 +1,6 @@
 //! Tables as fontTools 4.38 writes them, and what it computes of them; coordinates in 16.16 are computed by hand.
-use crate::{
+use crate::checks::{holds, holds_at};
+use postscript_variation::{
     AdvanceVariations, Axes, Error, FULL, Maps, MetricVariations, Result, Setting, Span, Store,
     in_whole,
 };
@@ -59,29 +60,51 @@ const UNDO: u32 = 0x756e646f;
 
 const XHGT: u32 = 0x78686774;
 
+/// A place: wght 0.5, wdth -0.5.
+const PLACE: [i16; 2] = [8192, -8192];
+
 /// A value in units of 2 ^ -16.
 fn fixed(value: i16) -> i32 {
-    value as i32 * 65536
+    i32::from(value) * 65536
 }
 
+/// The axes, an instance, and how many maps there are.
 #[test]
-fn axes_instances_and_coordinates(rt: HostRuntime) {
+fn axes_and_instances(rt: HostRuntime) {
     let axes = Axes::read(FVAR).expect(&rt, "axes");
     let maps = Maps::read(AVAR).expect(&rt, "maps");
-    assert_eq!(rt; (axes.len(), axes.instances(), maps.len()), (2, 1, 2));
+    let counts = [axes.len(), axes.instances(), maps.len()];
+    holds(&rt, counts == [2, 1, 2], "counts");
     let wdth = axes.get(1).expect(&rt, "wdth");
-    assert_eq!(rt;
-        (wdth.tag, wdth.minimum, wdth.default, wdth.maximum),
-        (WDTH, fixed(75), fixed(100), fixed(125))
+    holds(&rt, wdth.tag == WDTH, "its tag");
+    let values = [wdth.minimum, wdth.default, wdth.maximum];
+    holds(
+        &rt,
+        values == [fixed(75), fixed(100), fixed(125)],
+        "its values",
     );
-    assert_eq!(rt; (wdth.flags, wdth.name), (1, 257));
+    holds(
+        &rt,
+        wdth.flags == 1 && wdth.name == 257,
+        "its flags and name",
+    );
     let instance = axes.instance(0).expect(&rt, "an instance");
-    assert_eq!(rt;
-        (instance.name, instance.flags, instance.postscript_name),
-        (258, 0, Some(259))
-    );
-    assert_eq!(rt; axes.coordinate(0, 1), Some(5734400));
-    let rows = [
+    holds(&rt, instance.name == 258 && instance.flags == 0, "its name");
+    holds(&rt, instance.postscript_name == Some(259), "its other name");
+    holds(&rt, axes.coordinate(0, 1) == Some(5734400), "its place");
+}
+
+/// A setting of an axis.
+fn setting(tag: u32, value: i32) -> Setting {
+    Setting { tag, value }
+}
+
+/// Each row: a value of wght, and what it is normalized, mapped, and as a coordinate.
+#[test]
+fn coordinates(rt: HostRuntime) {
+    let axes = Axes::read(FVAR).expect(&rt, "axes");
+    let maps = Maps::read(AVAR).expect(&rt, "maps");
+    let rows: [(i16, i32, i32, i16); 8] = [
         (50, -65536, -65536, -16384),
         (100, -65536, -65536, -16384),
         (400, 0, 0, 0),
@@ -92,82 +115,73 @@ fn axes_instances_and_coordinates(rt: HostRuntime) {
         (1000, 65536, 65536, 16384),
     ];
     let wght = axes.get(0).expect(&rt, "wght");
-    for (value, normalized, mapped, short) in rows {
-        let at = wght.normalized(fixed(value));
-        assert_eq!(rt;
-            (at, maps.mapped(0, at)),
-            (normalized, mapped),
-            "at {value}"
-        );
+    for (i, (value, normalized, mapped, short)) in rows.iter().enumerate() {
+        let at = wght.normalized(fixed(*value));
+        holds_at(&rt, at == *normalized, "normalized", i);
+        holds_at(&rt, maps.mapped(0, at) == *mapped, "mapped", i);
         let settings = [
-            Setting {
-                tag: WGHT,
-                value: 0,
-            },
-            Setting {
-                tag: WDTH,
-                value: 5734400,
-            },
-            Setting {
-                tag: WGHT,
-                value: fixed(value),
-            },
+            setting(WGHT, 0),
+            setting(WDTH, 5734400),
+            setting(WGHT, fixed(*value)),
         ];
-        let mut coordinates = [7i16; 3];
-        axes.normalize(Some(maps), &settings, &mut coordinates);
-        assert_eq!(rt; coordinates, [short, -8192, 0], "at {value}");
+        let mut found = [7i16; 3];
+        axes.normalize(Some(maps), &settings, &mut found);
+        holds_at(&rt, found == [*short, -8192, 0], "coordinates", i);
     }
-    assert_eq!(rt; axes.normalized(0, None, &[]), 0);
+    holds(&rt, axes.normalized(0, None, &[]) == 0, "the default");
 }
 
+/// A store of two delta sets, and a scalar that is cut.
 #[test]
-fn variations(rt: HostRuntime) {
-    let coordinates: [i16; 2] = [8192, -8192];
+fn deltas(rt: HostRuntime) {
     let store = Store::read(HVAR, 20).expect(&rt, "a store");
     let data = store.table(0).expect(&rt, "data");
-    assert_eq!(rt; (store.len(), data.len()), (1, 2));
-    assert_eq!(rt;
-        (data.scalar(0, &coordinates), data.scalar(1, &coordinates)),
-        (Some(32768), Some(16384))
-    );
+    holds(&rt, store.len() == 1 && data.len() == 2, "counts");
+    let scalars = [data.scalar(0, &PLACE), data.scalar(1, &PLACE)];
+    holds(&rt, scalars == [Some(32768), Some(16384)], "scalars");
     let span = Span {
         start: 0,
         peak: 16209,
         end: 16384,
     };
-    assert_eq!(rt; span.scaled(FULL, 3346), 13528);
-    let rows = [(HVAR, [0, 1, 2]), (HVAR_MAP, [1, 0, 1])];
+    holds(&rt, span.scaled(FULL, 3346) == 13528, "a scalar");
+}
+
+/// What the glyphs of the rows vary by: by which delta set each.
+#[test]
+fn variations_of_advances(rt: HostRuntime) {
+    let rows: [(&[u8], [usize; 3]); 2] = [(HVAR, [0, 1, 2]), (HVAR_MAP, [1, 0, 1])];
+    let wanted = [Some(2457600), Some(9945088), None];
     for (table, items) in rows {
         let advances = AdvanceVariations::read(table).expect(&rt, "advances");
         for (glyph, item) in items.iter().enumerate() {
-            let wanted = match *item {
-                0 => Some(2457600),
-                1 => Some(9945088),
-                _ => None,
-            };
-            assert_eq!(rt;
-                advances.variation(glyph, &coordinates),
-                wanted,
-                "glyph {glyph}"
-            );
+            let found = advances.variation(glyph, &PLACE);
+            holds_at(&rt, found == wanted[*item], "an advance", glyph);
         }
     }
+}
+
+#[test]
+fn variations_of_metrics(rt: HostRuntime) {
     let metrics = MetricVariations::read(MVAR).expect(&rt, "metrics");
-    for (tag, wanted) in [(UNDO, Some(2457600)), (XHGT, Some(9945088)), (WGHT, None)] {
-        assert_eq!(rt;
-            metrics.variation(tag, &coordinates),
-            wanted,
-            "metric {tag:x}"
-        );
+    let rows = [(UNDO, Some(2457600)), (XHGT, Some(9945088)), (WGHT, None)];
+    for (i, (tag, wanted)) in rows.iter().enumerate() {
+        let found = metrics.variation(*tag, &PLACE);
+        holds_at(&rt, found == *wanted, "a metric", i);
     }
-    for (total, whole) in [
+}
+
+#[test]
+fn whole_units(rt: HostRuntime) {
+    let rows = [
         (2457600, 38),
         (9945088, 152),
         (-2457600, -37),
         (-1, 0),
         (-32769, -1),
-    ] {
-        assert_eq!(rt; in_whole(total), whole, "of {total}");
+    ];
+    for (i, (total, whole)) in rows.iter().enumerate() {
+        holds_at(&rt, in_whole(*total) == *whole, "whole", i);
     }
 }
 
@@ -198,9 +212,10 @@ fn changed<R: Abort>(rt: &R, alloc: Global, table: &[u8], place: usize, byte: u8
     bytes
 }
 
+/// Tables that are cut: how many of their bytes are left.
 #[test]
-fn wrong_tables(rt: HostRuntime) {
-    let cut = [
+fn cut_tables(rt: HostRuntime) {
+    let rows = [
         (Table::Fvar, FVAR, 69),
         (Table::Avar, AVAR, 39),
         (Table::Hvar, HVAR, 19),
@@ -209,15 +224,17 @@ fn wrong_tables(rt: HostRuntime) {
         (Table::Mvar, MVAR, 27),
         (Table::Mvar, MVAR, 43),
     ];
-    for (table, bytes, length) in cut {
-        let front = bytes.get(..length).expect(&rt, "a front");
-        assert!(rt; read(table, bytes).is_ok(), "whole");
-        assert!(rt;
-            matches!(read(table, front), Err(Error::Cut)),
-            "up to {length}"
-        );
+    for (i, (table, bytes, length)) in rows.iter().enumerate() {
+        let front = bytes.get(..*length).expect(&rt, "a front");
+        holds_at(&rt, read(*table, bytes).is_ok(), "whole", i);
+        holds_at(&rt, read(*table, front) == Err(Error::Cut), "cut", i);
     }
-    let unknown = [
+}
+
+/// Tables of another format: a place, and the byte that is changed there.
+#[test]
+fn unknown_tables(rt: HostRuntime) {
+    let rows = [
         (Table::Fvar, FVAR, 1, 2),
         (Table::Fvar, FVAR, 11, 21),
         (Table::Fvar, FVAR, 15, 11),
@@ -228,39 +245,28 @@ fn wrong_tables(rt: HostRuntime) {
         (Table::Mvar, MVAR, 1, 2),
         (Table::Mvar, MVAR, 7, 7),
     ];
-    for (table, bytes, place, byte) in unknown {
-        let other = changed(&rt, rt.alloc(), bytes, place, byte);
-        assert!(rt;
-            matches!(read(table, other.as_slice()), Err(Error::UnknownFormat)),
-            "byte {place}"
-        );
+    for (i, (table, bytes, place, byte)) in rows.iter().enumerate() {
+        let other = changed(&rt, rt.alloc(), bytes, *place, *byte);
+        let found = read(*table, &other);
+        holds_at(&rt, found == Err(Error::UnknownFormat), "a format", i);
     }
 }
 
+/// More axes than maps, than coordinates, or than regions have.
 #[test]
 fn other_counts_of_axes(rt: HostRuntime) {
     let axes = Axes::read(FVAR).expect(&rt, "axes");
     let one = changed(&rt, rt.alloc(), AVAR, 7, 1);
-    let maps = Maps::read(one.as_slice()).expect(&rt, "one map");
-    let settings = [
-        Setting {
-            tag: WGHT,
-            value: fixed(525),
-        },
-        Setting {
-            tag: WDTH,
-            value: fixed(110),
-        },
-    ];
-    let mut coordinates = [0i16; 2];
-    axes.normalize(Some(maps), &settings, &mut coordinates);
-    assert_eq!(rt; coordinates, [8192, 6554]);
+    let maps = Maps::read(&one).expect(&rt, "one map");
+    let settings = [setting(WGHT, fixed(525)), setting(WDTH, fixed(110))];
+    let mut found = [0i16; 2];
+    axes.normalize(Some(maps), &settings, &mut found);
+    holds(&rt, found == [8192, 6554], "one map");
     let advances = AdvanceVariations::read(HVAR).expect(&rt, "advances");
-    assert_eq!(rt; advances.variation(0, &[8192]), Some(3276800));
-    let regions_of_one = changed(&rt, rt.alloc(), HVAR, 33, 1);
-    let advances = AdvanceVariations::read(regions_of_one.as_slice()).expect(
-        &rt,
-        "advances of one axis",
-    );
-    assert_eq!(rt; advances.variation(0, &coordinates), Some(0));
+    let short = advances.variation(0, &[8192]);
+    holds(&rt, short == Some(3276800), "one coordinate");
+    let of_one = changed(&rt, rt.alloc(), HVAR, 33, 1);
+    let advances = AdvanceVariations::read(&of_one).expect(&rt, "advances");
+    let none = advances.variation(0, &found);
+    holds(&rt, none == Some(0), "regions of one axis");
 }

@@ -1,9 +1,10 @@
 //! Files and tables as fontTools 4.38 writes them.
-use crate::{
+use crate::checks::{holds, holds_at};
+use postscript_sfnt::{Advances, CharacterMap, FontFile};
+use postscript_sfnt_write::{
     Error, Mapping, Metric, Table, checksum, cmap, file_of, hmtx, with_number_of_glyphs,
     with_number_of_metrics, without_names,
 };
-use postscript_sfnt::{Advances, CharacterMap, FontFile};
 use std::alloc::Global;
 use std::process::Abort;
 
@@ -70,46 +71,61 @@ fn mappings<R: Abort>(rt: &R, alloc: Global, count: usize) -> Vec<Mapping> {
 }
 
 #[test]
-fn files_as_fonttools_writes_them(rt: HostRuntime) {
-    let sums: [(&[u8], u32); 4] = [
+fn sums(rt: HostRuntime) {
+    let rows: [(&[u8], u32); 4] = [
         (b"", 0),
         (b"a", 0x61000000),
         (b"abcde", 0xc6626364),
         (&[0xff; 7], 0xfffffeff),
     ];
-    for (bytes, sum) in sums {
-        assert_eq!(rt; checksum(bytes), sum, "a sum");
+    for (i, (bytes, sum)) in rows.iter().enumerate() {
+        holds_at(&rt, checksum(bytes) == *sum, "row", i);
     }
-    let head: [u8; 16] = [0, 1, 2, 3, 4, 5, 6, 7, 8, 9, 10, 11, 12, 13, 14, 15];
-    let cff = Table {
-        tag: 0x43464620,
-        bytes: b"abcde",
-    };
-    let head = Table {
-        tag: 0x68656164,
-        bytes: &head,
-    };
-    let maxp = Table {
-        tag: 0x6d617870,
-        bytes: &[0, 0, 0x50, 0, 0, 2],
-    };
-    let file = file_of(rt.alloc(), &[cff, head, maxp]).expect(&rt, "a file");
-    assert!(rt; file.as_slice() == FILE, "the file");
-    let face = FontFile::read(file.as_slice(), 0);
-    prove!(face.is_ok());
-    let twice = file_of(rt.alloc(), &[cff, cff]);
-    assert!(rt; matches!(&twice, Err(Error::TagsDoNotRise)), "a tag twice");
+}
+
+/// A table.
+fn a_table(tag: u32, bytes: &[u8]) -> Table<'_> {
+    Table { tag, bytes }
 }
 
 #[test]
-fn tables_as_fonttools_writes_them(rt: HostRuntime) {
+fn files_as_fonttools_writes_them(rt: HostRuntime) {
+    let numbers: [u8; 16] = [0, 1, 2, 3, 4, 5, 6, 7, 8, 9, 10, 11, 12, 13, 14, 15];
+    let cff = a_table(0x43464620, b"abcde");
+    let head = a_table(0x68656164, &numbers);
+    let maxp = a_table(0x6d617870, &[0, 0, 0x50, 0, 0, 2]);
+    let file = file_of(rt.alloc(), &[cff, head, maxp]).expect(&rt, "a file");
+    holds(&rt, file.as_slice() == FILE, "the file");
+    let face = FontFile::read(file.as_slice(), 0);
+    prove!(face.is_ok());
+}
+
+#[test]
+fn a_tag_twice(rt: HostRuntime) {
+    let cff = a_table(0x43464620, b"abcde");
+    let twice = file_of(rt.alloc(), &[cff, cff]);
+    holds(
+        &rt,
+        matches!(&twice, Err(Error::TagsDoNotRise)),
+        "a tag twice",
+    );
+}
+
+#[test]
+fn maps_as_fonttools_writes_them(rt: HostRuntime) {
     let alloc = rt.alloc();
     for (count, wanted) in [(5, SMALL), (7, LARGE)] {
-        let table = cmap(alloc, mappings(&rt, alloc, count).as_slice()).expect(&rt, "a map");
-        assert!(rt; table.as_slice() == wanted, "the map of {count}");
+        let chars = mappings(&rt, alloc, count);
+        let table = cmap(alloc, &chars).expect(&rt, "a map");
+        holds_at(&rt, table.as_slice() == wanted, "the map of", count);
         let map = CharacterMap::read(table.as_slice());
         prove!(map.is_some());
     }
+}
+
+#[test]
+fn metrics_as_fonttools_writes_them(rt: HostRuntime) {
+    let alloc = rt.alloc();
     let metrics = [
         Metric {
             advance: 500,
@@ -121,13 +137,18 @@ fn tables_as_fonttools_writes_them(rt: HostRuntime) {
         },
     ];
     let table = hmtx(alloc, &metrics).expect(&rt, "memory");
-    assert!(rt; table.as_slice() == HMTX, "hmtx");
+    holds(&rt, table.as_slice() == HMTX, "hmtx");
     let hhea = with_number_of_metrics(alloc, &[7; 36], 2).expect(&rt, "hhea");
-    let advances = Advances::read(hhea.as_slice(), table.as_slice()).expect(&rt, "advances");
-    assert_eq!(rt; advances.of(1), 65535, "an advance");
+    let advances = Advances::read(&hhea, &table).expect(&rt, "advances");
+    holds(&rt, advances.of(1) == 65535, "an advance");
+}
+
+#[test]
+fn tables_with_other_numbers(rt: HostRuntime) {
+    let alloc = rt.alloc();
     let maxp = with_number_of_glyphs(alloc, &[0, 0, 0x50, 0, 9, 9], 0x102).expect(&rt, "maxp");
-    assert!(rt; maxp.as_slice() == MAXP, "maxp");
+    holds(&rt, maxp.as_slice() == MAXP, "maxp");
     let post = without_names(alloc, &[5; 34]).expect(&rt, "post");
-    assert!(rt; post.len() == 32, "post");
-    assert!(rt; &post.as_slice()[..5] == VERSION, "the version");
+    holds(&rt, post.len() == 32, "post");
+    holds(&rt, post.starts_with(VERSION), "the version");
 }

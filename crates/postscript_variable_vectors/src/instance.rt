@@ -1,11 +1,12 @@
-//! Charstrings by hand, by the specifications' rules.
-use crate::naming::Identifiers;
-use crate::{
-    AdvancesAt, Error, Naming, charstring, glyph, rounded, rounded_glyph, rounded_table, table,
-};
+//! Charstrings and static fonts by hand, by the specifications' rules.
+use crate::checks::{holds, tables};
+use crate::small::TABLE;
 use postscript_base::Error as Cause;
 use postscript_base::compact1::Operator;
 use postscript_cff2::Font;
+use postscript_instance::{
+    AdvancesAt, Error, Naming, charstring, glyph, rounded, rounded_glyph, rounded_table, table,
+};
 use postscript_sfnt::Advances;
 use postscript_type2::{Operand, Subroutines};
 use postscript_variable::{Blends, Charstring};
@@ -14,14 +15,6 @@ use postscript_variation::AdvanceVariations;
 use postscript_view::FontView;
 use std::alloc::Global;
 use std::process::Abort;
-
-/// The scalars of two regions, 1/2 and 1/4.
-fn tables<R: Abort>(rt: &R, alloc: Global) -> Vec<Vec<u32>> {
-    let mut tables = Vec::new(alloc);
-    let two = Vec::from_array(alloc, [32768, 16384]).expect(rt, "memory");
-    tables.push(two).expect(rt, "memory");
-    tables
-}
 
 /// A charstring over these scalars.
 fn over<'l>(code: &'l [u8], tables: &'l [Vec<u32>]) -> Charstring<'l> {
@@ -203,21 +196,6 @@ fn pieces(rt: HostRuntime) {
     }
 }
 
-/// A table of two glyphs, written by hand by the specification: the Top DICT at 5, a global subroutine at 24, the charstrings at
-/// 34, a Font DICT at 53, its Private DICT at 67 with a local subroutine and `vsindex` 1, and the variation store at 82, of two
-/// item variation data of one and of two regions. fontTools 4.38 reads it so.
-const TABLE: &[u8] = &[
-    0x02, 0x00, 0x05, 0x00, 0x13, 0x1d, 0x00, 0x00, 0x00, 0x22, 0x11, 0x1d, 0x00, 0x00, 0x00, 0x35,
-    0x0c, 0x24, 0x1d, 0x00, 0x00, 0x00, 0x50, 0x18, 0x00, 0x00, 0x00, 0x01, 0x01, 0x01, 0x04, 0x95,
-    0x9f, 0x05, 0x00, 0x00, 0x00, 0x02, 0x01, 0x01, 0x01, 0x0c, 0xef, 0x95, 0x77, 0x8c, 0x10, 0xbd,
-    0x15, 0x20, 0x1d, 0x20, 0x0a, 0x00, 0x00, 0x00, 0x01, 0x01, 0x01, 0x08, 0x8f, 0x1d, 0x00, 0x00,
-    0x00, 0x43, 0x12, 0x8c, 0x16, 0x8f, 0x13, 0x00, 0x00, 0x00, 0x01, 0x01, 0x01, 0x03, 0x6d, 0x06,
-    0x00, 0x32, 0x00, 0x01, 0x00, 0x00, 0x00, 0x10, 0x00, 0x02, 0x00, 0x00, 0x00, 0x20, 0x00, 0x00,
-    0x00, 0x28, 0x00, 0x01, 0x00, 0x02, 0x00, 0x00, 0x40, 0x00, 0x40, 0x00, 0xc0, 0x00, 0xc0, 0x00,
-    0x00, 0x00, 0x00, 0x00, 0x00, 0x00, 0x00, 0x01, 0x00, 0x00, 0x00, 0x00, 0x00, 0x00, 0x00, 0x02,
-    0x00, 0x00, 0x00, 0x01,
-];
-
 /// A table `hhea` that tells two advances, and nothing else.
 const HEADER: &[u8] = &[
     0x00, 0x01, 0x00, 0x00, 0x00, 0x00, 0x00, 0x00, 0x00, 0x00, 0x00, 0x00, 0x00, 0x00, 0x00, 0x00,
@@ -250,11 +228,6 @@ fn advances_at<'l, R: Abort>(
         },
         coordinates,
     }
-}
-
-/// A fact holds.
-fn holds<R: Abort>(rt: &R, is_so: bool, what: &str) {
-    assert!(rt; is_so, "{what}");
 }
 
 /// The table at a place, with advances and no names.
@@ -610,28 +583,44 @@ fn whole_units_in_range(rt: HostRuntime) {
     }
 }
 
+/// A table of seven glyphs that say nothing, written by hand by the specification: the charstrings at 22, a Font DICT at 35, and its
+/// Private DICT at 49, whose StdVW is 80.
+const SEVEN: &[u8] = &[
+    0x02, 0x00, 0x05, 0x00, 0x0d, 0x1d, 0x00, 0x00, 0x00, 0x16, 0x11, 0x1d, 0x00, 0x00, 0x00, 0x23,
+    0x0c, 0x24, 0x00, 0x00, 0x00, 0x00, 0x00, 0x00, 0x00, 0x07, 0x01, 0x01, 0x01, 0x01, 0x01, 0x01,
+    0x01, 0x01, 0x01, 0x00, 0x00, 0x00, 0x01, 0x01, 0x01, 0x08, 0x8d, 0x1d, 0x00, 0x00, 0x00, 0x31,
+    0x12, 0xdb, 0x0b,
+];
+
 /// Char sets: A, B, C, D are 34 to 37, and names that are no standard strings begin with 391. In ranges six of them take 9 bytes; the
 /// two of the other row take fewer in a list.
 #[test]
 fn char_sets(rt: HostRuntime) {
     let long: [&[u8]; 7] = [b".notdef", b"A", b"B", b"C", b"D", b"alpha", b"beta"];
     let short: [&[u8]; 3] = [b".notdef", b"A", b"alpha"];
-    let ranges = [2, 0, 34, 0, 3, 1, 0x87, 0, 1];
-    holds(
-        &rt,
-        char_set(&rt, rt.alloc(), &long).as_slice() == ranges.as_slice(),
-        "ranges",
-    );
-    let list = [0, 0, 34, 1, 0x87];
-    holds(
-        &rt,
-        char_set(&rt, rt.alloc(), &short).as_slice() == list.as_slice(),
-        "a list",
-    );
+    let rows: [(&[u8], &[&[u8]], &[u8]); 2] = [
+        (SEVEN, &long, &[2, 0, 34, 0, 3, 1, 0x87, 0, 1]),
+        (TWO, &short, &[0, 0, 34, 1, 0x87]),
+    ];
+    for (font, names, wanted) in rows {
+        let bytes = called(&rt, rt.alloc(), font, names);
+        let view = FontView::read(rt.alloc(), &bytes).expect(&rt, "a font");
+        let place = view.dictionary.get_single(Operator::CharSet);
+        let place = place
+            .and_then(|place| place.to_i32())
+            .expect(&rt, "a place");
+        let set = bytes.get(place as usize..).expect(&rt, "a char set");
+        holds(&rt, set.starts_with(wanted), "the char set");
+    }
 }
 
-/// The char set of names.
-fn char_set<R: Abort>(rt: &R, alloc: Global, names: &[&[u8]]) -> Vec<u8> {
-    let identifiers = Identifiers::of(alloc, names).expect(rt, "identifiers");
-    identifiers.char_set(alloc).expect(rt, "a char set")
+/// The table of a font whose glyphs have these names.
+fn called<R: Abort>(rt: &R, alloc: Global, table_of: &[u8], names: &[&[u8]]) -> Vec<u8> {
+    let font = Font::read(table_of).expect(rt, "the font");
+    let advances = advances_at(rt, None, &[0]);
+    let naming = Naming {
+        font: b"Small",
+        glyphs: Some(names),
+    };
+    table(alloc, &font, &naming, &advances).expect(rt, "a table")
 }

@@ -1,0 +1,26 @@
+//! How a test fails, and the tables of scalars that charstrings are read over.
+use std::alloc::Global;
+use std::process::Abort;
+
+/// Fails the test where a fact does not hold, and names the fact.
+pub fn holds<R: Abort>(rt: &R, is_so: bool, fact: &str) {
+    if !is_so {
+        rt.panic(fact)
+    }
+}
+
+/// Fails the test where a fact does not hold, and names the row.
+pub fn holds_at<R: Abort>(rt: &R, is_so: bool, fact: &str, row: usize) {
+    if !is_so {
+        panic!(rt; "{fact}, at row {row}")
+    }
+}
+
+/// The scalars of two regions, 1/2 and 1/4, and of none.
+pub fn tables<R: Abort>(rt: &R, alloc: Global) -> Vec<Vec<u32>> {
+    let mut tables = Vec::new(alloc);
+    let two = Vec::from_array(alloc, [32768, 16384]).expect(rt, "memory");
+    tables.push(two).expect(rt, "memory");
+    tables.push(Vec::new(alloc)).expect(rt, "memory");
+    tables
+}
