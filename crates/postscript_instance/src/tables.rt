@@ -292,7 +292,7 @@ fn table_at(
 /// nearest whole units, halves up: of a zone or a list of widths each edge is. A hint whose blends have other numbers than whole ones, or
 /// that have no room in 16 bits, is left out. What is written is read back: the contract says that it is read, what its glyphs, their
 /// widths, its nominal widths and their Font DICTs are, and what they are called. FontMatrix and the hints are tested
-/// (`src/tests.rt`), and have no clause.
+/// (`postscript_variable_vectors`), and have no clause.
 ///
 /// Refused: `OtherNames` where there are not as many names as glyphs; `NotOneDictionary` where there are names, and not one Font DICT;
 /// as `AdvancesAt::operands` is; `NoData` for the first item variation data that do not stand; as `glyph` is, for the first glyph that
