@@ -616,7 +616,8 @@ fn char_sets(rt: HostRuntime) {
         let place = place
             .and_then(|place| place.to_i32())
             .expect(&rt, "a place");
-        let set = bytes.get(place as usize..).expect(&rt, "a char set");
+        let place = usize::try_from(place).expect(&rt, "a place");
+        let set = bytes.get(place..).expect(&rt, "a char set");
         holds(&rt, set.starts_with(wanted), "the char set");
     }
 }
