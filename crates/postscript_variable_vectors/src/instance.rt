@@ -395,16 +395,27 @@ const HINTED: &[u8] = &[
 /// The names of its glyphs, of which one is no standard string.
 const NAMES: [&[u8]; 2] = [b".notdef", b"alpha"];
 
-/// A table at a place, with names.
-fn named<R: Abort>(rt: &R, alloc: Global, coordinate: i16) -> Vec<u8> {
-    let font = Font::read(HINTED).expect(rt, "the font");
+/// The table of a font at a place, whose glyphs have these names.
+fn called<R: Abort>(
+    rt: &R,
+    alloc: Global,
+    table_of: &[u8],
+    names: &[&[u8]],
+    coordinate: i16,
+) -> Vec<u8> {
+    let font = Font::read(table_of).expect(rt, "the font");
     let coordinates = [coordinate];
     let advances = advances_at(rt, None, &coordinates);
     let naming = Naming {
         font: b"Small",
-        glyphs: Some(&NAMES),
+        glyphs: Some(names),
     };
     table(alloc, &font, &naming, &advances).expect(rt, "a table")
+}
+
+/// The table at a place, with names.
+fn named<R: Abort>(rt: &R, alloc: Global, coordinate: i16) -> Vec<u8> {
+    called(rt, alloc, HINTED, &NAMES, coordinate)
 }
 
 /// The hints at places: by hand, at 1/2 the zone is from -8.5 to 1.5, and so from -8 to 2, and the stem is 90 wide; at -1, where the
@@ -610,7 +621,7 @@ fn char_sets(rt: HostRuntime) {
         (THREE, &short, &[0, 0, 34, 1, 0x87]),
     ];
     for (font, names, wanted) in rows {
-        let bytes = called(&rt, rt.alloc(), font, names);
+        let bytes = called(&rt, rt.alloc(), font, names, 0);
         let view = FontView::read(rt.alloc(), &bytes).expect(&rt, "a font");
         let place = view.dictionary.get_single(Operator::CharSet);
         let place = place
@@ -620,15 +631,4 @@ fn char_sets(rt: HostRuntime) {
         let set = bytes.get(place..).expect(&rt, "a char set");
         holds(&rt, set.starts_with(wanted), "the char set");
     }
-}
-
-/// The table of a font whose glyphs have these names.
-fn called<R: Abort>(rt: &R, alloc: Global, table_of: &[u8], names: &[&[u8]]) -> Vec<u8> {
-    let font = Font::read(table_of).expect(rt, "the font");
-    let advances = advances_at(rt, None, &[0]);
-    let naming = Naming {
-        font: b"Small",
-        glyphs: Some(names),
-    };
-    table(alloc, &font, &naming, &advances).expect(rt, "a table")
 }
