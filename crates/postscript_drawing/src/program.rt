@@ -42,7 +42,7 @@ pub fn draw_program<S: Sink>(
         is_open: false,
     };
     loop {
-        match program.step_within(limit)? {
+        match program.step_within_for::<S>(limit)? {
             Within::Operation(operator, operands) => pen.draw_path(operator, operands, sink)?,
             Within::End => {
                 pen.end(sink)?;

@@ -58,13 +58,30 @@ impl<'l> Program<'l> {
         ensures failed { self.old ≡ failed self.old.width → result ≡ Err Error.AlreadyFailed }
         ensures suffices { cost self.old.trace < limit.old → result ≢ Ok Within.Paused }
     {
+        self.step_within_for::<()>(limit)
+    }
+
+    /// The same, in a copy of its own for each `S`: what draws into a sink asks for that of the sink, so that the run stands in the
+    /// drawing, with no call for each operation.
+    ///
+    /// Refused: as `next` is.
+    #[inline(always)]
+    pub fn step_within_for<S>(&mut self, limit: &mut u64) -> Result<Within<'_>>
+        ensures* steps { sem 𝓛 (LendsWithin self.entry limit.old result limit.new) }
+        ensures head { IsHeadWithin self.old result }
+        ensures listed { IsListed next_refusals result }
+        ensures ended { self.old ≡ ended self.old.width → result ≡ Ok Within.End }
+        ensures over { (operands : List ℤ) → self.old ≡ ended_over operands self.old.width → result ≡ Ok Within.End }
+        ensures failed { self.old ≡ failed self.old.width → result ≡ Err Error.AlreadyFailed }
+        ensures suffices { cost self.old.trace < limit.old → result ≢ Ok Within.Paused }
+    {
         match self.phase {
             Phase::Running => self.machine.empty(),
             Phase::Paused => self.phase = Phase::Running,
             over if over.has_failed() => return Err(Error::AlreadyFailed),
             _ => return Ok(Within::End),
         }
-        match self.machine.stop_within(limit) {
+        match self.machine.stop_within::<S>(limit) {
             Ok(Stop::At(operator, count)) => Ok(Within::Operation(
                 operator,
                 self.machine.operands(count),

@@ -7,7 +7,7 @@ use Rattle.postscript_type2.specs.Private.Machines.{still_of, still_emptied}
 use Rattle.postscript_type2.specs.Private.Working.{settled_width}
 use Rattle.postscript_type2.proofs.EndingLaws.{machine-ends}
 use Rattle.postscript_type2.proofs.Limit.{runs-out, stays-over, stays-refused}
-use Rattle.postscript_type2.proofs.program.Program.step_within.Goals as goal
+use Rattle.postscript_type2.proofs.program.Program.step_within_for.Goals as goal
 
 -- a program that does not go on, and was not refused, was told its end
 is-ended : (phase : Phase) → phase ≢ Running → phase ≢ Paused → phase ≢ Failed → phase ≡ Ended
@@ -17,7 +17,7 @@ is-ended Ended a b c = refl
 is-ended Failed a b c = absurd (c refl)
 
 pub returns-in_default-2 : goal.returns-in_default-2
-returns-in_default-2 c =
+returns-in_default-2 g c =
     let is : c.self.inside.phase ≡ Ended = is-ended c.self.inside.phase (search rules) (search rules) (search rules) in (
       (refl, λ _. tt, stays-over c.self.inside.machine c.args.limit.now is c.self.view_is),
       record {
@@ -32,7 +32,7 @@ returns-in_default-2 c =
     )
 
 pub returns-in_default : goal.returns-in_default
-returns-in_default c =
+returns-in_default g c =
     let is : c.self.inside.phase ≡ Failed = search rules in (
       (refl, λ _. tt, stays-refused c.self.inside.machine c.args.limit.now is c.self.view_is),
       record {
@@ -47,7 +47,7 @@ returns-in_default c =
     )
 
 pub returns-in-Ok-At : goal.returns-in-Ok-At
-returns-in-Ok-At c =
+returns-in-Ok-At g c =
     let before = c.match-self.self-inside.machine in
     let stops = subst (λ stop. StopsWithin (still_of before) before.state.width (Ok stop) c.stop_within.new.self) c.in-Ok-At.field-0-is
     c.in-Ok-At.ensures.stops in (
@@ -69,7 +69,7 @@ returns-in-Ok-At c =
     )
 
 pub returns-in-Ok-Paused : goal.returns-in-Ok-Paused
-returns-in-Ok-Paused c =
+returns-in-Ok-Paused g c =
     let spends : Spends c.args.limit.now c.args.self.now.trace c.stop_within.new.limit
     (still_of c.stop_within.new.self).trace = search rules in
     let none : c.stop_within.new.limit ≡ 0 = search rules in (
@@ -87,7 +87,7 @@ returns-in-Ok-Paused c =
     )
 
 pub returns-in-Err : goal.returns-in-Err
-returns-in-Err c = (
+returns-in-Err g c = (
   (refl, λ _. tt, search rules),
   record {
     steps = tt;
