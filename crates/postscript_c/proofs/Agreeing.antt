@@ -8,7 +8,7 @@ use Rattle.postscript_base.specs.Tape.Outcome.{Outcome, Got, Fault, Past, after,
 use Rattle.postscript_base.specs.declared.error.Error.{Error}
 use Rattle.postscript_c.specs.FontWidths.{TellsWidths}
 use Rattle.postscript_c.specs.Keyed.{IsKeyedBy}
-use Rattle.postscript_c.specs.Law.{AreOf, IsFontOf, NamesSelection}
+use Rattle.postscript_c.specs.Law.{AreOf, OpensFont, NamesSelection}
 use Rattle.postscript_c.specs.declared.font.PsfFont.{PsfFont}
 use Rattle.postscript_c.specs.Places as told
 use Rattle.postscript_c.specs.Places.{Places, codes, placed, places, places_of}
@@ -157,7 +157,7 @@ selected bytes v n font w e cid there =
 
 pub font_of : (answer : Result PsfFont Error) (bytes : List ℕ) → Answers placed answer 0 (places bytes 0) →
     IfOk answer (λ font. TellsWidths bytes font) → IfOk answer (λ font. font.limit ≡ 20000000) →
-    IsFontOf bytes answer
+    OpensFont bytes answer
 font_of (Ok font) bytes e w limit = record {
   reads = e;
   widths = w;

@@ -47,8 +47,8 @@ pub record IsPartOf (bytes item : List ℕ) (found : PsfPart) : Type 0 where
   pub widths : AreWidths bytes map found.default_width found.nominal_width
 
 -- those of the font dictionary of a glyph
-abbrev pub HasPart : List ℕ → PsfFont → (glyph : ℕ) → PsfPart → Type 0
-HasPart bytes font glyph found = (item : List ℕ) × HasDictionary bytes font glyph item × IsPartOf bytes item found
+abbrev pub HasCidPart : List ℕ → PsfFont → (glyph : ℕ) → PsfPart → Type 0
+HasCidPart bytes font glyph found = (item : List ℕ) × HasDictionary bytes font glyph item × IsPartOf bytes item found
 
 -- Why they are refused: FDArray does not stand, or the font dictionary of the glyph or its private dictionary does not.
 abbrev pub NoPart : Error → List ℕ → PsfFont → (glyph : ℕ) → Type 0
@@ -57,6 +57,6 @@ NoPart e bytes font glyph = RefusedAs e (index_at font.font_dictionaries bytes 0
 
 -- What is answered: the part of a glyph, or that it has no font dictionary, or why its part is refused, where memory does not run out.
 abbrev pub IsCidPart : List ℕ → PsfFont → (glyph : ℕ) → Result (Option PsfPart) Error → Type 0
-IsCidPart bytes font glyph (Ok (Some found)) = HasPart bytes font glyph found
+IsCidPart bytes font glyph (Ok (Some found)) = HasCidPart bytes font glyph found
 IsCidPart bytes font glyph (Ok None) = LacksDictionary bytes font glyph
 IsCidPart bytes font glyph (Err e) = e ≢ Memory → NoPart e bytes font glyph

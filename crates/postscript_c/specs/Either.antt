@@ -8,7 +8,7 @@ use Rattle.postscript_c.specs.Answers.{IsOf, undrawn_code}
 use Rattle.postscript_c.specs.Glyphs.{Glyph}
 use Rattle.postscript_c.specs.Counted.{TellsCountOf}
 use Rattle.postscript_c.specs.Faces.{TellsOfFace}
-use Rattle.postscript_c.specs.Law.{IsFontOf}
+use Rattle.postscript_c.specs.Law.{OpensFont}
 use Rattle.postscript_c.specs.Parts.{TellsByPart}
 use Rattle.postscript_c.specs.Placed.{AreCoordinatesAt, IsUnplaced, unplaced_code}
 use Rattle.postscript_c.specs.Varied.{cff2}
@@ -54,7 +54,7 @@ TellsGlyphIn bytes glyph limit (Err e) status old new = (status ≡ pos (code e)
 
 abbrev pub TellsPlain : (bytes : List ℕ) (glyph limit : ℕ) (status : ℤ) (old new : OutlineRoom) → Type 0
 TellsPlain bytes glyph limit status old new =
-    (answer : Result PsfFont Cause) × IsFontOf bytes answer × TellsGlyphIn bytes glyph limit answer status old new
+    (answer : Result PsfFont Cause) × OpensFont bytes answer × TellsGlyphIn bytes glyph limit answer status old new
 
 -- the same of the table `CFF ` of a face, where the values name a place of it; or why they name none
 abbrev pub TellsPlainAt : FontFile → (table : List ℕ) (values : List ℤ) (glyph limit : ℕ) (status : ℤ) (old new : OutlineRoom) → Type 0
@@ -86,7 +86,7 @@ TellsGlyphsOf (Ok font) status old new = (status ≡ pos 0) × (new ≡ font.gly
 TellsGlyphsOf (Err e) status old new = (status ≡ pos (code e)) × (new ≡ old)
 
 abbrev pub TellsCountPlain : (bytes : List ℕ) (status : ℤ) (old new : ℕ) → Type 0
-TellsCountPlain bytes status old new = (answer : Result PsfFont Cause) × IsFontOf bytes answer × TellsGlyphsOf answer status old new
+TellsCountPlain bytes status old new = (answer : Result PsfFont Cause) × OpensFont bytes answer × TellsGlyphsOf answer status old new
 
 abbrev pub TellsCountEitherOf : FontFile → (status : ℤ) (old new : ℕ) → Type 0
 TellsCountEitherOf file status old new =

@@ -22,7 +22,7 @@ NamesSelection font v = font.is_cid ≢ 0 → font.fd_select ≢ 0 → offset_of
 
 -- The places and the widths that are read, with the limit of 20,000,000 units, or the refusal; and where the font is opened in place,
 -- they are of it.
-pub record IsFontOf (bytes : List ℕ) (answer : Result PsfFont Error) : Type 0 where
+pub record OpensFont (bytes : List ℕ) (answer : Result PsfFont Error) : Type 0 where
   pub reads : Answers placed answer 0 (places bytes 0)
   pub widths : IfOk answer (λ font. TellsWidths bytes font)
   pub limit : IfOk answer (λ font. font.limit ≡ 20000000)

@@ -3,12 +3,12 @@ use Rattle.std.specs.Prelude.{◌≡◌, ◌≢◌, ◌⊎◌, ℕ, ◌<◌, ◌
 use Rattle.postscript_base.specs.Error.{code}
 use Rattle.postscript_base.specs.declared.error.Error.{Error}
 use Rattle.postscript_base.specs.declared.error.Error.TheVariants.{Memory}
-use Rattle.postscript_c.specs.CidParts.{HasPart, LacksDictionary, NoPart}
+use Rattle.postscript_c.specs.CidParts.{HasCidPart, LacksDictionary, NoPart}
 use Rattle.postscript_c.specs.declared.font.PsfFont.{PsfFont}
 use Rattle.postscript_c.specs.declared.part.PsfPart.{PsfPart}
 
 abbrev pub IsPartIn : (bytes : List ℕ) (font : PsfFont) (glyph : ℕ) (part : PsfPart) → Type 0
-IsPartIn bytes font glyph part = (font.is_cid ≡ 0 → part ≡ font.part) × (font.is_cid ≢ 0 → HasPart bytes font glyph part)
+IsPartIn bytes font glyph part = (font.is_cid ≡ 0 → part ≡ font.part) × (font.is_cid ≢ 0 → HasCidPart bytes font glyph part)
 
 -- The status of a glyph without a part: 31 where there is no such glyph, 42 where FDSelect gives it no font dictionary that stands, or
 -- that of the refusal.

@@ -6,7 +6,7 @@ use Rattle.postscript_base.specs.declared.compact1.operator.Operator.TheVariants
 use Rattle.postscript_c.specs.CidParts.{HasNumber, LacksDictionary}
 use Rattle.postscript_c.specs.Drawn.{HasNone, IsFirst}
 use Rattle.postscript_c.specs.Glyphs.{index_at, program_at}
-use Rattle.postscript_c.specs.Law.{IsFontOf}
+use Rattle.postscript_c.specs.Law.{OpensFont}
 use Rattle.postscript_c.specs.Parts.{IsPartIn, IsPartless}
 use Rattle.postscript_c.specs.Widths.{IsWidth}
 use Rattle.postscript_c.specs.declared.font.PsfFont.{PsfFont}
@@ -90,7 +90,7 @@ pub record SamePart (bytes : List ℕ) (font : PsfFont) (view : FontView) (glyph
 
 -- The numbers are those that C is told of the font that bytes begin with, but for the limit, which a caller may change.
 abbrev pub IsToldOf : List ℕ → PsfFont → Type 0
-IsToldOf bytes font = (limit : ℕ) × IsFontOf bytes (Ok (record font { limit = limit }))
+IsToldOf bytes font = (limit : ℕ) × OpensFont bytes (Ok (record font { limit = limit }))
 
 -- A law: so it is with each glyph of a font that C is told, where the same bytes begin with a font in place.
 abbrev pub TellsParts : Type 0

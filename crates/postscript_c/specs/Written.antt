@@ -1,5 +1,5 @@
 -- What C is told of fonts that are written.
-use Rattle.std.specs.Prelude.{◌≡◌, ◌≢◌, ◌⊎◌, ℕ, ℤ, Bool, true, pos, List, [], length, Result, Ok, Err, IfOk, IfErr, OnOk, Vec}
+use Rattle.std.specs.Prelude.{◌≡◌, ◌≢◌, ◌⊎◌, ℕ, ℤ, pos, List, [], length, Result, Ok, Err, IfOk, IfErr, OnOk, Vec}
 use Rattle.std.specs.declared.alloc.Global.{Global}
 use Rattle.postscript_base.specs.Error.{code}
 use Rattle.postscript_c.specs.Fitting.{FirstFits, TellsFits}
@@ -10,7 +10,9 @@ use Rattle.postscript_view.specs.Layout.{IsLaidOut}
 use Rattle.postscript_write.specs.Components.{IsSubset as IsSubsetFont}
 use Rattle.postscript_write.specs.Drawings.{DrawsKept, KeepsDrawings}
 use Rattle.postscript_write.specs.Glyphs.{Sources}
+use Rattle.postscript_write.specs.Making.{IsKeptFont, Making}
 use Rattle.postscript_write.specs.Refusals.{IsRefusedBy, IsSubsetRefusedBy}
+use Rattle.postscript_write.specs.SameGlyphs.{GlyphsKept, KeepsGlyphs}
 use Rattle.postscript_write.specs.Sources.{AreThere, IsWritten, every}
 use Rattle.postscript_write.specs.declared.error.Error.{Error}
 use Rattle.postscript_write.specs.declared.error.Error.TheVariants.{Refused, Glyph, SeveralFonts, MissingGlyph, MissingPart, MissingName, NoGlyphs, TooLarge}
@@ -56,15 +58,17 @@ TellsWithin bytes limit status IsAnswer old new was told =
 -- the font made of all glyphs, or why there is none
 pub record IsFlat (bytes : List ℕ) (answer : Result (Vec ℕ Global) Error) : Type 0 where
   pub drawn : IfOk answer (λ flat. KeepsDrawings every bytes flat.items)
-  pub written : IfOk answer (λ flat. IsWritten true every bytes flat.items)
+  pub same : IfOk answer (λ flat. KeepsGlyphs every bytes flat.items)
+  pub written : IfOk answer (λ flat. IsWritten IsKeptFont every bytes flat.items)
   pub refused : IfErr answer (λ e. IsRefusedBy every bytes e)
 
 -- the font made of the glyphs that are named, which are glyphs of the font, and of those that these are drawn with, or why there is none;
 -- refused where none is named
-pub record IsSubset (kept : Bool) (sources : (closed : List ℕ) (glyphs : ℕ) →
+pub record IsSubset (is_made : Making) (sources : (closed : List ℕ) (glyphs : ℕ) →
     Sources) (bytes named : List ℕ) (answer : Result (Vec ℕ Global) Error) : Type 0 where
-  pub written : IfOk answer (λ flat. IsSubsetFont kept sources named bytes flat.items)
+  pub written : IfOk answer (λ flat. IsSubsetFont is_made sources named bytes flat.items)
   pub drawn : IfOk answer (λ flat. DrawsKept sources named bytes flat.items)
+  pub same : IfOk answer (λ flat. GlyphsKept sources named bytes flat.items)
   pub refused : IfErr answer (λ e. IsSubsetRefusedBy named sources bytes e)
   pub there : OnOk answer ((font : View) → IsLaidOut bytes 0 font → AreThere named (length font.char_strings))
   pub some : named ≡ [] → answer ≡ Err NoGlyphs

@@ -1,7 +1,7 @@
 //! Faces with outlines in a table `CFF2` or `CFF `: what C is told of either.
 ghost use Rattle.std.specs.Prelude.{◌≡◌, MatchOption};
 ghost use Rattle.postscript_c.specs.Either.{HasNoPlain, HasPlain, TellsCount, TellsCountEitherOf, TellsCountPlain, TellsDrawn, TellsEither, TellsEitherOf, TellsGlyphOf, TellsGlyphsOf, TellsPlain, TellsPlainAt, within as the_font_within};
-ghost use Rattle.postscript_c.specs.Law.{IsFontOf};
+ghost use Rattle.postscript_c.specs.Law.{OpensFont};
 ghost use Rattle.postscript_c.specs.Shown.{found_shown};
 ghost use Rattle.postscript_c.specs.VariedTold.{outline_room};
 

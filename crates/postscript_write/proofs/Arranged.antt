@@ -17,7 +17,7 @@ use Rattle.postscript_view.specs.Layout.{AreParts, ArePartsOf, NamesIndex}
 use Rattle.postscript_view.specs.Layout.AreParts.{OfFont, OfFontDictionaries}
 use Rattle.postscript_view.specs.Contents.{PrivateDict}
 use Rattle.postscript_view.specs.Sizes.{IsKeyed}
-use Rattle.postscript_write.specs.Texts.{Stands}
+use Rattle.postscript_write.specs.Texts.{TextStands}
 use Rattle.postscript_write.proofs.Standing.{stands_first, stands_second}
 use Rattle.postscript_write.proofs.Heads.{same_open}
 use Rattle.postscript_write.specs.Dictionaries.{IsHeld}
@@ -80,8 +80,8 @@ all_dictionaries bytes (item ∷ items) (part ∷ parts) are =
 
 -- each private dictionary stands where those before it end
 pub private_there : (ps : List (Option Private)) (number : ℕ) (bytes : List ℕ) (place : ℕ) → number < length ps →
-    Stands (privates_text ps) bytes place →
-    Stands (private_text (get_or ps number None)) bytes (private_offset place ps number)
+    TextStands (privates_text ps) bytes place →
+    TextStands (private_text (get_or ps number None)) bytes (private_offset place ps number)
 private_there ps number bytes place less stands =
     let front : List ℕ = privates_text (take number ps) in
     let own : List ℕ = private_text (get_or ps number None) in
@@ -89,4 +89,4 @@ private_there ps number bytes place less stands =
     let parted : privates_text ps ≡ front ++ (own ++ behind) =
     ap privates_text (sym (take-append-drop number ps)) ∙ flat_map-append private_text (take number ps) (drop number ps)
     ∙ ap (λ xs. front ++ privates_text xs) (drop-cons ps number None less) in
-    stands_first own behind (stands_second front (own ++ behind) (subst (λ text. Stands text bytes place) parted stands))
+    stands_first own behind (stands_second front (own ++ behind) (subst (λ text. TextStands text bytes place) parted stands))

@@ -18,7 +18,7 @@ use Rattle.postscript_write.specs.NewStrings.{names_text}
 use Rattle.postscript_write.specs.Numbered.{items_if}
 use Rattle.postscript_write.specs.Own.{IsOwnCharSet}
 use Rattle.postscript_write.specs.Renumbered.{new_identifier}
-use Rattle.postscript_write.specs.Texts.{Stands}
+use Rattle.postscript_write.specs.Texts.{TextStands}
 use Rattle.postscript_write.specs.Whole.{CharSetEnds}
 use Rattle.postscript_write.specs.declared.strings.Strings.{Strings}
 use Rattle.postscript_write.proofs.CharSetsAgain.{names_same, stands_again}
@@ -100,7 +100,7 @@ pub record IsKept (old : CharSetView) (out : List ℕ) (new : Dictionary) (glyph
 pub set_kept : (old : CharSetView) (bytes out : List ℕ) (map new : Dictionary) (glyphs : ℕ) (char_set : Option (Vec ℕ Global))
     (place : ℕ) → IsCharSetOf old bytes map glyphs →
     look new CharSet ≡ option_or (named_by (place_if CharSet char_set place) CharSet) (look map CharSet) →
-    All IsHeld (place_if CharSet char_set place) → 3 ≤ place → Stands
+    All IsHeld (place_if CharSet char_set place) → 3 ≤ place → TextStands
     (text_of char_set) out place → drop place out ≡ text_of char_set → IsOwnCharSet bytes map glyphs
     (items_if char_set) → IsKept old out new glyphs
 set_kept old bytes out map new glyphs None place is look_is held past stands last own = record {
@@ -136,8 +136,8 @@ set_kept old bytes out map new glyphs (Some text) place is look_is held past sta
       (omega (arith, less, counted)));
 }
   where
-    front : Stands text.items bytes offset
-    front = subst (λ xs. Stands xs bytes offset) (sym cut.is) (cut_stands bytes offset next cut.order cut.within)
+    front : TextStands text.items bytes offset
+    front = subst (λ xs. TextStands xs bytes offset) (sym cut.is) (cut_stands bytes offset next cut.order cut.within)
 
     long : next ≡ offset + length text.items
     long = sym (cut_length bytes offset next cut.order cut.within) ∙ ap (λ xs. offset + length xs) (sym cut.is)
@@ -182,7 +182,7 @@ behind_first again i identifier value less both = (
 pub set_listed : (lent : Bor (List ℕ)) (strings : Strings) (identifiers : List ℕ) (out : List ℕ) (map new : Dictionary) (glyphs : ℕ)
     (char_set : Option (Vec ℕ Global)) (place : ℕ) →
     look new CharSet ≡ option_or (named_by (place_if CharSet char_set place) CharSet) (look map CharSet) →
-    All IsHeld (place_if CharSet char_set place) → 3 ≤ place → Stands (text_of char_set) out place → items_if char_set ≡ Some
+    All IsHeld (place_if CharSet char_set place) → 3 ≤ place → TextStands (text_of char_set) out place → items_if char_set ≡ Some
     (names_text strings identifiers) → glyphs ≡ 1 + length identifiers →
     ((i : ℕ) → i < length identifiers → new_identifier strings (get_or identifiers i 0) < 65536) → AreListed strings identifiers out new
     glyphs
@@ -206,8 +206,8 @@ set_listed lent strings identifiers out map new glyphs (Some text) place look_is
     text_is : text.items ≡ names_text strings identifiers
     text_is = cc
 
-    there : Stands (names_text strings identifiers) out place
-    there = subst (λ xs. Stands xs out place) text_is stands
+    there : TextStands (names_text strings identifiers) out place
+    there = subst (λ xs. TextStands xs out place) text_is stands
 
     names : offset_of new CharSet ≡ Some place
     names = offset_is new CharSet place (place_held CharSet place held) look_is

@@ -10,7 +10,7 @@ use Rattle.postscript_view.specs.Naming.{NamesBehind}
 use Rattle.postscript_view.specs.declared.char_set.Identifiers.{Identifiers}
 use Rattle.postscript_view.specs.declared.char_set.Identifiers.TheVariants.{ISOAdobe, Expert, ExpertSubset, Listed, Ranges1, Ranges2}
 use Rattle.postscript_view.proofs.Covering.{covered_more}
-use Rattle.postscript_write.specs.Texts.{Stands}
+use Rattle.postscript_write.specs.Texts.{TextStands}
 use Rattle.postscript_write.specs.Whole.{CharSetEnds, RangesEnd}
 use Rattle.postscript_write.proofs.Moved.{number_moves, slice_moves}
 use Rattle.postscript_write.proofs.Standing.{stands_within}
@@ -38,7 +38,7 @@ fits size r n most =
     omega (arith, up)
 
 -- the ranges of a text stand in the front of others
-module _ (text bytes : List ℕ) (size : ℕ) (s : Stands text bytes 0) where
+module _ (text bytes : List ℕ) (size : ℕ) (s : TextStands text bytes 0) where
   more_same : (r : ℕ) → r * (2 + size) + (2 + size) ≤ length text → more_of bytes size r ≡ more_of text size r
   more_same r within = number_there text bytes 0 (r * (2 + size) + 2) size (r * (2 + size) + 2) s (omega (arith, within)) (omega arith)
 
@@ -110,7 +110,7 @@ nothing_behind xs [] same = append-nil xs
 nothing_behind xs (y ∷ ys) same = absurd (omega (arith, same, length-append xs (y ∷ ys)))
 
 -- what ranges name stays, where the text of them is all
-ranges_same : (text bytes : List ℕ) (size glyphs glyph identifier : ℕ) → Stands text bytes 0 → RangesEnd bytes size glyphs (length text) →
+ranges_same : (text bytes : List ℕ) (size glyphs glyph identifier : ℕ) → TextStands text bytes 0 → RangesEnd bytes size glyphs (length text) →
     glyph < glyphs →
     IsNamed bytes size glyph identifier ↔ IsNamed text size glyph identifier
 ranges_same text bytes size glyphs glyph identifier s ends less =
@@ -129,7 +129,7 @@ ranges_same text bytes size glyphs glyph identifier s ends less =
         whole = s.there ∙ nothing_behind text s.behind (all ∙ ap length s.there)
 
 -- Two char sets stand at the ends of bytes, where their text is the same: they give each glyph the same identifier.
-module _ (text a b : List ℕ) (p q glyphs : ℕ) (sa : Stands text a p) (sb : Stands text b q) (last : drop q b ≡ text)
+module _ (text a b : List ℕ) (p q glyphs : ℕ) (sa : TextStands text a p) (sb : TextStands text b q) (last : drop q b ≡ text)
     (ends : CharSetEnds a glyphs p (p + length text)) where
   rest_is : drop (q + 1) b ≡ drop 1 text
   rest_is = sym (drop-drop 1 q b) ∙ ap (drop 1) last
@@ -147,7 +147,7 @@ module _ (text a b : List ℕ) (p q glyphs : ℕ) (sa : Stands text a p) (sb : S
       let other : p + 0 ≡ p = omega arith in
       ap (λ n. number_at b n 1) one ∙ number_moves text a b p q sa sb 0 1 (omega (arith, some)) ∙ ap (λ n. number_at a n 1) other
 
-  behind : Stands (drop 1 text) (drop (p + 1) a) 0
+  behind : TextStands (drop 1 text) (drop (p + 1) a) 0
   behind = record {
     within = omega arith;
     behind = sa.behind;

@@ -15,7 +15,7 @@ use Rattle.postscript_view.specs.Layout.AreParts.{OfFont, OfFontDictionaries}
 use Rattle.postscript_view.specs.Select.{Selects}
 use Rattle.postscript_view.specs.Value.{part_shown, parts_shown}
 use Rattle.postscript_view.specs.declared.font.FontView.{FontView}
-use Rattle.postscript_write.specs.Glyphs.{AreNumbersOf, HasPart, HasPartFor, Sources}
+use Rattle.postscript_write.specs.Glyphs.{AreNumbersOf, ShowsPart, ShowsPartFor, Sources}
 use Rattle.postscript_write.specs.Room.{IsRead}
 use Rattle.postscript_write.specs.Selected.{AreLow}
 use Rattle.postscript_write.proofs.Arranged.{all_dictionaries}
@@ -81,13 +81,13 @@ given_low bytes place glyphs glyph fd low (inr ranges) =
     let is = one.dictionary in
     omega (arith, is, one_low bytes (place + 3 + one.range * 3 + 2) low)
 
-part_low : (bytes : List ℕ) (font : View) (glyph number : ℕ) → AreLow bytes → HasPart bytes font glyph number → number < 256
+part_low : (bytes : List ℕ) (font : View) (glyph number : ℕ) → AreLow bytes → ShowsPart bytes font glyph number → number < 256
 part_low bytes font glyph number low has = elim has.selected [
   | inl one ↦ (let is = one.1 in omega (arith, is))
   | inr several ↦ (let selected = several.1 in given_low bytes selected.0 (length font.char_strings) glyph number low selected.2)
 ]
 
-number_low : (bytes : List ℕ) (font : View) (source : Option ℕ) (number : ℕ) → AreLow bytes → HasPartFor bytes font source number →
+number_low : (bytes : List ℕ) (font : View) (source : Option ℕ) (number : ℕ) → AreLow bytes → ShowsPartFor bytes font source number →
     number < 256
 number_low bytes font None number low is = omega (arith, is)
 number_low bytes font (Some glyph) number low has = part_low bytes font glyph number low has

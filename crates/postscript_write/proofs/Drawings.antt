@@ -1,5 +1,5 @@
 -- What the glyphs of a subset draw.
-use Rattle.std.proofs.Common.{◌≡◌, refl, sym, ap, subst, ◌∙◌, inl, inr, ℕ, ◌+◌, ◌<◌, ◌-◌, List, [], ◌∷◌, length, get_or, slice_get, arith, Bool, true, false}
+use Rattle.std.proofs.Common.{◌≡◌, refl, sym, ap, subst, ◌∙◌, inl, inr, ℕ, ℤ, ◌+◌, ◌<◌, ◌-◌, List, [], ◌∷◌, length, get_or, slice_get, arith, Bool, true, false}
 use Rattle.std.specs.Prelude.{◌⊎◌, ◌↔◌, ◌&&◌, Option, Some, None, Result, Ok, Err, Vec, IfOk, option_map, nat_le, nat_lt, if◌then◌else◌}
 use Rattle.std.proofs.lemmas.Bool.{leb-true, ltb-true}
 use Rattle.std.proofs.lemmas.List.{length-map}
@@ -9,7 +9,7 @@ use Rattle.postscript_write.proofs.Operators.{ros-stays}
 use Rattle.postscript_write.specs.declared.error.Error.{Error}
 use Rattle.std.specs.declared.alloc.Global.{Global}
 use Rattle.std.proofs.lemmas.Option.{slice_get-map, slice_get_within}
-use Rattle.std.specs.Option.{IsSome}
+use Rattle.std.specs.Option.{IsSome, is_some}
 use Rattle.postscript_drawing.specs.Accents.{IsAccent}
 use Rattle.postscript_drawing.specs.Components.{IsComponent, glyphs_of, standard_identifier}
 use Rattle.postscript_drawing.specs.Refused.{IsAccented}
@@ -17,7 +17,7 @@ use Rattle.postscript_drawing.specs.declared.accent.Accent.{Accent}
 use Rattle.postscript_base.specs.Index.Lent.{items_of}
 use Rattle.postscript_type2.specs.Program.Runs.{Run}
 use Rattle.postscript_type2.specs.Program.Routines.{lent}
-use Rattle.postscript_view.specs.Advances.{HasRun}
+use Rattle.postscript_view.specs.Advances.{HasRun, advance_of}
 use Rattle.postscript_view.specs.CharSets.{IsCharSetOf}
 use Rattle.postscript_view.specs.Cids.{IsCidKeyed}
 use Rattle.postscript_view.specs.Layout.{IsLaidOut}
@@ -28,9 +28,10 @@ use Rattle.postscript_view.specs.Value.{part_shown, parts_shown, view_shown}
 use Rattle.postscript_view.specs.declared.font.FontView.{FontView}
 use Rattle.postscript_view.specs.declared.private_dict.PrivateDict.{PrivateDict}
 use Rattle.postscript_write.specs.Components.{AreClosed, IsComponentOf, IsOpened, IsSubset, is_drawn_with}
-use Rattle.postscript_write.specs.Drawings.{DrawsKept, DrawsTheSame, KeepsDrawings, StandsAt}
-use Rattle.postscript_write.specs.Fonts.{HasGlyph, IsMade, IsMadeOf, IsFontOf}
+use Rattle.postscript_write.specs.Drawings.{DrawsKept, DrawsTheSame, KeepsDrawings, IsSourceAt}
+use Rattle.postscript_write.specs.Fonts.{ShowsGlyph, HasGlyphsOf, IsMade, IsMadeOf, Repeats}
 use Rattle.postscript_write.specs.Glyphs.{Sources, run_in}
+use Rattle.postscript_write.specs.Making.{HaveCharSets, IsCutFont, IsKeptFont}
 use Rattle.postscript_write.specs.Sources.{IsWritten, chosen, every, is_kept, keeping, kept_or_none}
 use Rattle.postscript_write.proofs.Carried.{Carries, CarriesComponents, SameRuns, carried, turned}
 use Rattle.postscript_write.proofs.Accented.{component-there}
@@ -41,25 +42,23 @@ use Rattle.postscript_compact1.specs.Computed.Encodings.{Run as EncodingRun, are
 use Rattle.postscript_compact1.specs.declared.encoding.Encoding.TheVariants.{Standard}
 use Rattle.postscript_view.specs.declared.char_set.CharSetView.{CharSetView}
 use Rattle.postscript_write.specs.Naming.{SameName}
-use Rattle.postscript_write.specs.Strings.{SameStrings, SameText, keeps_strings}
+use Rattle.postscript_write.specs.Strings.{SameStrings, SameText}
 
--- A glyph of the shown font has this run.
-pub record RunAt (bytes : List ℕ) (font : View) (glyph : ℕ) (run : Run) : Type 0 where
+-- A glyph of the shown font has this part and this run.
+pub record RunAt (bytes : List ℕ) (font : View) (glyph : ℕ) (part : ShownDict) (run : Run) : Type 0 where
   pub code : List ℕ
   pub number : ℕ
-  pub part : ShownDict
-  pub has : HasGlyph bytes font glyph code number part
+  pub has : ShowsGlyph bytes font glyph code number part
   pub runs : run ≡ run_in font part code
 
 to-shown : (font : FontView) (glyph : ℕ) (part : PrivateDict) (run : Run) → HasRun font glyph part run →
-    RunAt font.bytes.now (view_shown font) glyph run
+    RunAt font.bytes.now (view_shown font) glyph (part_shown part) run
 to-shown font glyph part run h =
     let many : length (parts_shown font.parts.items) ≡ length font.parts.items = length-map font.parts.items part_shown in
     let number = h.has.number in
     record {
       code = h.code;
       number = number;
-      part = part_shown part;
       has = record {
         has_code = h.has.has_code;
         has_part = slice_get-map part_shown font.parts.items number ∙ ap (option_map part_shown) h.has.has_part;
@@ -72,23 +71,31 @@ to-shown font glyph part run h =
       runs = h.runs;
     }
 
-from-shown : (font : FontView) (glyph : ℕ) (run : Run) → RunAt font.bytes.now (view_shown font) glyph run →
-    (part : PrivateDict) × HasRun font glyph part run
-from-shown font glyph run h = by (slice_get font.parts.items h.number) refl
+-- a part that is shown so, with which a glyph has this run
+pub record RunFrom (font : FontView) (glyph : ℕ) (shown : ShownDict) (run : Run) : Type 0 where
+  pub part : PrivateDict
+  pub has : HasRun font glyph part run
+  pub is : part_shown part ≡ shown
+
+from-shown : (font : FontView) (glyph : ℕ) (shown : ShownDict) (run : Run) → RunAt font.bytes.now (view_shown font) glyph shown run →
+    RunFrom font glyph shown run
+from-shown font glyph shown run h = by (slice_get font.parts.items h.number) refl
   where
     many : length (parts_shown font.parts.items) ≡ length font.parts.items
     many = length-map font.parts.items part_shown
 
-    by : (o : Option PrivateDict) → slice_get font.parts.items h.number ≡ o → (part : PrivateDict) × HasRun font glyph part run
+    by : (o : Option PrivateDict) → slice_get font.parts.items h.number ≡ o → RunFrom font glyph shown run
     by None e =
-        let never : None ≡ Some h.part = sym (slice_get-map part_shown font.parts.items h.number ∙ ap (option_map part_shown) e)
+        let never : None ≡ Some shown = sym (slice_get-map part_shown font.parts.items h.number ∙ ap (option_map part_shown) e)
         ∙ h.has.has_part in absurd (cc)
     by (Some part) e =
-        let both : Some (part_shown part) ≡ Some h.part = sym
+        let both : Some (part_shown part) ≡ Some shown = sym
         (slice_get-map part_shown font.parts.items h.number ∙ ap (option_map part_shown) e) ∙ h.has.has_part in
-        let same : part_shown part ≡ h.part = cc in (
-          part,
-          record {
+        let same : part_shown part ≡ shown = cc in
+        record {
+          part = part;
+          is = same;
+          has = record {
             code = h.code;
             has = record {
               number = h.number;
@@ -102,25 +109,31 @@ from-shown font glyph run h = by (slice_get font.parts.items h.number) refl
               has_code = h.has.has_code;
             };
             runs = subst (λ (p : ShownDict). run ≡ run_in (view_shown font) p h.code) (sym same) h.runs;
-          },
-        )
+          };
+        }
 
 -- a font that is opened shows the view of its bytes
-shows : (bytes : List ℕ) (font : FontView) (v : View) → IsOpened bytes font → IsLaidOut bytes 0 v → view_shown font ≡ v
+pub shows : (bytes : List ℕ) (font : FontView) (v : View) → IsOpened bytes font → IsLaidOut bytes 0 v → view_shown font ≡ v
 shows bytes font v opened is = one_view bytes v (view_shown font) is opened.laid
 
 run-at : (bytes : List ℕ) (font : FontView) (v : View) (glyph : ℕ) (part : PrivateDict) (run : Run) → IsOpened bytes font →
-    IsLaidOut bytes 0 v → HasRun font glyph part run → RunAt bytes v glyph run
+    IsLaidOut bytes 0 v → HasRun font glyph part run → RunAt bytes v glyph (part_shown part) run
 run-at bytes font v glyph part run opened is has =
-    subst (λ (v : View). RunAt bytes v glyph run) (shows bytes font v opened is)
-    (subst (λ (bs : List ℕ). RunAt bs (view_shown font) glyph run) opened.there (to-shown font glyph part run has))
+    subst (λ (v : View). RunAt bytes v glyph (part_shown part) run) (shows bytes font v opened is)
+    (subst (λ (bs : List ℕ). RunAt bs (view_shown font) glyph (part_shown part) run) opened.there (to-shown font glyph part run has))
 
-run-from : (bytes : List ℕ) (font : FontView) (v : View) (glyph : ℕ) (run : Run) → IsOpened bytes font → IsLaidOut bytes 0 v →
-    RunAt bytes v glyph run → (part : PrivateDict) × HasRun font glyph part run
-run-from bytes font v glyph run opened is at =
-    from-shown font glyph run
-    (subst (λ (bs : List ℕ). RunAt bs (view_shown font) glyph run) (sym opened.there)
-    (subst (λ (v : View). RunAt bytes v glyph run) (sym (shows bytes font v opened is)) at))
+run-from : (bytes : List ℕ) (font : FontView) (v : View) (glyph : ℕ) (shown : ShownDict) (run : Run) → IsOpened bytes font →
+    IsLaidOut bytes 0 v → RunAt bytes v glyph shown run → RunFrom font glyph shown run
+run-from bytes font v glyph shown run opened is at =
+    from-shown font glyph shown run
+    (subst (λ (bs : List ℕ). RunAt bs (view_shown font) glyph shown run) (sym opened.there)
+    (subst (λ (v : View). RunAt bytes v glyph shown run) (sym (shows bytes font v opened is)) at))
+
+-- the run of a glyph of the shown font
+pub shown-run : (bytes : List ℕ) (font : FontView) (v : View) (glyph : ℕ) (code : List ℕ) (number : ℕ) (part : ShownDict) →
+    IsOpened bytes font → IsLaidOut bytes 0 v → ShowsGlyph bytes v glyph code number part → RunFrom font glyph part (run_in v part code)
+shown-run bytes font v glyph code number part opened is has =
+    run-from bytes font v glyph part (run_in v part code) opened is (record { code = code; number = number; has = has; runs = refl })
 
 -- the glyph of a code in the shown font
 record ComponentAt (bytes : List ℕ) (font : View) (code glyph : ℕ) : Type 0 where
@@ -145,8 +158,8 @@ component-from bytes font v code glyph opened is at =
     by : ComponentAt font.bytes.now (view_shown font) code glyph → IsComponent font code glyph
     by c = record { not_keyed = c.not_keyed; set = c.set; is_set = c.is_set; first = c.first }
 
--- the runs of a glyph and of the one that it is made of
-record MadeRuns (old new : FontView) (glyph i : ℕ) : Type 0 where
+-- The runs of a glyph and of the one that it is made of, whose parts give the same advance.
+pub record MadeRuns (old new : FontView) (glyph i : ℕ) : Type 0 where
   pub old_part : PrivateDict
   pub new_part : PrivateDict
   pub run : Run
@@ -154,23 +167,34 @@ record MadeRuns (old new : FontView) (glyph i : ℕ) : Type 0 where
   pub was : HasRun old glyph old_part run
   pub is : HasRun new i new_part other
   pub same : SameRuns run other
+  pub advance : (width : Option ℤ) → advance_of new_part.dictionary width ≡ advance_of old_part.dictionary width
 
-made-runs : (bytes flat : List ℕ) (old new : FontView) (ov nv : View) (glyph i : ℕ) → IsOpened bytes old → IsOpened flat new →
+pub made-back : (old new : FontView) (glyph i : ℕ) → MadeRuns old new glyph i → MadeRuns new old i glyph
+made-back old new glyph i m = record {
+  old_part = m.new_part;
+  new_part = m.old_part;
+  run = m.other;
+  other = m.run;
+  was = m.is;
+  is = m.was;
+  same = turned m.run m.other m.same;
+  advance = λ width. sym (m.advance width);
+}
+
+pub made-runs : (bytes flat : List ℕ) (old new : FontView) (ov nv : View) (glyph i : ℕ) → IsOpened bytes old → IsOpened flat new →
     IsLaidOut bytes 0 ov → IsLaidOut flat 0 nv →
     IsMadeOf bytes ov glyph flat nv i → MadeRuns old new glyph i
 made-runs bytes flat old new ov nv glyph i o n was is m =
-    let first = run-from bytes old ov glyph (run_in ov m.old_part m.old_code) o was
-    (record { code = m.old_code; number = m.number; part = m.old_part; has = m.was; runs = refl }) in
-    let second = run-from flat new nv i (run_in nv m.new_part m.new_code) n is
-    (record { code = m.new_code; number = m.number; part = m.new_part; has = m.is; runs = refl }) in
+    let first = shown-run bytes old ov glyph m.old_code m.number m.old_part o was m.was in
+    let second = shown-run flat new nv i m.new_code m.number m.new_part n is m.is in
     let draws = m.draws (lent nv.tables.subroutines m.new_part.subroutines) in
     record {
-      old_part = first.0;
-      new_part = second.0;
+      old_part = first.part;
+      new_part = second.part;
       run = run_in ov m.old_part m.old_code;
       other = run_in nv m.new_part m.new_code;
-      was = first.1;
-      is = second.1;
+      was = first.has;
+      is = second.has;
       same = record {
         answers = draws.answers;
         width = draws.width;
@@ -178,6 +202,9 @@ made-runs bytes flat old new ov nv glyph i o n was is m =
         faultless = m.faultless;
         other_faultless = draws.faultless;
       };
+      advance = λ width.
+          ap (λ (p : ShownDict). advance_of p.dictionary width) second.is ∙ m.same.advance width
+          ∙ sym (ap (λ (p : ShownDict). advance_of p.dictionary width) first.is);
     }
 
 carries-forth : (old new : FontView) (glyph i : ℕ) → MadeRuns old new glyph i → Carries old new glyph i
@@ -189,12 +216,7 @@ carries-forth old new glyph i m part run has = record {
 }
 
 carries-back : (old new : FontView) (glyph i : ℕ) → MadeRuns old new glyph i → Carries new old i glyph
-carries-back old new glyph i m part run has = record {
-  part = m.old_part;
-  other = m.run;
-  has = m.was;
-  same = turned m.run run (subst (λ r. SameRuns m.run r) (sym (one-run new i m.new_part part m.other run m.is has)) m.same);
-}
+carries-back old new glyph i m = carries-forth new old i glyph (made-back old new glyph i m)
 
 -- a glyph that is accented is accented in the other font
 accented-so : (old new : FontView) (glyph i : ℕ) (accent : Accent) → Carries old new glyph i → IsAccented old glyph accent →
@@ -243,11 +265,11 @@ pub component-moved : (bytes : List ℕ) (a b : FontView) (from one : ℕ) → I
     IsComponentOf b from one
 component-moved bytes a b from one was is c =
     let v = view_shown a in
-    let run = run-from bytes b v from c.accented.run is was.laid
+    let run = run-from bytes b v from (part_shown c.accented.part) c.accented.run is was.laid
     (run-at bytes a v from c.accented.part c.accented.run was was.laid c.accented.has) in
     record {
       accent = c.accent;
-      accented = record { part = run.0; run = c.accented.run; has = run.1; accented = c.accented.accented };
+      accented = record { part = run.part; run = c.accented.run; has = run.has; accented = c.accented.accented };
       named = elim c.named [
         | inl h ↦ inl (component-from bytes b v c.accent.base one is was.laid (component-at bytes a v c.accent.base one was was.laid h))
         | inr h ↦ inr (component-from bytes b v c.accent.accent one is was.laid
@@ -263,14 +285,20 @@ closes : (bytes named closed : List ℕ) → AreClosed bytes named closed → Cl
 closes bytes named closed are font from one opened kept is =
     (are.all one).1 (is_drawn_with from one ((are.all from).0 kept) (component-moved bytes font are.font from one opened are.opened is))
 
+-- both fonts are CID-keyed, or neither is
+pub one-key : (old new : View) → Repeats old new → look new.tables.dictionary ROS ≡ look old.tables.dictionary ROS
+one-key old new repeats = elim (repeats.dictionary ROS) [
+  | inl same ↦ same
+  | inr among ↦ absurd (ros-stays among)
+]
+
 -- What a font draws that is made of these glyphs, where each place stands for one of the old font.
-draws : (kept_numbers : Bool) (kept : ℕ → Type 0) (bytes flat : List ℕ) (ov nv : View) (sources : Sources) → IsLaidOut bytes 0 ov →
-    IsLaidOut flat 0 nv →
-    (made : IsFontOf kept_numbers sources bytes ov flat nv) → Closes bytes kept → (origin : ℕ → ℕ) → Placed kept sources
-    (length ov.char_strings) origin →
-    NamesKept sources made.naming.old_set made.naming.new_set origin →
-    (old new : FontView) (glyph i : ℕ) → IsOpened bytes old → IsOpened flat new → StandsAt sources i glyph → DrawsTheSame old new glyph i
-draws kept_numbers kept bytes flat ov nv sources shown_old shown_new made all origin placed names old new glyph i was is at segments width = (
+draws : (kept : ℕ → Type 0) (bytes flat : List ℕ) (ov nv : View) (sources : Sources) → IsLaidOut bytes 0 ov →
+    IsLaidOut flat 0 nv → HasGlyphsOf sources bytes ov flat nv → (sets : HaveCharSets bytes ov flat nv) →
+    Closes bytes kept → (origin : ℕ → ℕ) → Placed kept sources (length ov.char_strings) origin →
+    NamesKept sources sets.old_set sets.new_set origin →
+    (old new : FontView) (glyph i : ℕ) → IsOpened bytes old → IsOpened flat new → IsSourceAt sources i glyph → DrawsTheSame old new glyph i
+draws kept bytes flat ov nv sources shown_old shown_new made sets all origin placed names old new glyph i was is at segments width = (
   carried old new glyph i segments width (carries-forth old new glyph i (runs glyph i at)) codes-forth,
   carried new old i glyph segments width (carries-back old new glyph i (runs glyph i at)) codes-back,
 )
@@ -278,7 +306,7 @@ draws kept_numbers kept bytes flat ov nv sources shown_old shown_new made all or
     n : ℕ
     n = length ov.char_strings
 
-    runs : (g j : ℕ) → StandsAt sources j g → MadeRuns old new g j
+    runs : (g j : ℕ) → IsSourceAt sources j g → MadeRuns old new g j
     runs g j there =
         made-runs bytes flat old new ov nv g j was is shown_old shown_new
         (subst (λ o. IsMade bytes ov o flat nv j) there.is (made.glyphs j there.there))
@@ -297,7 +325,7 @@ draws kept_numbers kept bytes flat ov nv sources shown_old shown_new made all or
           ];
         })
 
-    takes : (code : ℕ) → Takes kept made.naming.old_set made.naming.new_set (standard_identifier code) n (length sources) origin
+    takes : (code : ℕ) → Takes kept sets.old_set sets.new_set (standard_identifier code) n (length sources) origin
     takes code = record {
       names = λ j there. names (standard_identifier code) j (standard code) there;
       rise = placed.rise;
@@ -306,10 +334,7 @@ draws kept_numbers kept bytes flat ov nv sources shown_old shown_new made all or
     }
 
     same_key : look nv.tables.dictionary ROS ≡ look ov.tables.dictionary ROS
-    same_key = elim (made.repeats.dictionary ROS) [
-      | inl same ↦ same
-      | inr among ↦ absurd (ros-stays among)
-    ]
+    same_key = one-key ov nv made.repeats
 
     keyed : IsCidKeyed nv.tables.dictionary → IsCidKeyed ov.tables.dictionary
     keyed h = subst (λ o. IsSome o) same_key h
@@ -321,15 +346,15 @@ draws kept_numbers kept bytes flat ov nv sources shown_old shown_new made all or
     codes-forth accent code one accented is_code component =
         let c = component-at bytes old ov code one was shown_old component in
         let place = placed.all one (kept-one accent code one accented is_code c) c.first.there in
-        let first = first-of c.set made.naming.old_set bytes ov.tables.dictionary n
-        (standard_identifier code) one c.is_set made.naming.was c.first in
-        let new_first = first-forth kept made.naming.old_set made.naming.new_set (standard_identifier code) n
+        let first = first-of c.set sets.old_set bytes ov.tables.dictionary n
+        (standard_identifier code) one c.is_set sets.was c.first in
+        let new_first = first-forth kept sets.old_set sets.new_set (standard_identifier code) n
         (length sources) origin one place.0 (takes code) place.1.there place.2 first in
         let there : ComponentAt flat nv code place.0 = record {
           not_keyed = λ h. c.not_keyed (keyed h);
-          set = made.naming.new_set;
-          is_set = made.naming.is;
-          first = subst (λ m. IsFirstNamed made.naming.new_set (standard_identifier code) m place.0) (sym made.many) new_first;
+          set = sets.new_set;
+          is_set = sets.is;
+          first = subst (λ m. IsFirstNamed sets.new_set (standard_identifier code) m place.0) (sym made.many) new_first;
         } in
         (place.0, component-from flat new nv code place.0 is shown_new there, carries-forth old new one place.0 (runs one place.0 place.1))
 
@@ -338,21 +363,21 @@ draws kept_numbers kept bytes flat ov nv sources shown_old shown_new made all or
         let c = component-at flat new nv code j is shown_new component in
         let before : IsAccented old glyph accent = accented-so new old i glyph accent
         (carries-back old new glyph i (runs glyph i at)) accented in
-        let first = first-of c.set made.naming.new_set flat nv.tables.dictionary (length nv.char_strings)
-        (standard_identifier code) j c.is_set made.naming.is c.first in
-        let first_m = subst (λ m. IsFirstNamed made.naming.new_set (standard_identifier code) m j) made.many first in
-        let here : (g : ℕ) → IsFirstNamed made.naming.old_set (standard_identifier code) n g → ComponentAt bytes ov code g =
-        λ g f. record { not_keyed = λ h. c.not_keyed (unkeyed h); set = made.naming.old_set; is_set = made.naming.was; first = f } in
-        let closing = λ (g : ℕ) (f : IsFirstNamed made.naming.old_set (standard_identifier code) n g). kept-one accent code g before
+        let first = first-of c.set sets.new_set flat nv.tables.dictionary (length nv.char_strings)
+        (standard_identifier code) j c.is_set sets.is c.first in
+        let first_m = subst (λ m. IsFirstNamed sets.new_set (standard_identifier code) m j) made.many first in
+        let here : (g : ℕ) → IsFirstNamed sets.old_set (standard_identifier code) n g → ComponentAt bytes ov code g =
+        λ g f. record { not_keyed = λ h. c.not_keyed (unkeyed h); set = sets.old_set; is_set = sets.was; first = f } in
+        let closing = λ (g : ℕ) (f : IsFirstNamed sets.old_set (standard_identifier code) n g). kept-one accent code g before
         is_code (here g f) in
-        let old_first = first-back kept made.naming.old_set made.naming.new_set (standard_identifier code) n (length sources) origin j
+        let old_first = first-back kept sets.old_set sets.new_set (standard_identifier code) n (length sources) origin j
         (takes code) closing first_m in
         let one = origin j in
         let place = placed.all one (closing one old_first) old_first.there in
         let same : place.0 ≡ j = one-place kept sources n place.0 j origin placed place.1.there first_m.there place.2 in (
           one,
           component-from bytes old ov code one was shown_old (here one old_first),
-          carries-back old new one j (runs one j (subst (λ k. StandsAt sources k one) same place.1)),
+          carries-back old new one j (runs one j (subst (λ k. IsSourceAt sources k one) same place.1)),
         )
 
 -- The number of glyphs of an opened font.
@@ -360,75 +385,75 @@ pub many-of : (bytes : List ℕ) (font : FontView) (v : View) → IsOpened bytes
     glyphs_of font ≡ length v.char_strings
 many-of bytes font v opened is = ap (λ (v : View). length v.char_strings) (shows bytes font v opened is)
 
-pub subset-draws : (named bytes flat : List ℕ) → IsSubset false chosen named bytes flat → DrawsKept chosen named bytes flat
+pub subset-draws : (named bytes flat : List ℕ) → IsSubset IsCutFont chosen named bytes flat → DrawsKept chosen named bytes flat
 subset-draws named bytes flat s = (
   s.closed,
   s.are,
   λ old new glyph i was is at.
-      draws false (λ g. is_kept s.closed g ≡ true) bytes flat s.written.old s.written.new
-      (chosen s.closed n) s.written.was s.written.is s.written.made (closes bytes named s.closed s.are)
+      draws (λ g. is_kept s.closed g ≡ true) bytes flat s.written.old s.written.new
+      (chosen s.closed n) s.written.was s.written.is s.written.made.made s.written.made.sets (closes bytes named s.closed s.are)
       (λ j. glyph_or (get_or (chosen s.closed n) j None)) (chosen-placed s.closed n) names old new glyph i was is
-      (subst (λ m. StandsAt (chosen s.closed m) i glyph) (many-of bytes old s.written.old was s.written.was) at),
+      (subst (λ m. IsSourceAt (chosen s.closed m) i glyph) (many-of bytes old s.written.old was s.written.was) at),
 )
   where
     n : ℕ
     n = length s.written.old.char_strings
 
-    names-at : (keeps : Bool) (identifier i : ℕ) → identifier < 391 → (one : (g : ℕ) × StandsAt (chosen s.closed n) i g) →
-        SameStrings keeps (chosen s.closed n) s.written.old s.written.made.naming.old_set s.written.new s.written.made.naming.new_set →
-        Names s.written.made.naming.old_set one.0 identifier ↔ Names s.written.made.naming.new_set i identifier
+    names-at : (keeps : Bool) (identifier i : ℕ) → identifier < 391 → (one : (g : ℕ) × IsSourceAt (chosen s.closed n) i g) →
+        SameStrings keeps (chosen s.closed n) s.written.old s.written.made.sets.old_set s.written.new s.written.made.sets.new_set →
+        Names s.written.made.sets.old_set one.0 identifier ↔ Names s.written.made.sets.new_set i identifier
     names-at true identifier i small one same =
-        subst (λ o. SameName s.written.made.naming.old_set o s.written.made.naming.new_set i) one.1.is
+        subst (λ o. SameName s.written.made.sets.old_set o s.written.made.sets.new_set i) one.1.is
         (same.glyphs i one.1.there) identifier
     names-at false identifier i small one same =
-        (subst (λ o. SameText s.written.made.naming.old_set s.written.old.tables.strings o s.written.made.naming.new_set
+        (subst (λ o. SameText s.written.made.sets.old_set s.written.old.tables.strings o s.written.made.sets.new_set
         s.written.new.tables.strings i) one.1.is (same.glyphs i one.1.there)).standard identifier small
 
-    names : NamesKept (chosen s.closed n) s.written.made.naming.old_set s.written.made.naming.new_set
+    names : NamesKept (chosen s.closed n) s.written.made.sets.old_set s.written.made.sets.new_set
         (λ j. glyph_or (get_or (chosen s.closed n) j None))
     names identifier i small less =
         let one = (chosen-rises s.closed n).some i less in
-        subst (λ g. Names s.written.made.naming.old_set g identifier ↔ Names s.written.made.naming.new_set i identifier)
+        subst (λ g. Names s.written.made.sets.old_set g identifier ↔ Names s.written.made.sets.new_set i identifier)
         (sym (ap glyph_or one.1.is))
-        (names-at (keeps_strings false s.written.old.tables.dictionary) identifier i small one s.written.made.naming.strings)
+        (names-at (is_some (look s.written.old.tables.dictionary ROS)) identifier i small one s.written.made.strings)
 
-pub keeping-draws : (named bytes flat : List ℕ) → IsSubset true keeping named bytes flat → DrawsKept keeping named bytes flat
+pub keeping-draws : (named bytes flat : List ℕ) → IsSubset IsKeptFont keeping named bytes flat → DrawsKept keeping named bytes flat
 keeping-draws named bytes flat s = (
   s.closed,
   s.are,
   λ old new glyph i was is at.
-      draws true (λ g. is_kept s.closed g ≡ true) bytes flat s.written.old s.written.new
-      (keeping s.closed n) s.written.was s.written.is s.written.made (closes bytes named s.closed s.are) (λ j. j)
+      draws (λ g. is_kept s.closed g ≡ true) bytes flat s.written.old s.written.new
+      (keeping s.closed n) s.written.was s.written.is s.written.made.made s.written.made.sets (closes bytes named s.closed s.are) (λ j. j)
       (keeping-placed s.closed n) names old new glyph i was is
-      (subst (λ m. StandsAt (keeping s.closed m) i glyph) (many-of bytes old s.written.old was s.written.was) at),
+      (subst (λ m. IsSourceAt (keeping s.closed m) i glyph) (many-of bytes old s.written.old was s.written.was) at),
 )
   where
     n : ℕ
     n = length s.written.old.char_strings
 
     named-at : (o : Option ℕ) (i identifier : ℕ) → (o ≡ Some i) ⊎ (o ≡ None) →
-        SameName s.written.made.naming.old_set o s.written.made.naming.new_set i →
-        Names s.written.made.naming.old_set i identifier ↔ Names s.written.made.naming.new_set i identifier
+        SameName s.written.made.sets.old_set o s.written.made.sets.new_set i →
+        Names s.written.made.sets.old_set i identifier ↔ Names s.written.made.sets.new_set i identifier
     named-at o i identifier (inl e) same =
-        subst (λ o. SameName s.written.made.naming.old_set o s.written.made.naming.new_set i) e same identifier
+        subst (λ o. SameName s.written.made.sets.old_set o s.written.made.sets.new_set i) e same identifier
     named-at o i identifier (inr e) same =
-        subst (λ o. SameName s.written.made.naming.old_set o s.written.made.naming.new_set i) e same identifier
+        subst (λ o. SameName s.written.made.sets.old_set o s.written.made.sets.new_set i) e same identifier
 
     either : (b : Bool) (i : ℕ) → ((if b then Some i else None) ≡ Some i) ⊎ ((if b then Some i else None) ≡ None)
     either true i = inl refl
     either false i = inr refl
 
-    names : NamesKept (keeping s.closed n) s.written.made.naming.old_set s.written.made.naming.new_set (λ i. i)
+    names : NamesKept (keeping s.closed n) s.written.made.sets.old_set s.written.made.sets.new_set (λ i. i)
     names identifier i small less =
         let at = keeping-at s.closed n i (subst (λ m. i < m) (keeping-many s.closed n) less) in
         named-at (kept_or_none s.closed i) i identifier (either (is_kept s.closed i) i)
-        (subst (λ o. SameName s.written.made.naming.old_set o s.written.made.naming.new_set i) at (s.written.made.naming.strings.glyphs i
+        (subst (λ o. SameName s.written.made.sets.old_set o s.written.made.sets.new_set i) at (s.written.made.strings.glyphs i
         less))
 
-pub flat-draws : (bytes flat : List ℕ) → IsWritten true every bytes flat → KeepsDrawings every bytes flat
+pub flat-draws : (bytes flat : List ℕ) → IsWritten IsKeptFont every bytes flat → KeepsDrawings every bytes flat
 flat-draws bytes flat w old new glyph i was is at =
-    draws true (λ g. g < n) bytes flat w.old w.new (every n) w.was w.is w.made all (λ j. j) (every-placed n) names old new glyph i was is
-    (subst (λ m. StandsAt (every m) i glyph) (many-of bytes old w.old was w.was) at)
+    draws (λ g. g < n) bytes flat w.old w.new (every n) w.was w.is w.made.made w.made.sets all (λ j. j) (every-placed n) names old new glyph i was is
+    (subst (λ m. IsSourceAt (every m) i glyph) (many-of bytes old w.old was w.was) at)
   where
     n : ℕ
     n = length w.old.char_strings
@@ -437,22 +462,22 @@ flat-draws bytes flat w old new glyph i was is at =
     all font from one opened less component =
         subst (λ m. one < m) (many-of bytes font w.old opened w.was) (component-there font from one component)
 
-    names : NamesKept (every n) w.made.naming.old_set w.made.naming.new_set (λ j. j)
+    names : NamesKept (every n) w.made.sets.old_set w.made.sets.new_set (λ j. j)
     names identifier j small less =
         let at = every-at n j (subst (λ m. j < m) (every-many n) less) in
-        subst (λ o. SameName w.made.naming.old_set o w.made.naming.new_set j) at (w.made.naming.strings.glyphs j less) identifier
+        subst (λ o. SameName w.made.sets.old_set o w.made.sets.new_set j) at (w.made.strings.glyphs j less) identifier
 
 pub subset-drawn : (r : Result (Vec ℕ Global) Error) (named bytes : List ℕ) →
-    IfOk r (λ flat. IsSubset false chosen named bytes flat.items) → IfOk r (λ flat. DrawsKept chosen named bytes flat.items)
+    IfOk r (λ flat. IsSubset IsCutFont chosen named bytes flat.items) → IfOk r (λ flat. DrawsKept chosen named bytes flat.items)
 subset-drawn (Ok flat) named bytes h = subset-draws named bytes flat.items h
 subset-drawn (Err e) named bytes h = tt
 
 pub keeping-drawn : (r : Result (Vec ℕ Global) Error) (named bytes : List ℕ) →
-    IfOk r (λ flat. IsSubset true keeping named bytes flat.items) → IfOk r (λ flat. DrawsKept keeping named bytes flat.items)
+    IfOk r (λ flat. IsSubset IsKeptFont keeping named bytes flat.items) → IfOk r (λ flat. DrawsKept keeping named bytes flat.items)
 keeping-drawn (Ok flat) named bytes h = keeping-draws named bytes flat.items h
 keeping-drawn (Err e) named bytes h = tt
 
-pub flat-drawn : (r : Result (Vec ℕ Global) Error) (bytes : List ℕ) → IfOk r (λ flat. IsWritten true every bytes flat.items) →
+pub flat-drawn : (r : Result (Vec ℕ Global) Error) (bytes : List ℕ) → IfOk r (λ flat. IsWritten IsKeptFont every bytes flat.items) →
     IfOk r (λ flat. KeepsDrawings every bytes flat.items)
 flat-drawn (Ok flat) bytes h = flat-draws bytes flat.items h
 flat-drawn (Err e) bytes h = tt

@@ -14,7 +14,7 @@ use Rattle.postscript_view.specs.Sizes.{HoldFew, IsKeyed, private_bytes, private
 use Rattle.postscript_view.specs.Value.{part_shown, parts_shown}
 use Rattle.postscript_view.specs.declared.private_dict.PrivateDict.{PrivateDict}
 use Rattle.postscript_write.specs.ArrangedText.{AreSizedFor}
-use Rattle.postscript_write.specs.Index.{Fits, index_text}
+use Rattle.postscript_write.specs.Index.{FitsIndex, index_text}
 use Rattle.postscript_write.specs.Privates.{private_text, privates_text}
 use Rattle.postscript_write.specs.declared.layout.Private.{Private}
 use Rattle.postscript_write.proofs.Arranged.{all_dictionaries, keyed_items, named_opened}
@@ -51,7 +51,7 @@ are_few bytes map parts privates texts keyed few are less sized =
     let as_many = sized.2.many in
     record { many = omega (arith, as_many, many, less); bytes = omega (arith, most, sum, held, many, less) }
 
-pub few_fit : (texts : List (List ℕ)) → AreFew texts → Fits texts
+pub few_fit : (texts : List (List ℕ)) → AreFew texts → FitsIndex texts
 few_fit texts few = they_fit texts few.many (let most = few.bytes in omega (arith, most))
 
 pub few_most : (texts : List (List ℕ)) → AreFew texts → length (index_text texts) ≤ 21000000

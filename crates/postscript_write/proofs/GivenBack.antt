@@ -13,7 +13,7 @@ use Rattle.postscript_view.specs.declared.char_set.CharSetView.{CharSetView}
 use Rattle.postscript_view.specs.declared.font.FontView.{FontView}
 use Rattle.postscript_write.specs.Given.{AreGiven, GivesCharSet, GivesEncoding, GivesSelect}
 use Rattle.postscript_write.specs.GivenNumbers.{AreTheirNumbers, GivesNumbers, GivesWayTo, StaysEncoded}
-use Rattle.postscript_write.specs.Glyphs.{AreNumbersOf, HasPartFor, Sources}
+use Rattle.postscript_write.specs.Glyphs.{AreNumbersOf, ShowsPartFor, Sources}
 use Rattle.postscript_write.specs.Identified.{AreSourcesFor, Identifiers}
 use Rattle.postscript_write.specs.ReadBack.{HasCodes, HasOtherCodes, HasSameCodes}
 use Rattle.postscript_view.specs.declared.encoding.EncodingView.{EncodingView}
@@ -22,7 +22,7 @@ use Rattle.postscript_write.specs.Numbered.{AreGlyphsFor, IsCharSetFor, IsEncodi
 use Rattle.postscript_write.specs.Own.{IsOwnCharSet, IsOwnEncoding}
 use Rattle.postscript_write.specs.Renumbered.{new_identifier}
 use Rattle.postscript_write.specs.Selected.{AreLow}
-use Rattle.postscript_write.specs.Texts.{Stands, number_text}
+use Rattle.postscript_write.specs.Texts.{TextStands, number_text}
 use Rattle.postscript_write.specs.Whole.{CharSetEnds, EncodingEnds, SelectEnds}
 use Rattle.postscript_write.specs.declared.layout.Glyphs.{Glyphs}
 use Rattle.postscript_write.specs.declared.strings.Strings.{Strings}
@@ -31,7 +31,7 @@ use Rattle.postscript_write.proofs.Standing.{length-number_text, stands_first}
 use Rattle.postscript_write.proofs.TextsCut.{char_set_cut, cut_length, cut_stands, encoding_cut}
 
 -- a text stands in itself
-alone : (text : List ℕ) → Stands text text 0
+alone : (text : List ℕ) → TextStands text text 0
 alone text = record { within = omega arith; behind = []; there = sym (append-nil text) }
 
 -- the encoding of the font's own
@@ -47,7 +47,7 @@ stays_encoded bytes map (Some text) false (place, next, e, high, ends, cut) unna
       place = place;
       named = e;
       past = high;
-      stands = subst (λ xs. Stands xs bytes place) (sym cut.is) (cut_stands bytes place next cut.order cut.within);
+      stands = subst (λ xs. TextStands xs bytes place) (sym cut.is) (cut_stands bytes place next cut.order cut.within);
       ends = subst (λ n. EncodingEnds bytes place n) long ends;
     }
 
@@ -78,7 +78,7 @@ gives_set : (bytes : List ℕ) (map : Dictionary) (glyphs : ℕ) (char_set : Opt
     IsOwnCharSet bytes map glyphs (items_if char_set) → GivesCharSet map glyphs char_set
 gives_set bytes map glyphs None own = own
 gives_set bytes map glyphs (Some text) (place, next, e, high, ends, cut) =
-    let front : Stands text.items bytes place = subst (λ xs. Stands xs bytes place) (sym cut.is)
+    let front : TextStands text.items bytes place = subst (λ xs. TextStands xs bytes place) (sym cut.is)
     (cut_stands bytes place next cut.order cut.within) in
     let long : next ≡ place + length text.items = sym (cut_length bytes place next cut.order cut.within)
     ∙ ap (λ xs. place + length xs) (sym cut.is) in
@@ -115,7 +115,7 @@ gives_numbers numbers None low few own = tt
 gives_numbers numbers (Some text) low few own = (own.selects low few).gives
 
 -- the number of a part, of so many
-below : (bytes : List ℕ) (font : View) (source : Option ℕ) (number : ℕ) → HasPartFor bytes font source number → 0 < length font.parts →
+below : (bytes : List ℕ) (font : View) (source : Option ℕ) (number : ℕ) → ShowsPartFor bytes font source number → 0 < length font.parts →
     number < length font.parts
 below bytes font None number is some = omega (arith, is, some)
 below bytes font (Some glyph) number has some = has.there
@@ -137,7 +137,7 @@ module _ (font : FontView) (glyphs : Glyphs) (numbers : List ℕ) (kept : Bool) 
 
       by : (glyph : ℕ) × (get_or sources 0 None ≡ Some glyph) → 0 < length (view_shown font).parts
       by one =
-          let has = subst (λ s. HasPartFor font.bytes.now (view_shown font) s (get_or numbers 0 0)) one.1 (are.each 0 some) in
+          let has = subst (λ s. ShowsPartFor font.bytes.now (view_shown font) s (get_or numbers 0 0)) one.1 (are.each 0 some) in
           let there = has.there in
           omega (arith, there)
 

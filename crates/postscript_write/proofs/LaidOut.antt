@@ -27,8 +27,8 @@ use Rattle.postscript_write.specs.LaidOut.{IsLaidOutOf, SelectsExactly}
 use Rattle.postscript_write.specs.Privates.{place_of_private, private_offset, private_text}
 use Rattle.postscript_write.specs.Renumbered.{all_renamed}
 use Rattle.postscript_write.specs.Room.{IsRead}
-use Rattle.postscript_write.specs.Texts.{Stands}
-use Rattle.postscript_write.specs.Written.{IsWritten, TablesStand}
+use Rattle.postscript_write.specs.Texts.{TextStands}
+use Rattle.postscript_write.specs.Written.{IsPutTogether, TablesStand}
 use Rattle.postscript_write.specs.declared.dictionaries.Place.{Place}
 use Rattle.postscript_write.specs.declared.layout.Glyphs.{Glyphs}
 use Rattle.postscript_write.specs.declared.layout.Parts.{Parts}
@@ -95,7 +95,7 @@ only_one None [] m n none many = absurd (omega (arith, many))
 only_one None (p ∷ []) m n none many = refl
 only_one None (p ∷ q ∷ ps) m n none many = absurd (omega (arith, many))
 
-module _ (font : FontView) (glyphs : Glyphs) (codes : List (List ℕ)) (out : List ℕ) (w : IsWritten font glyphs codes out)
+module _ (font : FontView) (glyphs : Glyphs) (codes : List (List ℕ)) (out : List ℕ) (w : IsPutTogether font glyphs codes out)
     (t : TablesStand font glyphs w.parts (length w.tables) out) where
   pub ros_is : look t.new operators.ROS ≡ look font.dictionary operators.ROS
   ros_is =
@@ -123,7 +123,7 @@ module _ (font : FontView) (glyphs : Glyphs) (codes : List (List ℕ)) (out : Li
       (stays_renamed font.dictionary t.named (all_renamed glyphs.strings font.dictionary) operators.Private t.renamed
       (λ has. let never = subst IsSome no_ros_there has in absurd (cc)) (private_stays glyphs.strings font.dictionary)) in
       let first : private_offset at.privates privates 0 ≡ at.privates = omega arith in
-      let stand = subst (λ n. Stands (private_text private) out n) first (w.privates_stand 0 (omega (arith, many))) in
+      let stand = subst (λ n. TextStands (private_text private) out n) first (w.privates_stand 0 (omega (arith, many))) in
       let unnamed = λ (e : private ≡ None). subst
       (λ m. first_two_of (look (unwrap_or m font.dictionary) operators.Private) ≡ None) no_font (w.none_named 0 part there e) in
       subst (HasPartsLike out t.new) (sym one)
@@ -180,7 +180,7 @@ header_there (a ∷ b ∷ d ∷ e ∷ out) h =
     (omega arith, ap (λ n. big_endian (n ∷ [])) third)
 
 -- what is written is laid out
-pub laid_out : (font : FontView) (glyphs : Glyphs) (codes : List (List ℕ)) (out : List ℕ) → IsWritten font glyphs codes out →
+pub laid_out : (font : FontView) (glyphs : Glyphs) (codes : List (List ℕ)) (out : List ℕ) → IsPutTogether font glyphs codes out →
     IsRead font → SelectsExactly font glyphs → IsLaidOutOf font glyphs codes out
 laid_out font glyphs codes out w read exactly = record {
   view = record {

@@ -19,7 +19,7 @@ use Rattle.postscript_write.specs.declared.layout.Parts.{Parts}
 use Rattle.postscript_write.specs.declared.layout.Private.{Private}
 use Rattle.postscript_write.proofs.Arranged.{named_opened}
 use Rattle.postscript_write.proofs.IndexStands.{behind_is, length-index_text}
-use Rattle.postscript_write.specs.Texts.{Stands}
+use Rattle.postscript_write.specs.Texts.{TextStands}
 use Rattle.postscript_write.proofs.Standing.{stands_amid, stands_first, stands_second}
 use Rattle.postscript_write.proofs.Without.{one_size}
 
@@ -171,7 +171,7 @@ parts_stand parts dictionaries tables out len is =
     let s : List ℕ = text_of glyphs.char_set in
     let all : List ℕ = parts_text parts dictionaries in
     let at = beginnings (length tables) parts in
-    let whole : Stands all out (length tables) = subst (λ bs. Stands all bs (length tables))
+    let whole : TextStands all out (length tables) = subst (λ bs. TextStands all bs (length tables))
     (ap (λ xs. tables ++ xs) (append-nil all) ∙ sym is) (stands_amid tables all []) in
     let second = stands_second a (b ++ (parts.char_strings.items ++ (p ++ (q ++ s)))) whole in
     let third = stands_second b (parts.char_strings.items ++ (p ++ (q ++ s))) second in
@@ -183,5 +183,5 @@ parts_stand parts dictionaries tables out len is =
       char_strings = stands_first parts.char_strings.items (p ++ (q ++ s)) third;
       privates = stands_first p (q ++ s) fourth;
       font_dictionaries = stands_first q s fifth;
-      char_set = subst (λ n. Stands s out (at.dictionaries + n)) (sym len) (stands_second q s fifth);
+      char_set = subst (λ n. TextStands s out (at.dictionaries + n)) (sym len) (stands_second q s fifth);
     }

@@ -23,7 +23,7 @@ use Rattle.postscript_write.specs.NewStrings.{names_text}
 use Rattle.postscript_write.specs.Numbered.{items_if}
 use Rattle.postscript_write.specs.Own.{IsOwnCharSet}
 use Rattle.postscript_write.specs.ReadBack.{HasCharSetText, HasCodes}
-use Rattle.postscript_write.specs.Texts.{Stands}
+use Rattle.postscript_write.specs.Texts.{TextStands}
 use Rattle.postscript_write.specs.Whole.{CharSetEnds}
 use Rattle.postscript_write.specs.declared.strings.Strings.{Strings}
 use Rattle.postscript_write.proofs.Arranged.{one_first}
@@ -140,7 +140,7 @@ set_kept bytes out glyphs old new (Some text) set (place, next, e, high, ends, c
     let was = own_set bytes glyphs place old set (offset_first old operators.CharSet place e) high has in
     let long : next ≡ place + length text.items = sym (cut_length bytes place next cut.order cut.within) ∙ ap
     (λ (xs : List ℕ). place + length xs) (sym cut.is) in
-    let there : Stands text.items bytes place = subst (λ (xs : List ℕ). Stands xs bytes place) (sym cut.is)
+    let there : TextStands text.items bytes place = subst (λ (xs : List ℕ). TextStands xs bytes place) (sym cut.is)
     (cut_stands bytes place next cut.order cut.within) in
     let moved = strict_moved bytes out text.items place to glyphs was.0 set there
     (subst (CharSetEnds bytes glyphs place) long ends) stands was.1 in
@@ -152,5 +152,5 @@ pub set_listed : (out : List ℕ) (glyphs : ℕ) (old new : Dictionary) (text : 
 set_listed out glyphs old new None strings identifiers listed many stands = absurd (none-some _ listed)
 set_listed out glyphs old new (Some text) strings identifiers listed many (to, named, past, low, stands) =
     let is : text.items ≡ names_text strings identifiers = same_Some _ _ listed in
-    let set = strict_names strings identifiers out to glyphs (subst (λ (xs : List ℕ). Stands xs out to) is stands) many in
+    let set = strict_names strings identifiers out to glyphs (subst (λ (xs : List ℕ). TextStands xs out to) is stands) many in
     (set.0, named_there out to glyphs new set.0 set.1 named past low set.2)

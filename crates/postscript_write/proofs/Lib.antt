@@ -28,6 +28,7 @@ pub mod Making
 pub mod Marks
 pub mod Renamed
 mod StringRows
+mod LayoutRows
 pub mod Uniqueness
 pub mod Accented
 pub mod Subsets
@@ -35,6 +36,7 @@ pub mod Carried
 pub mod Places
 pub mod Reaching
 pub mod Drawings
+pub mod SameGlyphs
 pub mod Successive
 pub mod Sums
 pub mod Ranges

@@ -18,7 +18,7 @@ use Rattle.postscript_view.specs.declared.char_set.CharSetView.{CharSetView}
 use Rattle.postscript_view.specs.declared.private_dict.PrivateDict.{PrivateDict}
 use Rattle.postscript_view.proofs.Naming.{named_once}
 use Rattle.postscript_view.proofs.Selecting.{one_named}
-use Rattle.postscript_write.specs.Glyphs.{HasPart}
+use Rattle.postscript_write.specs.Glyphs.{ShowsPart}
 use Rattle.postscript_write.specs.Naming.{SameName}
 use Rattle.postscript_write.specs.Parts.{SameBut, SameFont, SamePart, SameParts}
 
@@ -51,7 +51,7 @@ pub part_of : (old new : List PrivateDict) (i : ℕ) (a b : PrivateDict) → i <
 part_of old new i a b lo ln ea eb all = all.each i (part_shown a) (part_shown b) (shown_at old i a lo ea) (shown_at new i b ln eb)
 
 -- a glyph has one part
-pub one_part : (font : FontView) (glyph a b : ℕ) → HasPartNumber font glyph a → HasPart font.bytes.now (view_shown font) glyph b → a ≡ b
+pub one_part : (font : FontView) (glyph a b : ℕ) → HasPartNumber font glyph a → ShowsPart font.bytes.now (view_shown font) glyph b → a ≡ b
 one_part font glyph a b one has = elim one.selected [
   | inl single ↦ elim has.selected [
     | inl same ↦ single.1 ∙ sym same.1

@@ -8,7 +8,7 @@ use Rattle.postscript_view.specs.CharSets.{StandsAt}
 use Rattle.postscript_view.specs.Naming.{NamesBehind}
 use Rattle.postscript_view.specs.declared.char_set.Identifiers.{Identifiers}
 use Rattle.postscript_view.specs.declared.char_set.Identifiers.TheVariants.{ISOAdobe, Expert, ExpertSubset, Listed, Ranges1, Ranges2}
-use Rattle.postscript_write.specs.Texts.{number_text, Stands}
+use Rattle.postscript_write.specs.Texts.{number_text, TextStands}
 use Rattle.postscript_write.proofs.Rows.{behind_number, number_read, row_stands, rows_length}
 use Rattle.postscript_write.proofs.Standing.{length-number_text, stands_amid, stands_first, stands_slice, stands_within}
 
@@ -25,8 +25,8 @@ module _ (new : ℕ → ℕ) (identifiers : List ℕ) where
   long : length rows ≡ length identifiers * 2
   long = rows_length row 2 two identifiers
 
-  alone : Stands rows rows 0
-  alone = subst (λ xs. Stands rows xs 0) (append-nil rows) (stands_amid [] rows [])
+  alone : TextStands rows rows 0
+  alone = subst (λ xs. TextStands rows xs 0) (append-nil rows) (stands_amid [] rows [])
 
   -- the identifier of a glyph, counted from 0 behind the first one
   told : (i : ℕ) → i < length identifiers → new (get_or identifiers i 0) < 65536 →
@@ -39,7 +39,7 @@ module _ (new : ℕ → ℕ) (identifiers : List ℕ) where
       ap (λ b. if b then Some (number_at rows (2 * i) 2) else None) half ∙ ap (λ n. Some n) (ap (λ n. number_at rows n 2) at ∙ read)
 
   -- the text stands at a place
-  module _ (bytes : List ℕ) (place : ℕ) (s : Stands (number_text 1 0 ++ rows) bytes place) where
+  module _ (bytes : List ℕ) (place : ℕ) (s : TextStands (number_text 1 0 ++ rows) bytes place) where
     format : number_at bytes place 1 ≡ 0
     format = number_read 1 0 (omega arith) (stands_first (number_text 1 0) rows s)
 

@@ -16,7 +16,7 @@ use Rattle.postscript_view.specs.declared.font.FontView.{FontView}
 use Rattle.postscript_write.specs.Arrangement.{text_of}
 use Rattle.postscript_write.specs.NewStrings.{names_text}
 use Rattle.postscript_write.specs.Numbered.{AreAll, AreCut, AreFew, AreGlyphsFor, AreStringsFor, IsCharSetFor, IsEncodingFor, IsSelectFor, items_if}
-use Rattle.postscript_write.specs.Own.{IsCut, IsOwn}
+use Rattle.postscript_write.specs.Own.{IsCutFrom, IsOwn}
 use Rattle.postscript_write.specs.Renumbered.{new_identifier}
 use Rattle.postscript_write.specs.Sizes.{bytes_in}
 use Rattle.postscript_write.specs.Texts.{number_text}
@@ -64,7 +64,7 @@ strings_little font (Some identifiers) strings are = by (is_some (look font.dict
     by false cut = cut_few font identifiers.items strings cut
 
 -- a part of the font's own has no more bytes than the font
-cut_within : (bytes cut : List ℕ) (from to : ℕ) → IsCut bytes from to cut → length cut ≤ length bytes
+cut_within : (bytes cut : List ℕ) (from to : ℕ) → IsCutFrom bytes from to cut → length cut ≤ length bytes
 cut_within bytes cut from to is =
     let order = is.order in
     let within = is.within in

@@ -18,7 +18,7 @@ use Rattle.postscript_view.specs.Value.{view_shown, part_shown, parts_shown}
 use Rattle.postscript_view.specs.declared.char_set.CharSetView.{CharSetView}
 use Rattle.postscript_view.specs.declared.font.FontView.{FontView}
 use Rattle.postscript_write.specs.Fonts.{IsMade}
-use Rattle.postscript_write.specs.Glyphs.{AreCodesOf, AreNumbersOf, HasPart, HasPartFor, IsCodeFor, Sources, run_in}
+use Rattle.postscript_write.specs.Glyphs.{AreCodesOf, AreNumbersOf, ShowsPart, ShowsPartFor, IsCodeFor, Sources, run_in}
 use Rattle.postscript_write.specs.Parts.{SameParts}
 use Rattle.postscript_write.specs.Refusals.{FontRefusedBy, IsRefusedBy}
 use Rattle.postscript_write.specs.RefusedGlyphs.{IsFaultless}
@@ -29,9 +29,9 @@ use Rattle.postscript_write.specs.declared.error.Error.TheVariants.{Refused, Gly
 
 pub made : (bytes flat : List ℕ) (old new : View) (source : Option ℕ) (i number : ℕ) (code : List ℕ) → SameParts old.parts new.parts →
     slice_get new.char_strings i ≡ Some code →
-    HasPartFor bytes old source number → IsCodeFor old source number code → HasPart flat new i number → IsMade bytes old source flat new i
+    ShowsPartFor bytes old source number → IsCodeFor old source number code → ShowsPart flat new i number → IsMade bytes old source flat new i
 made bytes flat old new None i number code parts there was is again =
-    record { code = there ∙ ap Some is; part = subst (HasPart flat new i) was again }
+    record { code = there ∙ ap Some is; part = subst (ShowsPart flat new i) was again }
 made bytes flat old new (Some glyph) i number code parts there was is again =
     let within : number < length new.parts = again.there in
     let new_part : PrivateDict = slice_index_or new.parts number is.part in

@@ -16,8 +16,8 @@ use Rattle.postscript_write.specs.Arrangement.{beginnings, dictionaries_place, p
 use Rattle.postscript_write.specs.ArrangedText.{dictionaries_text}
 use Rattle.postscript_write.specs.Dictionaries.{IsHeld}
 use Rattle.postscript_write.specs.Given.{GivesCharSet, GivesEncoding, GivesSelect}
-use Rattle.postscript_write.specs.Index.{Fits}
-use Rattle.postscript_write.specs.Texts.{Stands}
+use Rattle.postscript_write.specs.Index.{FitsIndex}
+use Rattle.postscript_write.specs.Texts.{TextStands}
 use Rattle.postscript_write.specs.Whole.{CharSetEnds, EncodingEnds, IndexEnds, KeyedEnds, OwnEnds, SelectEnds}
 use Rattle.postscript_write.specs.declared.dictionaries.Place.{Place}
 use Rattle.postscript_write.specs.declared.layout.Parts.{Parts}
@@ -103,7 +103,7 @@ of_char_set start parts =
 
 pub encoding_ends : (old new : Dictionary) (out : List ℕ) (encoding : Option (Vec ℕ Global)) (standard : Bool) (start : ℕ) →
     look new Encoding ≡ option_or (named_by (place_if Encoding encoding start ++ standard_place standard) Encoding) (look old Encoding) →
-    All IsHeld (place_if Encoding encoding start) → 2 ≤ start → Stands (text_of encoding) out start → GivesEncoding old encoding standard →
+    All IsHeld (place_if Encoding encoding start) → 2 ≤ start → TextStands (text_of encoding) out start → GivesEncoding old encoding standard →
     OwnEnds new Encoding 2 (EncodingEnds out) start (start + length (text_of encoding))
 encoding_ends old new out (Some text) true start is held past stands gives = absurd gives
 encoding_ends old new out (Some text) false start is held past stands gives =
@@ -115,7 +115,7 @@ encoding_ends old new out None false start is held past stands gives =
 
 pub select_ends : (new : Dictionary) (out : List ℕ) (select : Option (Vec ℕ Global)) (glyphs place : ℕ) (other : Option (List Decimal)) →
     look new FDSelect ≡ option_or (named_by (place_if FDSelect select place) FDSelect) other →
-    All IsHeld (place_if FDSelect select place) → (IsSome select → IsCidKeyed new) → (IsCidKeyed new → IsSome select) → Stands
+    All IsHeld (place_if FDSelect select place) → (IsSome select → IsCidKeyed new) → (IsCidKeyed new → IsSome select) → TextStands
     (text_of select) out place →
     GivesSelect glyphs select → KeyedEnds new FDSelect (SelectEnds out glyphs) place (place + length (text_of select))
 select_ends new out None glyphs place other is held keyed only stands gives =
@@ -130,7 +130,7 @@ select_ends new out (Some text) glyphs place other is held keyed only stands giv
 pub array_ends : (new : Dictionary) (out : List ℕ) (select : Option (Vec ℕ Global)) (dictionaries : List (List ℕ)) (place : ℕ)
     (named other : Option (List Decimal)) →
     look new FDArray ≡ option_or named other → (IsSome select → (named ≡ Some (whole (pos place) ∷ [])) × (place < 2 ^ 31)) →
-    (IsSome select → IsCidKeyed new) → (IsCidKeyed new → IsSome select) → (IsSome select → Fits dictionaries) → Stands
+    (IsSome select → IsCidKeyed new) → (IsCidKeyed new → IsSome select) → (IsSome select → FitsIndex dictionaries) → TextStands
     (dictionaries_text select dictionaries) out place →
     KeyedEnds new FDArray (IndexEnds out) place (place + length (dictionaries_text select dictionaries))
 array_ends new out None dictionaries place named other is names keyed only fits stands =
@@ -145,7 +145,7 @@ array_ends new out (Some text) dictionaries place named other is names keyed onl
 
 pub char_set_ends : (old new : Dictionary) (out : List ℕ) (char_set : Option (Vec ℕ Global)) (glyphs place : ℕ) →
     look new CharSet ≡ option_or (named_by (place_if CharSet char_set place) CharSet) (look old CharSet) →
-    All IsHeld (place_if CharSet char_set place) → 3 ≤ place → Stands
+    All IsHeld (place_if CharSet char_set place) → 3 ≤ place → TextStands
     (text_of char_set) out place → drop place out ≡ text_of char_set → GivesCharSet old glyphs char_set →
     OwnEnds new CharSet 3 (CharSetEnds out glyphs) place (place + length (text_of char_set))
 char_set_ends old new out None glyphs place is held past stands last gives =

@@ -22,13 +22,13 @@ use Rattle.postscript_write.specs.LaidOut.{IsLaidOutOf, SelectsExactly}
 use Rattle.postscript_write.specs.Room.{IsRead}
 use Rattle.postscript_write.specs.Naming.{SameName, SameNames}
 use Rattle.postscript_write.specs.NewStrings.{HasNew, names_text}
-use Rattle.postscript_write.specs.Numbered.{AreAll, AreCut as AreCutStrings, AreStringsFor, IsCharSetFor, items_if}
+use Rattle.postscript_write.specs.Numbered.{AreAll, AreCut, AreStringsFor, IsCharSetFor, items_if}
 use Rattle.postscript_write.specs.Own.{IsOwnCharSet}
 use Rattle.postscript_write.specs.Parts.{IsAmong, SameAt, naming}
-use Rattle.postscript_write.specs.ReadBack.{HasNames}
+use Rattle.postscript_write.specs.ReadBack.{HasNames, keeps_strings}
 use Rattle.postscript_write.specs.Renumbered.{new_identifier}
-use Rattle.postscript_write.specs.Strings.{AreNamedAs, IsNamedAs, IsNeeded, KeepsStrings, NamesSame, SameString, identifier_in, keeps_strings}
-use Rattle.postscript_write.specs.Written.{IsWritten, TablesStand}
+use Rattle.postscript_write.specs.Strings.{AreNamedAs, IsNamedAs, IsNeeded, KeepsStrings, NamesSame, SameString, identifier_in}
+use Rattle.postscript_write.specs.Written.{IsPutTogether, TablesStand}
 use Rattle.postscript_write.specs.declared.layout.Glyphs.{Glyphs}
 use Rattle.postscript_write.specs.declared.strings.Strings.{Strings}
 use Rattle.postscript_write.proofs.CharSetAgain.{AreListed, IsKept, IsListed, NameAlike, set_kept, set_listed}
@@ -113,7 +113,7 @@ all_naming : (P : Operator → Type 0) → ((operator : Operator) → IsAmong op
 all_naming P of k d less =
     of (get_or naming k d) (among naming (get_or naming k d) (k, less, get_or_default naming k (get_or naming k d) d less))
 
-module _ (font : FontView) (glyphs : Glyphs) (codes : List (List ℕ)) (out : List ℕ) (w : IsWritten font glyphs codes out)
+module _ (font : FontView) (glyphs : Glyphs) (codes : List (List ℕ)) (out : List ℕ) (w : IsPutTogether font glyphs codes out)
     (t : TablesStand font glyphs w.parts (length w.tables) out) (old : CharSetView) (sources : Sources)
     (is : IsCharSetOf old font.bytes.now font.dictionary (length (items_of font.char_strings))) where
   abbrev start : ℕ
@@ -207,7 +207,7 @@ module _ (font : FontView) (glyphs : Glyphs) (codes : List (List ℕ)) (out : Li
 
     -- identifiers are listed, and strings are cut to those that are named
     back_cut : (identifiers : List ℕ) → AreIdentified old sources identifiers → length codes ≡ length sources →
-        AreCutStrings font identifiers glyphs.strings → items_if glyphs.char_set ≡ Some (names_text glyphs.strings identifiers) →
+        AreCut font identifiers glyphs.strings → items_if glyphs.char_set ≡ Some (names_text glyphs.strings identifiers) →
         HasNames false sources (view_shown font) old out view
     back_cut identifiers of many cut own =
         let map = font.dictionary in
@@ -235,7 +235,7 @@ module _ (font : FontView) (glyphs : Glyphs) (codes : List (List ℕ)) (out : Li
               };
         }
       where
-        named_from : (identifiers : List ℕ) → AreIdentified old sources identifiers → AreCutStrings font identifiers glyphs.strings →
+        named_from : (identifiers : List ℕ) → AreIdentified old sources identifiers → AreCut font identifiers glyphs.strings →
             (identifier : ℕ) → (identifier ≡ 0) ⊎ ((k : ℕ) × (k < length identifiers) × (get_or identifiers k 0 ≡ identifier)) →
             (number : ℕ) → identifier ≡ 391 + number → number < length
             (items_of font.strings) → HasNew glyphs.strings.renumbered.items number
@@ -245,7 +245,7 @@ module _ (font : FontView) (glyphs : Glyphs) (codes : List (List ℕ)) (out : Li
             (texts glyphs.strings.texts.items) glyphs.strings cut.renumbered cut.named of.low one.0 one.1 number (one.2 ∙ at) within
 
         needed_by : (identifiers : List ℕ) → AreIdentified old sources identifiers → length codes ≡ length sources →
-            AreCutStrings font identifiers glyphs.strings → (set : CharSetView) → IsListed glyphs.strings identifiers set →
+            AreCut font identifiers glyphs.strings → (set : CharSetView) → IsListed glyphs.strings identifiers set →
             (number : ℕ) → number < length (texts glyphs.strings.texts.items) → IsNeeded view set number
         needed_by identifiers of many cut set names number less =
             elim (string_needed font.dictionary identifiers (items_of font.strings)
@@ -260,7 +260,7 @@ module _ (font : FontView) (glyphs : Glyphs) (codes : List (List ℕ)) (out : Li
             ]
 
 -- what is written has the names that it was to have
-pub names_back : (font : FontView) (glyphs : Glyphs) (codes : List (List ℕ)) (out : List ℕ) → IsWritten font glyphs codes out →
+pub names_back : (font : FontView) (glyphs : Glyphs) (codes : List (List ℕ)) (out : List ℕ) → IsPutTogether font glyphs codes out →
     IsRead font → SelectsExactly font glyphs → (kept : Bool) (sources : Sources) (identifiers : Option (Vec ℕ Global))
     (set : CharSetView) →
     IsCharSetOf set font.bytes.now font.dictionary
@@ -289,7 +289,7 @@ names_back font glyphs codes out w read exactly kept sources identifiers set is 
     by false None never strings own_set = absurd never
     by false (Some identifiers) of strings own_set = cases (is_some (look font.dictionary ROS)) strings
       where
-        cases : (b : Bool) → MatchBool b (AreAll font glyphs.strings) (AreCutStrings font identifiers.items glyphs.strings) →
+        cases : (b : Bool) → MatchBool b (AreAll font glyphs.strings) (AreCut font identifiers.items glyphs.strings) →
             HasNames b sources (view_shown font) set out own.view
         cases true all =
             back_listed font glyphs codes out w t set sources is own.view

@@ -23,14 +23,14 @@ use Rattle.postscript_write.specs.Arrangement.{beginnings, dictionaries_place, p
 use Rattle.postscript_write.specs.ArrangedText.{parts_text, tables_text}
 use Rattle.postscript_write.specs.Dictionaries.{IsHeld}
 use Rattle.postscript_write.specs.Given.{AreGiven}
-use Rattle.postscript_write.specs.Index.{Fits, index_text}
+use Rattle.postscript_write.specs.Index.{FitsIndex, index_text}
 use Rattle.postscript_write.specs.LaidOut.{SelectsExactly}
 use Rattle.postscript_write.specs.Privates.{place_of_private, private_offset, private_text, privates_text}
 use Rattle.postscript_write.specs.Renumbered.{all_renamed}
 use Rattle.postscript_write.specs.Room.{IsRead}
-use Rattle.postscript_write.specs.Texts.{Stands}
-use Rattle.postscript_write.specs.Whole.{CharSetEnds, HasNoByteBeside, IndexEnds, IsWhole, KeyedEnds, OwnEnds, PrivatesEnd, TablesEnd}
-use Rattle.postscript_write.specs.Written.{IsWritten, TablesStand}
+use Rattle.postscript_write.specs.Texts.{TextStands}
+use Rattle.postscript_write.specs.Whole.{CharSetEnds, HasNoByteBeside, IndexEnds, IsWholeFont, KeyedEnds, OwnEnds, PrivatesEnd, TablesEnd}
+use Rattle.postscript_write.specs.Written.{IsPutTogether, TablesStand}
 use Rattle.postscript_write.specs.declared.dictionaries.Place.{Place}
 use Rattle.postscript_write.specs.declared.layout.Glyphs.{Glyphs}
 use Rattle.postscript_write.specs.declared.layout.Private.{Private}
@@ -47,14 +47,14 @@ use Rattle.postscript_write.proofs.Rests.{none_fit}
 use Rattle.postscript_write.proofs.Standing.{stands_first, stands_second}
 
 tables_end : (out behind : List ℕ) (names strings : List (List ℕ)) (placed : List ℕ) → out ≡ tables_text names placed strings ++ behind →
-    Fits names → Fits (placed ∷ []) → Fits strings →
+    FitsIndex names → FitsIndex (placed ∷ []) → FitsIndex strings →
     TablesEnd out (length (tables_text names placed strings))
 tables_end out behind names strings placed is names_fit placed_fits strings_fit =
     let a : List ℕ = index_text names in
     let b : List ℕ = index_text (placed ∷ []) in
     let d : List ℕ = index_text strings in
     let e : List ℕ = index_text [] in
-    let whole : Stands (tables_text names placed strings) out 0 = record { within = omega arith; behind = behind; there = is } in
+    let whole : TextStands (tables_text names placed strings) out 0 = record { within = omega arith; behind = behind; there = is } in
     let first = stands_second (1 ∷ 0 ∷ 4 ∷ 4 ∷ []) (a ++ (b ++ (d ++ e))) whole in
     let second = stands_second a (b ++ (d ++ e)) first in
     let third = stands_second b (d ++ e) second in
@@ -72,7 +72,7 @@ tables_end out behind names strings placed is names_fit placed_fits strings_fit 
     })
 
 -- a text that stands last ends with the bytes
-pub last_there : (text out : List ℕ) (place : ℕ) (stands : Stands text out place) → place + length text ≡ length out → drop place out ≡ text
+pub last_there : (text out : List ℕ) (place : ℕ) (stands : TextStands text out place) → place + length text ≡ length out → drop place out ≡ text
 last_there text out place stands end =
     let long : length (drop place out) ≡ length text + length stands.behind = ap length stands.there ∙ length-append text stands.behind in
     let nothing : length stands.behind ≡ 0 = omega (arith, long, end, length-drop place out) in
@@ -90,7 +90,7 @@ array_named (Some select) privates m n held some =
     let one : IsHeld (place_at FDArray n) = held 0 (place_at FDArray n) (omega arith) in
     (refl, one.1.0)
 
-module _ (font : FontView) (glyphs : Glyphs) (codes : List (List ℕ)) (out : List ℕ) (w : IsWritten font glyphs codes out)
+module _ (font : FontView) (glyphs : Glyphs) (codes : List (List ℕ)) (out : List ℕ) (w : IsPutTogether font glyphs codes out)
     (t : TablesStand font glyphs w.parts (length w.tables) out) where
   pub keyed_is : SelectsExactly font glyphs →
       (IsSome w.parts.glyphs.now.select → IsCidKeyed t.new) × (IsCidKeyed t.new → IsSome w.parts.glyphs.now.select)
@@ -306,7 +306,7 @@ module _ (font : FontView) (glyphs : Glyphs) (codes : List (List ℕ)) (out : Li
           codes,
           subst (λ (xs : List ℕ). IsIndex out at.char_strings codes (at.char_strings + length xs)) (sym w.char_strings)
               (writes_indices codes out at.char_strings w.char_strings_fit
-              (subst (λ (xs : List ℕ). Stands xs out at.char_strings) w.char_strings w.stand.char_strings)),
+              (subst (λ (xs : List ℕ). TextStands xs out at.char_strings) w.char_strings w.stand.char_strings)),
         );
         of_privates = privates_end parts read exactly are;
         of_dictionaries = subst (λ n. KeyedEnds t.new FDArray (IndexEnds out) at.dictionaries (at.dictionaries + n)) (sym w.counted) array;
@@ -350,8 +350,8 @@ module _ (font : FontView) (glyphs : Glyphs) (codes : List (List ℕ)) (out : Li
       (subst (λ m. AreParts out m view.parts) (sym same) laid.parts)))
 
 -- what is written is whole
-pub whole_out : (font : FontView) (glyphs : Glyphs) (codes : List (List ℕ)) (out : List ℕ) → IsWritten font glyphs codes out →
-    IsRead font → SelectsExactly font glyphs → AreGiven font glyphs (length codes) → IsWhole out
+pub whole_out : (font : FontView) (glyphs : Glyphs) (codes : List (List ℕ)) (out : List ℕ) → IsPutTogether font glyphs codes out →
+    IsRead font → SelectsExactly font glyphs → AreGiven font glyphs (length codes) → IsWholeFont out
 whole_out font glyphs codes out w read exactly given =
     let laid = laid_out font glyphs codes out w read exactly in
     let t = w.tables_stand read.laid.tables in (

@@ -9,7 +9,7 @@ use Rattle.postscript_view.specs.declared.encoding.Codes.{Codes}
 use Rattle.postscript_view.specs.declared.encoding.Codes.TheVariants.{Predefined, Listed, Ranges}
 use Rattle.postscript_view.specs.declared.encoding.EncodingView.{EncodingView}
 use Rattle.postscript_write.specs.Naming.{SameCodes, SameEncoding}
-use Rattle.postscript_write.specs.Texts.{Stands}
+use Rattle.postscript_write.specs.Texts.{TextStands}
 use Rattle.postscript_write.specs.Whole.{CodesEnd, EncodingEnds, SupplementsEnd}
 use Rattle.postscript_write.proofs.Endings.{behind_codes, one_some}
 use Rattle.postscript_write.proofs.Standing.{stands_within}
@@ -65,12 +65,12 @@ one_encoding bytes map a b x y =
     let same = one_some y.1 x.1 in
     one_named bytes x.0 a b x.2 (subst (λ n. IsNamedBy b bytes n) same y.2)
 
-module _ (text bytes out : List ℕ) (place at : ℕ) (was : Stands text bytes place) (is : Stands text out at) where
+module _ (text bytes out : List ℕ) (place at : ℕ) (was : TextStands text bytes place) (is : TextStands text out at) where
   same_number : (k size m n : ℕ) → k + size ≤ length text → m ≡ at + k → n ≡ place + k → number_at out m size ≡ number_at bytes n size
   same_number k size m n within here there =
       number_there text out at k size m is within here ∙ sym (number_there text bytes place k size n was within there)
 
-  slice_there : (all : List ℕ) (start k size m : ℕ) → Stands text all start → k + size ≤ length text → m ≡ start + k →
+  slice_there : (all : List ℕ) (start k size m : ℕ) → TextStands text all start → k + size ≤ length text → m ≡ start + k →
       take size (drop m all) ≡ take size (drop k text)
   slice_there all start k size m stands within is =
       let behind : List ℕ = stands.behind in

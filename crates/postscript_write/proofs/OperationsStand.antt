@@ -15,7 +15,7 @@ use Rattle.postscript_base.specs.declared.compact1.operator.Operator.{Operator}
 use Rattle.postscript_base.proofs.DictionaryIs.{get_last}
 use Rattle.postscript_compact1.specs.IndexAt.{NumberAt}
 use Rattle.postscript_write.specs.Dictionaries.{integer_text, integers_text, operation_text, operands_of, escaped_text, AreHeld, IsCode, IsEscaped, WritesOperations}
-use Rattle.postscript_write.specs.Texts.{number_text, Stands}
+use Rattle.postscript_write.specs.Texts.{number_text, TextStands}
 use Rattle.postscript_write.proofs.Locality.{slice_is, operations_local}
 use Rattle.postscript_write.proofs.Standing.{stands_amid, stands_first, stands_second, number_stands, length-number_text}
 
@@ -27,13 +27,13 @@ unsigned_is size n bytes place h =
 two_sided_is : (n : ℕ) → n < 2 ^ 31 → two_sided 0x80000000 n ≡ pos n
 two_sided_is n h = let low : nat_lt n 0x80000000 ≡ true = grind (arith, nat_tests) in rw low refl
 
-integer_is : {bytes : List ℕ} {place : ℕ} (n : ℕ) → n < 2 ^ 31 → Stands (integer_text n) bytes place →
+integer_is : {bytes : List ℕ} {place : ℕ} (n : ℕ) → n < 2 ^ 31 → TextStands (integer_text n) bytes place →
     number bytes place ≡ Got (whole (pos n)) (place + 5)
 unfolding number
 integer_is {bytes = bytes} {place = place} n small s =
     let first = unsigned_is 1 0x1d bytes place
     (number_stands 1 0x1d (omega arith) (stands_first (number_text 1 0x1d) (number_text 4 n) s)) in
-    let there = subst (λ k. Stands (number_text 4 n) bytes (place + k)) (length-number_text 1 0x1d)
+    let there = subst (λ k. TextStands (number_text 4 n) bytes (place + k)) (length-number_text 1 0x1d)
     (stands_second (number_text 1 0x1d) (number_text 4 n) s) in
     let less : n < 2 ^ (8 * 4) = omega arith in
     let second = unsigned_is 4 n bytes (place + 1) (number_stands 4 n less there) in
@@ -48,20 +48,20 @@ length-integer n =
     let e = length-append (number_text 1 0x1d) (number_text 4 n) in let f = length-number_text 1 0x1d in let g = length-number_text 4 n in
     omega (arith, e, f, g)
 
-integers_are : {bytes : List ℕ} (place : ℕ) (ns : List ℕ) → AreHeld ns → Stands (integers_text ns) bytes place →
+integers_are : {bytes : List ℕ} (place : ℕ) (ns : List ℕ) → AreHeld ns → TextStands (integers_text ns) bytes place →
     OperandsAt bytes place (operands_of ns) (place + length (integers_text ns))
 integers_are place [] held s = omega arith
 integers_are {bytes = bytes} place (n ∷ ns) held s =
     let one = integer_is n held.0 (stands_first (integer_text n) (integers_text ns) s) in
     let five = length-integer n in
-    let there = subst (λ k. Stands (integers_text ns) bytes (place + k)) five (stands_second (integer_text n) (integers_text ns) s) in
+    let there = subst (λ k. TextStands (integers_text ns) bytes (place + k)) five (stands_second (integer_text n) (integers_text ns) s) in
     let rest = integers_are (place + 5) ns held.1 there in
     let long : length (integers_text (n ∷ ns)) ≡ 5 + length (integers_text ns) = length-append (integer_text n) (integers_text ns)
     ∙ ap (λ k. k + length (integers_text ns)) five in
     let on : place + 5 + length (integers_text ns) ≡ place + length (integers_text (n ∷ ns)) = omega (arith, long) in
     (place + 5, one, subst (λ k. OperandsAt bytes (place + 5) (operands_of ns) k) on rest)
 
-operator_is : {bytes : List ℕ} {place : ℕ} (code : ℕ) (q : Operator) → IsCode code q → Stands (number_text 1 code) bytes place →
+operator_is : {bytes : List ℕ} {place : ℕ} (code : ℕ) (q : Operator) → IsCode code q → TextStands (number_text 1 code) bytes place →
     operator bytes place ≡ Got q (place + 1)
 operator_is {bytes = bytes} {place = place} code q is s =
     let low : code < 2 ^ (8 * 1) = omega (arith, is.low) in
@@ -70,10 +70,10 @@ operator_is {bytes = bytes} {place = place} code q is s =
     ∙ rw (other, is.names) refl
 
 escaped_is : {bytes : List ℕ} {place : ℕ} (second : ℕ) (q : Operator) → IsEscaped second q →
-    Stands (number_text 1 0x0c ++ number_text 1 second) bytes place → operator bytes place ≡ Got q (place + 2)
+    TextStands (number_text 1 0x0c ++ number_text 1 second) bytes place → operator bytes place ≡ Got q (place + 2)
 escaped_is {bytes = bytes} {place = place} second q is s =
     let low : second < 2 ^ (8 * 1) = omega (arith, is.low) in
-    let there = subst (λ k. Stands (number_text 1 second) bytes (place + k)) (length-number_text 1 0x0c)
+    let there = subst (λ k. TextStands (number_text 1 second) bytes (place + k)) (length-number_text 1 0x0c)
     (stands_second (number_text 1 0x0c) (number_text 1 second) s) in
     let two : place + 1 + 1 ≡ place + 2 = omega arith in
     ap (λ o. after o (λ first next. operator_begun first bytes next))
@@ -106,7 +106,7 @@ append kept operations numbers code q are held is =
     let bytes : List ℕ = kept ++ text in
     let before = (operations_local kept [] text 0 (length kept) operations
     (subst (λ xs. OperationsAt xs 0 operations (length kept)) (sym (append-nil kept)) are) (omega arith)).1 in
-    let s : Stands text bytes (length kept) = subst (λ xs. Stands text (kept ++ xs) (length kept)) (append-nil text)
+    let s : TextStands text bytes (length kept) = subst (λ xs. TextStands text (kept ++ xs) (length kept)) (append-nil text)
     (stands_amid kept text []) in
     let operands = integers_are (length kept) numbers held (stands_first (integers_text numbers) (number_text 1 code) s) in
     let last = operator_is code q is (stands_second (integers_text numbers) (number_text 1 code) s) in
@@ -136,7 +136,7 @@ escaped kept operations numbers second q are held is =
     let bytes : List ℕ = kept ++ text in
     let before = (operations_local kept [] text 0 (length kept) operations
     (subst (λ xs. OperationsAt xs 0 operations (length kept)) (sym (append-nil kept)) are) (omega arith)).1 in
-    let s : Stands text bytes (length kept) = subst (λ xs. Stands text (kept ++ xs) (length kept)) (append-nil text)
+    let s : TextStands text bytes (length kept) = subst (λ xs. TextStands text (kept ++ xs) (length kept)) (append-nil text)
     (stands_amid kept text []) in
     let operands = integers_are (length kept) numbers held (stands_first (integers_text numbers) code s) in
     let last = escaped_is second q is (stands_second (integers_text numbers) code s) in

@@ -19,7 +19,7 @@ use Rattle.postscript_write.specs.Dictionaries.{IsHeld}
 use Rattle.postscript_write.specs.LeftOut.{IsLess}
 use Rattle.postscript_write.specs.Parts.{SameBut, SameFont, SamePart, SameParts}
 use Rattle.postscript_write.specs.Privates.{AreFontDictionaries, AreOwnPrivates, IsOwnPrivate, NoneIsNamed, place_of_private, private_offset, private_text}
-use Rattle.postscript_write.specs.Texts.{Stands}
+use Rattle.postscript_write.specs.Texts.{TextStands}
 use Rattle.postscript_write.specs.declared.layout.Private.{Private}
 use Rattle.postscript_write.proofs.PlacesNamed.{named_by, whole_is}
 use Rattle.postscript_write.proofs.Likeness.{same_advance, same_font_by}
@@ -32,14 +32,14 @@ record HasWritten (out : List ℕ) (new : Dictionary) (was : PrivateDict) : Type
   locals : HasLocals out new local []
   less : IsLess (Subrs ∷ []) was.dictionary local
 
-slice_there : (text out : List ℕ) (offset : ℕ) → Stands text out offset → IsSlice out (0 + offset) (length text) text
+slice_there : (text out : List ℕ) (offset : ℕ) → TextStands text out offset → IsSlice out (0 + offset) (length text) text
 slice_there text out offset stands =
     let same : 0 + offset ≡ offset = omega arith in
     subst (λ n. IsSlice out n (length text) text) (sym same) (λ some. stands_within text stands, sym (stands_slice text stands))
 
 has_written : (out : List ℕ) (old new : Dictionary) (private : Option Private) (offset : ℕ) (was : PrivateDict) →
     look new operators.Private ≡ option_or (named_by (place_of_private private offset) operators.Private)
-    (look old operators.Private) → All IsHeld (place_of_private private offset) → Stands
+    (look old operators.Private) → All IsHeld (place_of_private private offset) → TextStands
     (private_text private) out offset → IsOwnPrivate was private →
     (private ≡ None → first_two_of (look old operators.Private) ≡ None) → HasWritten out new was
 has_written out old new None offset was is held stands own none = record {
@@ -145,7 +145,7 @@ pub keyed_parts : (bytes out : List ℕ) (old new : Dictionary) (items texts : L
     (privates : List (Option Private)) (start : ℕ) → IsSome (look new operators.ROS) → NamesIndex out new operators.FDArray texts →
     ArePartsOf bytes items parts → length items ≡ length parts → AreFontDictionaries items privates start texts → AreOwnPrivates parts
     privates → NoneIsNamed old parts privates →
-    ((k : ℕ) → k < length privates → Stands (private_text (get_or privates k None)) out (private_offset start privates k)) → HasPartsLike
+    ((k : ℕ) → k < length privates → TextStands (private_text (get_or privates k None)) out (private_offset start privates k)) → HasPartsLike
     out new parts
 keyed_parts bytes out old new items texts parts privates start keyed names are long fonts own none stand =
     record {
@@ -188,7 +188,7 @@ keyed_parts bytes out old new items texts parts privates start keyed names are l
 pub plain_parts : (out : List ℕ) (old new : Dictionary) (part : PrivateDict) (private : Option Private) (start : ℕ) → part.font ≡ None →
     look new operators.ROS ≡ None →
     look new operators.Private ≡ option_or (named_by (place_of_private private start) operators.Private)
-    (look old operators.Private) → All IsHeld (place_of_private private start) → Stands
+    (look old operators.Private) → All IsHeld (place_of_private private start) → TextStands
     (private_text private) out start → IsOwnPrivate part private →
     (private ≡ None → first_two_of (look old operators.Private) ≡ None) → HasPartsLike out new (part ∷ [])
 plain_parts out old new part private start no_font plain is held stands own none =

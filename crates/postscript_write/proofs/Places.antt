@@ -6,7 +6,7 @@ use Rattle.std.proofs.lemmas.List.{append-nil, get_or_append_left, get_or_push, 
 use Rattle.std.proofs.lemmas.List.FromFn.{get_or-map-range_with_len, length-map-range_with_len}
 use Rattle.postscript_view.specs.Naming.{IsFirstNamed, Names}
 use Rattle.postscript_view.specs.declared.char_set.CharSetView.{CharSetView}
-use Rattle.postscript_write.specs.Drawings.{StandsAt}
+use Rattle.postscript_write.specs.Drawings.{IsSourceAt}
 use Rattle.postscript_write.specs.Glyphs.{Sources}
 use Rattle.postscript_write.specs.Sources.{chosen, every, is_kept, keeping, kept_or_none}
 use Rattle.postscript_write.proofs.Marks.{chosen_more}
@@ -20,28 +20,28 @@ nat_cases a b = by (nat_lt a b) refl
 
 -- Glyphs below so many, in ascending order, each of them one that is kept, and all that are kept.
 pub record Rises (named : List ℕ) (sources : Sources) (glyphs : ℕ) : Type 0 where
-  pub some : (i : ℕ) → i < length sources → (glyph : ℕ) × StandsAt sources i glyph
-  pub below : (i glyph : ℕ) → StandsAt sources i glyph → glyph < glyphs
-  pub rise : (i j a b : ℕ) → i < j → StandsAt sources i a → StandsAt sources j b → a < b
-  pub all : (glyph : ℕ) → is_kept named glyph ≡ true → glyph < glyphs → (i : ℕ) × StandsAt sources i glyph
-  pub own : (i glyph : ℕ) → StandsAt sources i glyph → is_kept named glyph ≡ true
+  pub some : (i : ℕ) → i < length sources → (glyph : ℕ) × IsSourceAt sources i glyph
+  pub below : (i glyph : ℕ) → IsSourceAt sources i glyph → glyph < glyphs
+  pub rise : (i j a b : ℕ) → i < j → IsSourceAt sources i a → IsSourceAt sources j b → a < b
+  pub all : (glyph : ℕ) → is_kept named glyph ≡ true → glyph < glyphs → (i : ℕ) × IsSourceAt sources i glyph
+  pub own : (i glyph : ℕ) → IsSourceAt sources i glyph → is_kept named glyph ≡ true
 
-stands-left : (s more : Sources) (i glyph : ℕ) → StandsAt s i glyph → StandsAt (s ++ more) i glyph
+stands-left : (s more : Sources) (i glyph : ℕ) → IsSourceAt s i glyph → IsSourceAt (s ++ more) i glyph
 stands-left s more i glyph h =
     record { there = let less = h.there in omega (arith, less, length-append s more); is = get_or_append_left s more None i h.there ∙ h.is }
 
 -- what stands in a list with one more: in the list, or at its end
-stands-cases : (s : Sources) (one i glyph : ℕ) → StandsAt (s ++ Some one ∷ []) i glyph →
-    StandsAt s i glyph ⊎ ((i ≡ length s) × (one ≡ glyph))
+stands-cases : (s : Sources) (one i glyph : ℕ) → IsSourceAt (s ++ Some one ∷ []) i glyph →
+    IsSourceAt s i glyph ⊎ ((i ≡ length s) × (one ≡ glyph))
 stands-cases s one i glyph h = by
   where
     last : i ≡ length s → one ≡ glyph
     last e = let both : Some one ≡ Some glyph = sym (get_or_push s (Some one) None i (sym e)) ∙ h.is in cc
 
-    before : i < length s → StandsAt s i glyph
+    before : i < length s → IsSourceAt s i glyph
     before less = record { there = less; is = sym (get_or_append_left s (Some one ∷ []) None i less) ∙ h.is }
 
-    by : StandsAt s i glyph ⊎ ((i ≡ length s) × (one ≡ glyph))
+    by : IsSourceAt s i glyph ⊎ ((i ≡ length s) × (one ≡ glyph))
     by = elim (nat_cases i (length s)) [
       | inl less ↦ inl (before less)
       | inr far ↦ (let there = h.there in let e : i ≡ length s = omega (arith, there, far, length-append s (Some one ∷ [])) in
@@ -68,7 +68,7 @@ kept-one named s n e r = record {
   all = λ glyph kept below. elim (nat_cases glyph n) [
     | inl less ↦ let at = r.all glyph kept less in (at.0, stands-left s (Some n ∷ []) at.0 glyph at.1)
     | inr far ↦ (let same : n ≡ glyph = omega (arith, below, far) in
-        (length s, subst (λ g. StandsAt (s ++ Some n ∷ []) (length s) g) same (here (length s) refl)))
+        (length s, subst (λ g. IsSourceAt (s ++ Some n ∷ []) (length s) g) same (here (length s) refl)))
   ];
   own = λ i glyph h. elim (stands-cases s n i glyph h) [
     | inl old ↦ r.own i glyph old
@@ -76,7 +76,7 @@ kept-one named s n e r = record {
   ];
 }
   where
-    here : (i : ℕ) → i ≡ length s → StandsAt (s ++ Some n ∷ []) i n
+    here : (i : ℕ) → i ≡ length s → IsSourceAt (s ++ Some n ∷ []) i n
     here i e = record { there = omega (arith, e, length-append s (Some n ∷ [])); is = get_or_push s (Some n) None i (sym e) }
 
 left-out : (named : List ℕ) (s : Sources) (n : ℕ) → is_kept named n ≡ false → Rises named s n → Rises named s (n + 1)
@@ -163,8 +163,8 @@ first-back kept old_set new_set identifier n m origin i t closed first = record 
 pub record Placed (kept : ℕ → Type 0) (sources : Sources) (n : ℕ) (origin : ℕ → ℕ) : Type 0 where
   pub rise : (i j : ℕ) → i < j → j < length sources → origin i < origin j
   pub below : (i : ℕ) → i < length sources → origin i < n
-  pub all : (glyph : ℕ) → kept glyph → glyph < n → (i : ℕ) × StandsAt sources i glyph × (origin i ≡ glyph)
-  pub own : (i glyph : ℕ) → StandsAt sources i glyph → kept glyph
+  pub all : (glyph : ℕ) → kept glyph → glyph < n → (i : ℕ) × IsSourceAt sources i glyph × (origin i ≡ glyph)
+  pub own : (i glyph : ℕ) → IsSourceAt sources i glyph → kept glyph
 
 pub one-place : (kept : ℕ → Type 0) (sources : Sources) (n i j : ℕ) (origin : ℕ → ℕ) → Placed kept sources n origin → i < length sources →
     j < length sources → origin i ≡ origin j → i ≡ j

@@ -1,7 +1,9 @@
 -- What is written is the font that it was to be.
 use Rattle.std.proofs.Common.{◌≡◌, sym, ap, subst, ◌∙◌, ℕ, List, [], length, slice_get, slice_index_or, Bool, true, false, None, arith}
 use Rattle.std.proofs.lemmas.Option.{slice_get-get_or}
-use Rattle.std.specs.Prelude.{IsTrue}
+use Rattle.std.specs.Option.{is_some}
+use Rattle.postscript_base.specs.Compact1.Defaults.{look}
+use Rattle.postscript_base.specs.declared.compact1.operator.Operator.TheVariants.{ROS}
 use Rattle.postscript_base.specs.Tape.Outcome.{Got}
 use Rattle.postscript_view.specs.CharSets.{IsCharSetOf}
 use Rattle.postscript_view.specs.Contents.{View}
@@ -12,12 +14,13 @@ use Rattle.postscript_view.specs.declared.char_set.CharSetView.{CharSetView}
 use Rattle.postscript_view.specs.declared.encoding.EncodingView.{EncodingView}
 use Rattle.postscript_view.specs.declared.font.FontView.{FontView}
 use Rattle.postscript_view.proofs.LayoutLaws.{reads_layout}
-use Rattle.postscript_write.specs.Fonts.{IsFontOf}
+use Rattle.postscript_write.specs.Fonts.{HasGlyphsOf}
 use Rattle.postscript_write.specs.Glyphs.{AreCodesOf, AreNumbersOf, Sources}
+use Rattle.postscript_write.specs.Making.{IsFontBy}
 use Rattle.postscript_write.specs.Naming.{GivesWay, KeepsCodes, SameName, SameNames}
 use Rattle.postscript_write.specs.ReadBack.{AreStrings, HasCodes, IsReadAs}
 use Rattle.postscript_write.specs.Sizes.{IsLarge, IsSmall}
-use Rattle.postscript_write.specs.Strings.{SameStrings, keeps_strings}
+use Rattle.postscript_write.specs.Strings.{SameStrings}
 use Rattle.postscript_write.proofs.Encoded.{keeps_code}
 use Rattle.postscript_write.proofs.Making.{made}
 use Rattle.postscript_write.proofs.Renamed.{texts_of}
@@ -62,14 +65,10 @@ module _ (sources : Sources) (bytes : List ℕ) (old : View) (old_set : CharSetV
   way_as : HasCodes false encoding flat new.tables.dictionary → GivesWay bytes old flat new
   way_as has = record { old_encoding = encoding; new_encoding = has.encoding; was = was; is = has.is; codes = has.same has.encoding has.is }
 
-  pub font_as : (kept : Bool) → IsCharSetOf old_set bytes old.tables.dictionary (length old.char_strings) →
-      AreNumbersOf bytes old sources numbers → AreCodesOf old sources numbers codes →
-      IsReadAs kept sources old old_set encoding numbers codes flat new → IsFontOf kept sources bytes old flat new
-  font_as kept has_set numbers_are codes_are is =
+  glyphs_as : (kept : Bool) → AreNumbersOf bytes old sources numbers → AreCodesOf old sources numbers codes →
+      IsReadAs kept sources old old_set encoding numbers codes flat new → HasGlyphsOf sources bytes old flat new
+  glyphs_as kept numbers_are codes_are is =
       let written = is.written in
-      let names = is.names in
-      let set = names.set in
-      let strings = names.same set names.is in
       record {
         header = written.header;
         repeats = written.repeats;
@@ -83,22 +82,25 @@ module _ (sources : Sources) (bytes : List ℕ) (old : View) (old_set : CharSetV
             ∙ slice_get-get_or codes i [] (omega (arith, less, many)) in
             made bytes flat old new (slice_index_or sources i None) i (slice_index_or numbers i 0) code written.repeats.parts there
             (numbers_are.each i less) (codes_are.each i less) (written.parts i (omega (arith, less, numbered)));
-        naming = record {
-          old_set = old_set;
-          new_set = set;
-          was = has_set;
-          is = names.is;
-          strings = strings_as (keeps_strings kept old.tables.dictionary) sources old old_set new set strings;
-        };
-        codes = keeps kept set strings is.same_codes;
-        encoding = gives kept is.same_codes;
       }
-    where
-      keeps : (kept : Bool) (set : CharSetView) → AreStrings (keeps_strings kept old.tables.dictionary) sources old old_set new set →
-          HasCodes kept encoding flat new.tables.dictionary → IsTrue kept → KeepsCodes sources bytes old flat new old_set set
-      keeps true set strings has is = codes_as set strings.glyphs has
-      keeps false set strings has is = absurd (cc)
 
-      gives : (kept : Bool) → HasCodes kept encoding flat new.tables.dictionary → kept ≡ false → GivesWay bytes old flat new
-      gives true has is = absurd (cc)
-      gives false has is = way_as has
+  pub font_as : (kept : Bool) → IsCharSetOf old_set bytes old.tables.dictionary (length old.char_strings) →
+      AreNumbersOf bytes old sources numbers → AreCodesOf old sources numbers codes →
+      IsReadAs kept sources old old_set encoding numbers codes flat new → IsFontBy kept sources bytes old flat new
+  font_as true has_set numbers_are codes_are is =
+      let names = is.names in
+      let strings = names.same names.set names.is in
+      record {
+        made = glyphs_as true numbers_are codes_are is;
+        sets = record { old_set = old_set; new_set = names.set; was = has_set; is = names.is };
+        strings = strings;
+        codes = codes_as names.set strings.glyphs is.same_codes;
+      }
+  font_as false has_set numbers_are codes_are is =
+      let names = is.names in
+      record {
+        made = glyphs_as false numbers_are codes_are is;
+        sets = record { old_set = old_set; new_set = names.set; was = has_set; is = names.is };
+        strings = strings_as (is_some (look old.tables.dictionary ROS)) sources old old_set new names.set (names.same names.set names.is);
+        encoding = way_as is.same_codes;
+      }

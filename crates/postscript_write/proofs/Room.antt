@@ -11,7 +11,7 @@ use Rattle.postscript_base.specs.declared.compact1.operator.Operator.TheVariants
 use Rattle.postscript_write.specs.Arrangement.{beginnings, dictionaries_place, only_place, place_at, place_if, places_of, standard_place, text_of}
 use Rattle.postscript_write.specs.Dictionaries.{IsHeld, IsWritable}
 use Rattle.postscript_write.specs.DictionarySizes.{operator_size, place_size, places_size}
-use Rattle.postscript_write.specs.Index.{Fits, index_text, offset_behind, size_of}
+use Rattle.postscript_write.specs.Index.{FitsIndex, index_text, offset_behind, size_of}
 use Rattle.postscript_write.specs.Parts.{naming}
 use Rattle.postscript_write.specs.Privates.{AreSized, place_of_private, private_text, privates_text}
 use Rattle.postscript_write.specs.Renumbered.{all_renamed, new_identifier, renamed, renamed_if}
@@ -24,10 +24,10 @@ use Rattle.postscript_write.proofs.IndexStands.{behind_is, length-index_text}
 use Rattle.postscript_write.proofs.Without.{sized_within}
 
 -- items that are few enough, and have few enough bytes
-pub they_fit : (items : List (List ℕ)) → length items < 2 ^ 16 → length (concat items) < 2 ^ 31 → Fits items
+pub they_fit : (items : List (List ℕ)) → length items < 2 ^ 16 → length (concat items) < 2 ^ 31 → FitsIndex items
 they_fit items many few = record { counted = many; offsets = omega (arith, behind_is 1 items) }
 
-pub single_fits : (item : List ℕ) → length item < 2 ^ 31 → Fits (item ∷ [])
+pub single_fits : (item : List ℕ) → length item < 2 ^ 31 → FitsIndex (item ∷ [])
 single_fits item few = they_fit (item ∷ []) (omega arith) (omega (arith, length-append item []))
 
 least_four : (n : ℕ) → size_of n ≤ 4

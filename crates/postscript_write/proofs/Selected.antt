@@ -5,7 +5,7 @@ use Rattle.std.proofs.lemmas.Bool.{cases_lt}
 use Rattle.postscript_base.specs.Index.{number_at}
 use Rattle.postscript_view.specs.Select.{first_glyph}
 use Rattle.postscript_write.specs.Selected.{AreFirsts, AreLow, SelectsAll, listed_text, range_text, ranges_text}
-use Rattle.postscript_write.specs.Texts.{number_text, Stands}
+use Rattle.postscript_write.specs.Texts.{number_text, TextStands}
 use Rattle.postscript_write.proofs.Firsts.{past}
 use Rattle.postscript_write.proofs.Rows.{behind_number, number_read, row_stands, rows_length}
 use Rattle.postscript_write.proofs.Standing.{length-number_text, stands_first, stands_second, stands_within}
@@ -79,17 +79,17 @@ record AreRanges (numbers firsts bytes : List ℕ) (place : ℕ) : Type 0 where
 
 are_ranges : (numbers firsts bytes : List ℕ) (place : ℕ) → AreFirsts numbers firsts (length numbers) → AreLow numbers →
     length numbers < 2 ^ 16 →
-    Stands (ranges_text numbers firsts) bytes place → AreRanges numbers firsts bytes place
+    TextStands (ranges_text numbers firsts) bytes place → AreRanges numbers firsts bytes place
 are_ranges numbers firsts bytes place are low few s =
     let rows : List ℕ = flat_map (range_text numbers) firsts in
     let end : List ℕ = number_text 2 (length numbers) in
     let most = are.few in
     let first_part = number_text 2 (length firsts) ++ (rows ++ end) in
-    let s1 : Stands first_part bytes (place + 1) = behind_number 1 3 first_part s in
-    let s2 : Stands (rows ++ end) bytes (place + 1 + 2) = behind_number 2 (length firsts) (rows ++ end) s1 in
+    let s1 : TextStands first_part bytes (place + 1) = behind_number 1 3 first_part s in
+    let s2 : TextStands (rows ++ end) bytes (place + 1 + 2) = behind_number 2 (length firsts) (rows ++ end) s1 in
     let three : place + 1 + 2 ≡ place + 3 = omega arith in
-    let s3 : Stands (rows ++ end) bytes (place + 3) = subst (λ n. Stands (rows ++ end) bytes n) three s2 in
-    let row : (r : ℕ) → r < length firsts → Stands (range_text numbers (get_or firsts r (length numbers))) bytes
+    let s3 : TextStands (rows ++ end) bytes (place + 3) = subst (λ n. TextStands (rows ++ end) bytes n) three s2 in
+    let row : (r : ℕ) → r < length firsts → TextStands (range_text numbers (get_or firsts r (length numbers))) bytes
     (place + 3 + r * 3) = λ r less.
     row_stands (range_text numbers) 3 (range_long numbers) firsts (place + 3) r (length numbers) less (stands_first rows end s3) in
     record {
@@ -105,7 +105,7 @@ are_ranges numbers firsts bytes place are low few s =
             (let behind = stands_second rows end s3 in
             let there : place + 3 + length rows ≡ place + 3 + r * 3 = omega
             (arith, rows_length (range_text numbers) 3 (range_long numbers) firsts, least, last) in
-            number_read 2 (length numbers) (omega (arith, few)) (subst (λ n. Stands end bytes n) there behind)
+            number_read 2 (length numbers) (omega (arith, few)) (subst (λ n. TextStands end bytes n) there behind)
             ∙ sym (past firsts r (length numbers) last))
       ];
       number = λ r less.

@@ -12,8 +12,8 @@ use Rattle.postscript_write.specs.Arrangement.{beginnings, dictionaries_place, p
 use Rattle.postscript_write.specs.Dictionaries.{IsHeld}
 use Rattle.postscript_write.specs.LaidOut.{SelectsExactly}
 use Rattle.postscript_write.specs.ReadBack.{HasCharSetText}
-use Rattle.postscript_write.specs.Texts.{Stands}
-use Rattle.postscript_write.specs.Written.{IsWritten, TablesStand}
+use Rattle.postscript_write.specs.Texts.{TextStands}
+use Rattle.postscript_write.specs.Written.{IsPutTogether, TablesStand}
 use Rattle.postscript_write.specs.declared.layout.Glyphs.{Glyphs}
 use Rattle.postscript_write.specs.declared.layout.Private.{Private as OwnPrivate}
 use Rattle.postscript_write.proofs.LaidOut.{ros_is}
@@ -24,7 +24,7 @@ use Rattle.postscript_write.proofs.PlacesNamed.{named_by, of_dictionaries, priva
 set_stands : (old new : Dictionary) (out : List ℕ) (text : Option (Vec ℕ Global)) (place : ℕ) →
     look new CharSet ≡ option_or (named_by (place_if CharSet text place) CharSet) (look old CharSet) → All IsHeld
     (place_if CharSet text place) →
-    3 ≤ place → Stands (text_of text) out place → HasCharSetText old text out new
+    3 ≤ place → TextStands (text_of text) out place → HasCharSetText old text out new
 set_stands old new out None place is held late stands = is
 set_stands old new out (Some text) place is held late stands =
     let low = place_held CharSet place held in
@@ -36,7 +36,7 @@ none_private : (select : Option (Vec ℕ Global)) (privates : List (Option OwnPr
 none_private None privates m n some = absurd (cc)
 none_private (Some select) privates m n some = refl
 
-module _ (font : FontView) (glyphs : Glyphs) (codes : List (List ℕ)) (out : List ℕ) (w : IsWritten font glyphs codes out)
+module _ (font : FontView) (glyphs : Glyphs) (codes : List (List ℕ)) (out : List ℕ) (w : IsPutTogether font glyphs codes out)
     (t : TablesStand font glyphs w.parts (length w.tables) out) where
   pub set_there : HasCharSetText font.dictionary glyphs.char_set out t.new
   set_there =

@@ -19,7 +19,7 @@ use Rattle.postscript_view.proofs.Covering.{covered_none}
 use Rattle.postscript_view.proofs.Wider.{got_if}
 use Rattle.postscript_write.specs.NewStrings.{names_text}
 use Rattle.postscript_write.specs.Renumbered.{new_identifier}
-use Rattle.postscript_write.specs.Texts.{number_text, Stands}
+use Rattle.postscript_write.specs.Texts.{number_text, TextStands}
 use Rattle.postscript_write.specs.Whole.{CharSetEnds, RangesEnd}
 use Rattle.postscript_write.specs.declared.strings.Strings.{Strings}
 use Rattle.postscript_write.proofs.Locality.{slice_is}
@@ -70,7 +70,7 @@ strict_listed out to glyphs format some within =
     } in
     (Format0 set, all.1, stands)
 
-pub strict_names : (strings : Strings) (identifiers out : List ℕ) (to glyphs : ℕ) → Stands (names_text strings identifiers) out to →
+pub strict_names : (strings : Strings) (identifiers out : List ℕ) (to glyphs : ℕ) → TextStands (names_text strings identifiers) out to →
     glyphs ≡ 1 + length identifiers → (set : CharSet) × (next : ℕ) × IsCharSet out to glyphs set next
 strict_names strings identifiers out to glyphs stands many = strict_listed out to glyphs format (omega (arith, many)) within
   where
@@ -179,7 +179,7 @@ module _ {A : Type 0} (make : ℕ → ℕ → A) (size : ℕ) (some : 0 < size) 
       by (inr long) = omega (arith, long, length-drop place bytes, ranges_within make size some bytes place ranges next within h)
 
 -- a text stands in two lists of bytes
-module _ (text a b : List ℕ) (p q : ℕ) (sa : Stands text a p) (sb : Stands text b q) where
+module _ (text a b : List ℕ) (p q : ℕ) (sa : TextStands text a p) (sb : TextStands text b q) where
   room : q + length text ≤ length b
   room = stands_within text sb
 
@@ -302,8 +302,8 @@ module _ (text a b : List ℕ) (p q : ℕ) (sa : Stands text a p) (sb : Stands t
           all : (behind : ℕ) × StandAt (range make size) b (q + 1) set.ranges behind
           all = all_go (range make size) (2 + size) (range_goes make size some) 1 set.ranges next stand long
 
-pub strict_moved : (bytes out text : List ℕ) (place to glyphs next : ℕ) (set : CharSet) → Stands text bytes place →
-    CharSetEnds bytes glyphs place (place + length text) → Stands text out to → IsCharSet bytes place glyphs set next →
+pub strict_moved : (bytes out text : List ℕ) (place to glyphs next : ℕ) (set : CharSet) → TextStands text bytes place →
+    CharSetEnds bytes glyphs place (place + length text) → TextStands text out to → IsCharSet bytes place glyphs set next →
     (behind : ℕ) × IsCharSet out to glyphs set behind
 strict_moved bytes out text place to glyphs next ISOAdobe from ends there is = absurd is
 strict_moved bytes out text place to glyphs next Expert from ends there is = absurd is

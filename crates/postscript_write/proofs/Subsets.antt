@@ -1,6 +1,6 @@
 -- Fonts that are made of glyphs that are named and of their components.
 use Rattle.std.proofs.Common.{◌≡◌, sym, subst, ◌∙◌, inl, inr, ℕ, ◌<◌, List, length, get_or, arith, true}
-use Rattle.std.specs.Prelude.{◌↔◌, Bool, Result, Ok, Err, IfOk, IfErr, Vec}
+use Rattle.std.specs.Prelude.{◌↔◌, Result, Ok, Err, IfOk, IfErr, Vec}
 use Rattle.std.specs.declared.alloc.Global.{Global}
 use Rattle.postscript_view.specs.CharSets.{IsCharSetOf}
 use Rattle.postscript_view.specs.Layout.{IsLaidOut}
@@ -9,8 +9,8 @@ use Rattle.postscript_view.specs.Value.{view_shown}
 use Rattle.postscript_view.specs.declared.font.FontView.{FontView}
 use Rattle.postscript_drawing.specs.Components.{glyphs_of}
 use Rattle.postscript_write.specs.Components.{AreClosed, AreKept, IsOpened, IsReached, IsSubset}
-use Rattle.postscript_write.specs.Fonts.{IsFontOf}
 use Rattle.postscript_write.specs.Glyphs.{Sources}
+use Rattle.postscript_write.specs.Making.{Making}
 use Rattle.postscript_write.specs.Refusals.{FontRefusedBy, IsChoiceRefusedBy, IsFirstPast, IsRefusedBy, IsSubsetRefusedBy}
 use Rattle.postscript_write.specs.Sources.{AreThere, is_kept, kept_of}
 use Rattle.postscript_write.specs.Steps.{IsNotChosen, IsNotClosed, IsNotOpened}
@@ -25,12 +25,12 @@ pub closed-so : (bytes named closed : List ℕ) (font : FontView) → IsOpened b
     ((glyph : ℕ) → (is_kept closed glyph ≡ true) ↔ IsReached font named glyph) → AreClosed bytes named closed
 closed-so bytes named closed font opened all = record { font = font; opened = opened; all = all }
 
-pub subset-made : (r : Result (Vec ℕ Global) Error) (kept : Bool) (choice : Choice) (font : FontView) (bytes named closed : List ℕ)
+pub subset-made : (r : Result (Vec ℕ Global) Error) (IsMade : Making) (choice : Choice) (font : FontView) (bytes named closed : List ℕ)
     (sources : Sources) → IsOpened bytes font → AreClosed bytes named closed →
     sources ≡ choice closed (length (view_shown font).char_strings) →
-    IfOk r (λ flat. (new : View) × IsLaidOut flat.items 0 new × IsFontOf kept sources font.bytes.now
-    (view_shown font) flat.items new) → IfOk r (λ flat. IsSubset kept choice named bytes flat.items)
-subset-made (Ok flat) kept choice font bytes named closed sources opened are same made = record {
+    IfOk r (λ flat. (new : View) × IsLaidOut flat.items 0 new × IsMade sources font.bytes.now
+    (view_shown font) flat.items new) → IfOk r (λ flat. IsSubset IsMade choice named bytes flat.items)
+subset-made (Ok flat) IsMade choice font bytes named closed sources opened are same made = record {
   closed = closed;
   are = are;
   written = record {
@@ -38,11 +38,11 @@ subset-made (Ok flat) kept choice font bytes named closed sources opened are sam
     new = made.0;
     was = opened.laid;
     is = made.1;
-    made = subst (λ (s : Sources). IsFontOf kept s bytes (view_shown font) flat.items made.0) same
-        (subst (λ (bs : List ℕ). IsFontOf kept sources bs (view_shown font) flat.items made.0) opened.there made.2);
+    made = subst (λ (s : Sources). IsMade s bytes (view_shown font) flat.items made.0) same
+        (subst (λ (bs : List ℕ). IsMade sources bs (view_shown font) flat.items made.0) opened.there made.2);
   };
 }
-subset-made (Err e) kept choice font bytes named closed sources opened are same made = tt
+subset-made (Err e) IsMade choice font bytes named closed sources opened are same made = tt
 
 -- a refusal that says something of the font that glyphs are taken from
 of-closed : (named closed : List ℕ) (choice : Choice) (bytes : List ℕ) (e : Error) → AreClosed bytes named closed →

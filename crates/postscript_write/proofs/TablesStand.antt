@@ -8,8 +8,8 @@ use Rattle.postscript_base.specs.Index.{IsIndex, IsOpened}
 use Rattle.postscript_view.specs.Layout.{AreTables, IsIndexAt}
 use Rattle.postscript_write.specs.ArrangedText.{dictionaries_text, tables_text}
 use Rattle.postscript_write.specs.Fonts.{HasHeader}
-use Rattle.postscript_write.specs.Index.{Fits, index_text}
-use Rattle.postscript_write.specs.Texts.{Stands}
+use Rattle.postscript_write.specs.Index.{FitsIndex, index_text}
+use Rattle.postscript_write.specs.Texts.{TextStands}
 use Rattle.postscript_write.proofs.IndexStands.{writes_indices}
 use Rattle.postscript_write.proofs.Rests.{none_fit}
 use Rattle.postscript_write.proofs.Standing.{stands_first, stands_second}
@@ -19,19 +19,19 @@ pub is_opened : (bytes : List ℕ) (place : ℕ) (items : List (List ℕ)) (next
 is_opened bytes place items next (inl empty) = inl empty
 is_opened bytes place items next (inr filled) = inr (record { laid = filled.laid; slices = filled.slices })
 
-opened_there : (items : List (List ℕ)) (bytes : List ℕ) (place : ℕ) → Fits items → Stands (index_text items) bytes place →
+opened_there : (items : List (List ℕ)) (bytes : List ℕ) (place : ℕ) → FitsIndex items → TextStands (index_text items) bytes place →
     IsOpened bytes place items (place + length (index_text items))
 opened_there items bytes place fits stands =
     is_opened bytes place items (place + length (index_text items)) (writes_indices items bytes place fits stands)
 
-pub index_there : (items : List (List ℕ)) (bytes : List ℕ) (place : ℕ) → length bytes < 2 ^ 64 → Fits items →
-    Stands (index_text items) bytes place → IsIndexAt bytes place items
+pub index_there : (items : List (List ℕ)) (bytes : List ℕ) (place : ℕ) → length bytes < 2 ^ 64 → FitsIndex items →
+    TextStands (index_text items) bytes place → IsIndexAt bytes place items
 index_there items bytes place small fits stands =
     let within = stands.within in
     (place + length (index_text items), omega (arith, within, small), opened_there items bytes place fits stands)
 
 pub dictionaries_there : (select : Option (Vec ℕ Global)) (dictionaries : List (List ℕ)) (bytes : List ℕ) (place : ℕ) →
-    length bytes < 2 ^ 64 → (IsSome select → Fits dictionaries) → Stands (dictionaries_text select dictionaries) bytes place →
+    length bytes < 2 ^ 64 → (IsSome select → FitsIndex dictionaries) → TextStands (dictionaries_text select dictionaries) bytes place →
     IsSome select →
     IsIndexAt bytes place dictionaries
 dictionaries_there (Some s) dictionaries bytes place small fits stands some = index_there dictionaries bytes place small (fits some) stands
@@ -42,14 +42,14 @@ pub header_is : (out behind : List ℕ) (names strings : List (List ℕ)) (place
 header_is out behind names strings placed is = subst HasHeader (sym is) refl
 
 pub tables_are : (out behind : List ℕ) (names strings : List (List ℕ)) (placed : List ℕ) (new : Dictionary) →
-    out ≡ tables_text names placed strings ++ behind → Fits names → Fits (placed ∷ []) → Fits strings → IsDictionary placed 0 new →
+    out ≡ tables_text names placed strings ++ behind → FitsIndex names → FitsIndex (placed ∷ []) → FitsIndex strings → IsDictionary placed 0 new →
     AreTables out 4 0 (record { names = names; dictionary = new; strings = strings; subroutines = [] })
 tables_are out behind names strings placed new is names_fit placed_fits strings_fit dictionary =
     let a : List ℕ = index_text names in
     let b : List ℕ = index_text (placed ∷ []) in
     let d : List ℕ = index_text strings in
     let e : List ℕ = index_text [] in
-    let whole : Stands (tables_text names placed strings) out 0 = record { within = omega arith; behind = behind; there = is } in
+    let whole : TextStands (tables_text names placed strings) out 0 = record { within = omega arith; behind = behind; there = is } in
     let first = stands_second (1 ∷ 0 ∷ 4 ∷ 4 ∷ []) (a ++ (b ++ (d ++ e))) whole in
     let second = stands_second a (b ++ (d ++ e)) first in
     let third = stands_second b (d ++ e) second in

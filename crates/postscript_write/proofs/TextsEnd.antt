@@ -3,12 +3,12 @@ use Rattle.std.proofs.Common.{◌≡◌, refl, sym, ap, subst, ◌∙◌, inl, i
 use Rattle.std.proofs.lemmas.List.{drop-append-le, drop-drop, take-append-le}
 use Rattle.postscript_base.specs.Index.{number_at}
 use Rattle.postscript_base.specs.Numbers.{big_endian}
-use Rattle.postscript_write.specs.Texts.{Stands}
+use Rattle.postscript_write.specs.Texts.{TextStands}
 use Rattle.postscript_write.specs.Whole.{CharSetEnds, CodesEnd, EncodingEnds, RangesEnd, SelectEnds, SupplementsEnd}
 use Rattle.postscript_write.proofs.Endings.{behind_codes}
 
 -- a number of a text is read where the text stands
-pub number_there : (text out : List ℕ) (place k size at : ℕ) → Stands text out place → k + size ≤ length text → at ≡ place + k →
+pub number_there : (text out : List ℕ) (place k size at : ℕ) → TextStands text out place → k + size ≤ length text → at ≡ place + k →
     number_at out at size ≡ number_at text k size
 unfolding number_at
 number_there text out place k size at stands within is =
@@ -19,7 +19,7 @@ number_there text out place k size at stands within is =
     let enough : size ≤ length (drop k text) = omega (arith, within, length-drop k text) in
     ap (λ (xs : List ℕ). big_endian (take size xs)) past ∙ ap big_endian (take-append-le size (drop k text) behind enough)
 
-codes_there : (text out : List ℕ) (place codes : ℕ) → Stands text out place → codes ≤ length text → CodesEnd text 0 codes →
+codes_there : (text out : List ℕ) (place codes : ℕ) → TextStands text out place → codes ≤ length text → CodesEnd text 0 codes →
     CodesEnd out place (place + codes)
 codes_there text out place codes stands within (inl (format, is)) =
     let first = number_there text out place 0 1 place stands (omega (arith, within, is)) (omega arith) in
@@ -30,7 +30,7 @@ codes_there text out place codes stands within (inr (format, is)) =
     let second = number_there text out place 1 1 (place + 1) stands (omega (arith, within, is)) refl in
     inr (ap (λ n. n % 128) first ∙ format, omega (arith, is, second))
 
-supplements_there : (text out : List ℕ) (place format codes : ℕ) → Stands text out place → SupplementsEnd text format codes (length text) →
+supplements_there : (text out : List ℕ) (place format codes : ℕ) → TextStands text out place → SupplementsEnd text format codes (length text) →
     SupplementsEnd out format (place + codes) (place + length text)
 supplements_there text out place format codes stands (inl (low, is)) = inl (low, ap (λ n. place + n) is)
 supplements_there text out place format codes stands (inr (high, is)) =
@@ -41,7 +41,7 @@ some_codes : (text : List ℕ) (codes : ℕ) → CodesEnd text 0 codes → 2 ≤
 some_codes text codes (inl (format, is)) = omega (arith, is)
 some_codes text codes (inr (format, is)) = omega (arith, is)
 
-pub encoding_there : (text out : List ℕ) (place : ℕ) → Stands text out place → EncodingEnds text 0 (length text) →
+pub encoding_there : (text out : List ℕ) (place : ℕ) → TextStands text out place → EncodingEnds text 0 (length text) →
     EncodingEnds out place (place + length text)
 encoding_there text out place stands ends =
     let codes : ℕ = ends.0 in
@@ -54,7 +54,7 @@ encoding_there text out place stands ends =
           (supplements_there text out place (number_at text 0 1) codes stands ends.2),
     )
 
-pub select_there : (text out : List ℕ) (place glyphs : ℕ) → Stands text out place → SelectEnds text glyphs 0 (length text) →
+pub select_there : (text out : List ℕ) (place glyphs : ℕ) → TextStands text out place → SelectEnds text glyphs 0 (length text) →
     SelectEnds out glyphs place (place + length text)
 select_there text out place glyphs stands (inl (format, is)) =
     let first = number_there text out place 0 1 place stands (omega (arith, is)) (omega arith) in
@@ -65,7 +65,7 @@ select_there text out place glyphs stands (inr (format, is)) =
     inr (first ∙ format, omega (arith, is, count))
 
 -- a char set is the last part, so that ranges too end where they do alone
-pub char_set_there : (text out : List ℕ) (place glyphs : ℕ) → Stands text out place → drop place out ≡ text →
+pub char_set_there : (text out : List ℕ) (place glyphs : ℕ) → TextStands text out place → drop place out ≡ text →
     CharSetEnds text glyphs 0 (length text) →
     CharSetEnds out glyphs place (place + length text)
 char_set_there text out place glyphs stands last (inl (format, is)) =

@@ -3,9 +3,9 @@ use Rattle.std.proofs.Common.{◌≡◌, refl, sym, ap, subst, ◌∙◌, ℕ, L
 use Rattle.std.specs.Prelude.{Some, map, if◌then◌else◌}
 use Rattle.postscript_view.specs.declared.font.FontView.{FontView}
 use Rattle.postscript_write.specs.Components.{AreClosed, IsOpened, IsReached, is_named, is_drawn_with}
-use Rattle.postscript_write.specs.Fonts.{IsFontOf}
 use Rattle.postscript_write.specs.Glyphs.{Sources}
 use Rattle.postscript_write.specs.Kept.{KeptAreWritten}
+use Rattle.postscript_write.specs.Making.{IsCutFont}
 use Rattle.postscript_write.specs.Sources.{chosen, is_kept, kept_of}
 use Rattle.postscript_write.proofs.Drawings.{component-moved, many-of}
 use Rattle.postscript_write.proofs.Marks.{kept_more}
@@ -47,5 +47,5 @@ kept-are-written named bytes flat kept k s =
       new = s.written.new;
       was = s.written.was;
       is = s.written.is;
-      made = subst (λ (sources : Sources). IsFontOf false sources bytes s.written.old flat s.written.new) same s.written.made;
+      made = subst (λ (sources : Sources). IsCutFont sources bytes s.written.old flat s.written.new) same s.written.made;
     }

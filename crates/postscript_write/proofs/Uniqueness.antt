@@ -33,13 +33,18 @@ one-number bytes map parts glyphs glyph a b (inl x) (inr y) = absurd (y.0 x.0)
 one-number bytes map parts glyphs glyph a b (inr x) (inl y) = absurd (x.0 y.0)
 one-number bytes map parts glyphs glyph a b (inr x) (inr y) = one_named bytes map glyphs glyph a b x.1 y.1
 
+pub one-part : (font : FontView) (glyph : ℕ) (p q : PrivateDict) (run other : Run) → HasRun font glyph p run → HasRun font glyph q other →
+    q ≡ p
+one-part font glyph p q run other a b =
+    let number : b.has.number ≡ a.has.number = one-number font.bytes.now font.dictionary (length font.parts.items)
+    (glyphs_of font) glyph b.has.number a.has.number b.has.has_number.selected a.has.has_number.selected in
+    one-value _ q p (subst (λ n. slice_get font.parts.items n ≡ Some q) number b.has.has_part) a.has.has_part
+
 pub one-run : (font : FontView) (glyph : ℕ) (p q : PrivateDict) (run other : Run) → HasRun font glyph p run → HasRun font glyph q other →
     other ≡ run
 one-run font glyph p q run other a b =
-    let number : b.has.number ≡ a.has.number = one-number font.bytes.now font.dictionary (length font.parts.items)
-    (glyphs_of font) glyph b.has.number a.has.number b.has.has_number.selected a.has.has_number.selected in
     let code : b.code ≡ a.code = one-value _ b.code a.code b.has.has_code a.has.has_code in
-    let part : q ≡ p = one-value _ q p (subst (λ n. slice_get font.parts.items n ≡ Some q) number b.has.has_part) a.has.has_part in
+    let part = one-part font glyph p q run other a b in
     b.runs ∙ ap (λ (part : PrivateDict). run_of (lent (items_of font.global_subroutines) (items_of part.subroutines)) b.code) part
     ∙ ap (λ code. run_of (lent (items_of font.global_subroutines) (items_of p.subroutines)) code) code ∙ sym a.runs
 

@@ -6,7 +6,7 @@ use Rattle.postscript_view.specs.declared.font.FontView.{FontView}
 use Rattle.postscript_write.specs.Arrangement.{beginnings, places_of}
 use Rattle.postscript_write.specs.ArrangedText.{AreTablesOf, tables_text}
 use Rattle.postscript_write.specs.DictionarySizes.{HasSize, places_size}
-use Rattle.postscript_write.specs.Index.{Fits, index_text}
+use Rattle.postscript_write.specs.Index.{FitsIndex, index_text}
 use Rattle.postscript_write.specs.Privates.{IsSomeDictionary, privates_text}
 use Rattle.postscript_write.specs.Renumbered.{all_renamed}
 use Rattle.postscript_write.specs.Room.{HasRoom, index_room}
@@ -22,17 +22,17 @@ index_within : (items : List (List ℕ)) → length (index_text items) ≤ index
 index_within items = omega (arith, index_most items, all_bytes items)
 
 -- names, strings and codes
-pub names_fit : (font : FontView) (glyphs : Glyphs) (codes : List (List ℕ)) → HasRoom font glyphs codes → Fits (items_of font.names)
+pub names_fit : (font : FontView) (glyphs : Glyphs) (codes : List (List ℕ)) → HasRoom font glyphs codes → FitsIndex (items_of font.names)
 names_fit font glyphs codes room =
     let all = room.all in they_fit (items_of font.names) room.few_names (omega (arith, all, all_bytes (items_of font.names)))
 
 pub strings_fit : (font : FontView) (glyphs : Glyphs) (codes : List (List ℕ)) → HasRoom font glyphs codes →
-    Fits (texts glyphs.strings.texts.items)
+    FitsIndex (texts glyphs.strings.texts.items)
 strings_fit font glyphs codes room =
     let all = room.all in they_fit (texts glyphs.strings.texts.items) room.few_strings
     (omega (arith, all, all_bytes (texts glyphs.strings.texts.items)))
 
-pub codes_fit : (font : FontView) (glyphs : Glyphs) (codes : List (List ℕ)) → HasRoom font glyphs codes → Fits codes
+pub codes_fit : (font : FontView) (glyphs : Glyphs) (codes : List (List ℕ)) → HasRoom font glyphs codes → FitsIndex codes
 codes_fit font glyphs codes room = let all = room.all in they_fit codes room.few_codes (omega (arith, all, all_bytes codes))
 
 -- at most so many bytes have the tables
@@ -102,7 +102,7 @@ tables_end font codes parts dictionary start out room few long begins are =
 abbrev pub RefusesTables : FontView → (dictionary : List ℕ) → Parts → (start : ℕ) → Type 0
 RefusesTables font dictionary parts start =
     IsSomeDictionary dictionary → (beginnings start parts).end < 2 ^ 31 → length dictionary + places_size (places_of start parts) < 2 ^ 31 →
-    Fits (items_of font.names) → Fits (texts parts.glyphs.now.strings.texts.items) → ⊥
+    FitsIndex (items_of font.names) → FitsIndex (texts parts.glyphs.now.strings.texts.items) → ⊥
 
 pub tables_written : (font : FontView) (codes : List (List ℕ)) (parts : Parts) (dictionary : List ℕ) (start : ℕ) →
     HasRoom font parts.glyphs.now codes → HasFew font codes parts →

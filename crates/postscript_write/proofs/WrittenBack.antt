@@ -26,13 +26,13 @@ use Rattle.postscript_write.specs.Arrangement.{beginnings, place_if, standard_pl
 use Rattle.postscript_write.specs.Dictionaries.{IsHeld}
 use Rattle.postscript_write.specs.Given.{AreGiven}
 use Rattle.postscript_write.specs.GivenNumbers.{AreTheirNumbers, GivesNumbers, GivesWayTo, StaysEncoded}
-use Rattle.postscript_write.specs.Glyphs.{HasPart}
+use Rattle.postscript_write.specs.Glyphs.{ShowsPart}
 use Rattle.postscript_write.specs.LaidOut.{IsLaidOutOf, SelectsExactly}
 use Rattle.postscript_write.specs.Naming.{SameCodes, codes_for}
 use Rattle.postscript_write.specs.ReadBack.{HasOtherCodes, HasSameCodes, IsAsWritten}
 use Rattle.postscript_write.specs.Room.{IsRead}
-use Rattle.postscript_write.specs.Texts.{Stands}
-use Rattle.postscript_write.specs.Written.{IsWritten, TablesStand}
+use Rattle.postscript_write.specs.Texts.{TextStands}
+use Rattle.postscript_write.specs.Written.{IsPutTogether, TablesStand}
 use Rattle.postscript_write.specs.declared.layout.Glyphs.{Glyphs}
 use Rattle.postscript_write.proofs.Endings.{one_some}
 use Rattle.postscript_write.proofs.LaidOut.{laid_out}
@@ -46,7 +46,7 @@ use Rattle.postscript_write.proofs.ReadAgain.{one_view}
 selected : (new : Dictionary) (out : List ℕ) (select : Option (Vec ℕ Global)) (numbers : List ℕ) (place i : ℕ)
     (other : Option (List Decimal)) →
     look new FDSelect ≡ option_or (named_by (place_if FDSelect select place) FDSelect) other → All IsHeld (place_if FDSelect select place) →
-    Stands (text_of select) out place → GivesNumbers numbers select → i < length numbers → IsSome select → IsSelected out new
+    TextStands (text_of select) out place → GivesNumbers numbers select → i < length numbers → IsSome select → IsSelected out new
     (length numbers) i (get_or numbers i 0)
 selected new out None numbers place i other is held stands gives less some = absurd (cc)
 selected new out (Some text) numbers place i other is held stands gives less some =
@@ -74,7 +74,7 @@ encoding_kept : (old new : Dictionary) (bytes out : List ℕ) (text : Option (Ve
     (encoding : EncodingView) →
     look new Encoding ≡ option_or (named_by (place_if Encoding text start ++ standard_place standard) Encoding)
     (look old Encoding) → All IsHeld (place_if Encoding text start) →
-    2 ≤ start → Stands (text_of text) out start → StaysEncoded bytes old text standard → IsEncodingOf encoding bytes old → IsEncodingOf
+    2 ≤ start → TextStands (text_of text) out start → StaysEncoded bytes old text standard → IsEncodingOf encoding bytes old → IsEncodingOf
     encoding out new
 encoding_kept old new bytes out (Some text) true start encoding is held past stands stays was = absurd stays
 encoding_kept old new bytes out None true start encoding is held past stands stays was = absurd stays
@@ -134,13 +134,13 @@ same_kind kind (Predefined encoding) same = ap (λ e. Predefined e) same
 same_kind kind (Listed codes) same = absurd same
 same_kind kind (Ranges ranges) same = absurd same
 
-module _ (font : FontView) (glyphs : Glyphs) (codes : List (List ℕ)) (out : List ℕ) (w : IsWritten font glyphs codes out)
+module _ (font : FontView) (glyphs : Glyphs) (codes : List (List ℕ)) (out : List ℕ) (w : IsPutTogether font glyphs codes out)
     (t : TablesStand font glyphs w.parts (length w.tables) out) where
   -- each glyph has the part of its number
   pub numbers_there : (view : View) → IsLaidOut out 0 view → view.char_strings ≡ codes → SelectsExactly font glyphs → (numbers : List ℕ) →
       length numbers ≡ length codes →
       ((i : ℕ) → i < length numbers → get_or numbers i 0 < length view.parts) → GivesNumbers numbers glyphs.select → (i : ℕ) → i < length
-      numbers → HasPart out view i (get_or numbers i 0)
+      numbers → ShowsPart out view i (get_or numbers i 0)
   numbers_there view laid are exactly numbers many below gives i less =
       record { there = below i less; selected = by (cases_lt (length view.parts) 2) }
     where
@@ -208,7 +208,7 @@ module _ (font : FontView) (glyphs : Glyphs) (codes : List (List ℕ)) (out : Li
       }
 
 -- what is written is as it was to be written
-pub as_written : (font : FontView) (glyphs : Glyphs) (codes : List (List ℕ)) (out : List ℕ) (w : IsWritten font glyphs codes out)
+pub as_written : (font : FontView) (glyphs : Glyphs) (codes : List (List ℕ)) (out : List ℕ) (w : IsPutTogether font glyphs codes out)
     (read : IsRead font) (exactly : SelectsExactly font glyphs) → AreGiven font glyphs (length codes) →
     (numbers : List ℕ) → AreTheirNumbers font glyphs
     (length codes) numbers → (view : View) → IsLaidOut out 0 view → IsAsWritten numbers codes (view_shown font) out view

@@ -9,8 +9,8 @@ use Rattle.postscript_view.specs.Layout.{NamesIndex}
 use Rattle.postscript_view.specs.declared.font.FontView.{FontView}
 use Rattle.postscript_write.specs.Dictionaries.{IsHeld, IsWithPlaces}
 use Rattle.postscript_write.specs.DictionarySizes.{HasSize}
-use Rattle.postscript_write.specs.Index.{Fits, index_text}
-use Rattle.postscript_write.specs.Texts.{Stands}
+use Rattle.postscript_write.specs.Index.{FitsIndex, index_text}
+use Rattle.postscript_write.specs.Texts.{TextStands}
 use Rattle.postscript_write.specs.Privates.{AreFontDictionaries, AreSized, privates_text}
 use Rattle.postscript_write.specs.declared.layout.Parts.{Parts}
 use Rattle.postscript_write.specs.declared.layout.Private.{Private}
@@ -45,12 +45,12 @@ parts_text parts dictionaries =
 
 -- each part stands where it begins
 pub record PartsStand (parts : Parts) (dictionaries : List (List ℕ)) (out : List ℕ) (at : Beginnings) : Type 0 where
-  pub encoding : Stands (text_of parts.glyphs.now.encoding) out at.encoding
-  pub select : Stands (text_of parts.glyphs.now.select) out at.select
-  pub char_strings : Stands parts.char_strings.items out at.char_strings
-  pub privates : Stands (privates_text parts.privates.items) out at.privates
-  pub font_dictionaries : Stands (dictionaries_text parts.glyphs.now.select dictionaries) out at.dictionaries
-  pub char_set : Stands (text_of parts.glyphs.now.char_set) out at.char_set
+  pub encoding : TextStands (text_of parts.glyphs.now.encoding) out at.encoding
+  pub select : TextStands (text_of parts.glyphs.now.select) out at.select
+  pub char_strings : TextStands parts.char_strings.items out at.char_strings
+  pub privates : TextStands (privates_text parts.privates.items) out at.privates
+  pub font_dictionaries : TextStands (dictionaries_text parts.glyphs.now.select dictionaries) out at.dictionaries
+  pub char_set : TextStands (text_of parts.glyphs.now.char_set) out at.char_set
 
 -- The tables: the header, of version 1.0, with places of four bytes; names, the dictionary of the font, strings, and no subroutines.
 abbrev pub tables_text : (names : List (List ℕ)) (dictionary : List ℕ) (strings : List (List ℕ)) → List ℕ
@@ -69,6 +69,6 @@ pub record AreTablesOf (font : FontView) (dictionary : List ℕ) (parts : Parts)
   pub places : (beginnings start parts).end < 2 ^ 64 → IsWithPlaces dictionary (places_of start parts) placed
   pub sized : (beginnings start parts).end < 2 ^ 64 → HasSize dictionary (places_of start parts) (length placed)
   pub held : (beginnings start parts).end < 2 ^ 64 → All IsHeld (places_of start parts)
-  pub names_fit : Fits (items_of font.names)
-  pub dictionary_fits : Fits (placed ∷ [])
-  pub strings_fit : Fits (texts parts.glyphs.now.strings.texts.items)
+  pub names_fit : FitsIndex (items_of font.names)
+  pub dictionary_fits : FitsIndex (placed ∷ [])
+  pub strings_fit : FitsIndex (texts parts.glyphs.now.strings.texts.items)

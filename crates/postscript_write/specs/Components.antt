@@ -1,6 +1,6 @@
 -- The components of accented glyphs, which are kept with them (Technical Note 5177, Appendix C, "Compatibility and Deprecated
 -- Operators").
-use Rattle.std.specs.Prelude.{◌≡◌, ◌≢◌, ◌⊎◌, ◌↔◌, ℕ, List, Bool, Option, Some, None, true, length, slice_index_or}
+use Rattle.std.specs.Prelude.{◌≡◌, ◌≢◌, ◌⊎◌, ◌↔◌, ℕ, List, Option, Some, None, true, length, slice_index_or}
 use Rattle.std.specs.List.{Contains}
 use Rattle.std.specs.Option.{MatchOption}
 use Rattle.postscript_drawing.specs.Accents.{IsAccentOf}
@@ -14,6 +14,7 @@ use Rattle.postscript_view.specs.Value.{view_shown}
 use Rattle.postscript_view.specs.declared.char_set.CharSetView.{CharSetView}
 use Rattle.postscript_view.specs.declared.font.FontView.{FontView}
 use Rattle.postscript_write.specs.Glyphs.{Sources}
+use Rattle.postscript_write.specs.Making.{Making}
 use Rattle.postscript_write.specs.Sources.{IsWritten, is_kept, kept_of}
 use Rattle.postscript_write.specs.declared.error.Error.{Error}
 use Rattle.postscript_write.specs.declared.error.Error.TheVariants.{Refused}
@@ -46,11 +47,11 @@ pub record AreKept (named bytes kept : List ℕ) : Type 0 where
   pub are : AreClosed bytes named closed
   pub all : kept ≡ kept_of closed (glyphs_of are.font)
 
--- The new font is made of the glyphs that this gives for those that are reached from the ones that are named.
-pub record IsSubset (kept : Bool) (sources : (closed : List ℕ) (glyphs : ℕ) → Sources) (named bytes flat : List ℕ) : Type 0 where
+-- The new font is so made of the glyphs that this gives for those that are reached from the ones that are named.
+pub record IsSubset (is_made : Making) (sources : (closed : List ℕ) (glyphs : ℕ) → Sources) (named bytes flat : List ℕ) : Type 0 where
   pub closed : List ℕ
   pub are : AreClosed bytes named closed
-  pub written : IsWritten kept (sources closed) bytes flat
+  pub written : IsWritten is_made (sources closed) bytes flat
 
 -- what is told of a run: it is accented so, or it names no codes
 abbrev pub IsSaid : Option Accent → Run → Type 0

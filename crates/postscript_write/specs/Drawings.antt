@@ -8,7 +8,7 @@ use Rattle.postscript_write.specs.Components.{AreClosed, IsOpened}
 use Rattle.postscript_write.specs.Glyphs.{Sources}
 
 -- at a place stands a glyph
-pub record StandsAt (sources : Sources) (i glyph : ℕ) : Type 0 where
+pub record IsSourceAt (sources : Sources) (i glyph : ℕ) : Type 0 where
   pub there : i < length sources
   pub is : slice_index_or sources i None ≡ Some glyph
 
@@ -17,11 +17,22 @@ abbrev pub DrawsTheSame : (old new : FontView) → (glyph i : ℕ) → Type 0
 DrawsTheSame old new glyph i = (segments : List Segment) (width : Option ℤ) → IsDrawnAs old glyph segments width
     ↔ IsDrawnAs new i segments width
 
--- Each glyph of the new font, which this gives for so many of the old one, is drawn as it was.
-abbrev pub KeepsDrawings : (sources : (glyphs : ℕ) → Sources) → (bytes flat : List ℕ) → Type 0
-KeepsDrawings sources bytes flat = (old new : FontView) (glyph i : ℕ) → IsOpened bytes old → IsOpened flat new →
-    StandsAt (sources (glyphs_of old)) i glyph → DrawsTheSame old new glyph i
+-- what holds of a glyph of the old font and one of the new font
+abbrev pub Likeness : Type 1
+Likeness = (old new : FontView) (glyph i : ℕ) → Type 0
+
+-- Each glyph of the new font, which this gives for so many of the old one, is so like it, in whatever way both are opened.
+abbrev pub AreLike : Likeness → (sources : (glyphs : ℕ) → Sources) → (bytes flat : List ℕ) → Type 0
+AreLike IsLike sources bytes flat = (old new : FontView) (glyph i : ℕ) → IsOpened bytes old → IsOpened flat new →
+    IsSourceAt (sources (glyphs_of old)) i glyph → IsLike old new glyph i
 
 -- the same of the glyphs that a subset keeps
+abbrev pub AreLikeKept : Likeness → (sources : (closed : List ℕ) (glyphs : ℕ) → Sources) → (named bytes flat : List ℕ) → Type 0
+AreLikeKept IsLike sources named bytes flat = (closed : List ℕ) × AreClosed bytes named closed × AreLike IsLike (sources closed) bytes flat
+
+-- Each glyph of the new font is drawn as it was.
+abbrev pub KeepsDrawings : (sources : (glyphs : ℕ) → Sources) → (bytes flat : List ℕ) → Type 0
+KeepsDrawings = AreLike DrawsTheSame
+
 abbrev pub DrawsKept : (sources : (closed : List ℕ) (glyphs : ℕ) → Sources) → (named bytes flat : List ℕ) → Type 0
-DrawsKept sources named bytes flat = (closed : List ℕ) × AreClosed bytes named closed × KeepsDrawings (sources closed) bytes flat
+DrawsKept = AreLikeKept DrawsTheSame

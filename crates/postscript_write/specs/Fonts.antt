@@ -1,5 +1,5 @@
 -- A font without subroutines that is made of glyphs of another one.
-use Rattle.std.specs.Prelude.{◌≡◌, ℕ, ◌<◌, List, [], ◌∷◌, ◌++◌, Option, Some, None, Bool, false, IsTrue, length, take, slice_get, slice_index_or}
+use Rattle.std.specs.Prelude.{◌≡◌, ℕ, ◌<◌, List, [], ◌∷◌, ◌++◌, Option, Some, None, length, take, slice_get, slice_index_or}
 use Rattle.postscript_base.specs.Compact1.Defaults.{look}
 use Rattle.postscript_base.specs.Compact1.Dictionary.{Dictionary}
 use Rattle.postscript_base.specs.declared.compact1.operator.Operator.TheVariants as operators
@@ -8,20 +8,18 @@ use Rattle.postscript_type2.specs.Program.Routines.{Lists}
 use Rattle.postscript_type2.specs.Program.Runs.{fault_of}
 use Rattle.postscript_view.specs.Cids.{IsCidKeyed}
 use Rattle.postscript_view.specs.Contents.{View, PrivateDict}
-use Rattle.postscript_write.specs.Glyphs.{DrawsAs, HasPart, Sources, code_text, run_in}
-use Rattle.postscript_write.specs.Naming.{GivesWay, KeepsCodes}
+use Rattle.postscript_write.specs.Glyphs.{DrawsAs, ShowsPart, Sources, code_text, run_in}
 use Rattle.postscript_write.specs.Parts.{SameBut, SamePart, SameParts, naming, placing}
-use Rattle.postscript_write.specs.Strings.{KeepsNames}
 
 -- The header of what is written: version 1.0, of four bytes, and places of four bytes (section 6).
 abbrev pub HasHeader : List ℕ → Type 0
 HasHeader flat = take 4 flat ≡ 1 ∷ 0 ∷ 4 ∷ 4 ∷ []
 
 -- a glyph of a font has this code and this part
-pub record HasGlyph (bytes : List ℕ) (font : View) (glyph : ℕ) (code : List ℕ) (number : ℕ) (part : PrivateDict) : Type 0 where
+pub record ShowsGlyph (bytes : List ℕ) (font : View) (glyph : ℕ) (code : List ℕ) (number : ℕ) (part : PrivateDict) : Type 0 where
   pub has_code : slice_get font.char_strings glyph ≡ Some code
   pub has_part : slice_get font.parts number ≡ Some part
-  pub is_its : HasPart bytes font glyph number
+  pub is_its : ShowsPart bytes font glyph number
 
 -- A glyph that is written draws, over any lists, what the glyph draws that it is made of, whose run no fault ends. Its code is the
 -- text of that run without calls and returns. Both have the part of one number, and the parts say the same.
@@ -29,23 +27,23 @@ pub record IsMadeOf (bytes : List ℕ) (old : View) (glyph : ℕ) (flat : List �
   pub number : ℕ
   pub old_code : List ℕ
   pub old_part : PrivateDict
-  pub was : HasGlyph bytes old glyph old_code number old_part
+  pub was : ShowsGlyph bytes old glyph old_code number old_part
   pub new_code : List ℕ
   pub new_part : PrivateDict
-  pub is : HasGlyph flat new i new_code number new_part
+  pub is : ShowsGlyph flat new i new_code number new_part
   pub faultless : fault_of (run_in old old_part old_code).end ≡ None
   pub draws : (lists : Lists) → DrawsAs lists new_code (run_in old old_part old_code)
   pub text : new_code ≡ code_text (inlined_text (run_in old old_part old_code).trace)
   pub same : SamePart old_part new_part
 
 -- An empty glyph is `endchar` alone, with the first part.
-pub record IsEmpty (flat : List ℕ) (new : View) (i : ℕ) : Type 0 where
+pub record IsEmptyGlyph (flat : List ℕ) (new : View) (i : ℕ) : Type 0 where
   pub code : slice_get new.char_strings i ≡ Some (0x0e ∷ [])
-  pub part : HasPart flat new i 0
+  pub part : ShowsPart flat new i 0
 
 -- it is made of a glyph, or empty
 abbrev pub IsMade : List ℕ → View → Option ℕ → List ℕ → View → (i : ℕ) → Type 0
-IsMade bytes old None flat new i = IsEmpty flat new i
+IsMade bytes old None flat new i = IsEmptyGlyph flat new i
 IsMade bytes old (Some glyph) flat new i = IsMadeOf bytes old glyph flat new i
 
 -- The new font has no subroutines, and what the old one has besides its glyphs, what names places, and strings with what names them.
@@ -59,14 +57,10 @@ pub record Repeats (old new : View) : Type 0 where
 abbrev pub NamesNoPrivateIfKeyed : Dictionary → Type 0
 NamesNoPrivateIfKeyed map = IsCidKeyed map → look map operators.Private ≡ None
 
--- The new font is made of these glyphs of the old one, in this order. It says what the old one says: also by its encoding, where
--- glyphs keep their numbers; else one of the old font's own gives way to the standard one.
-pub record IsFontOf (retain_gids : Bool) (sources : Sources) (bytes : List ℕ) (old : View) (flat : List ℕ) (new : View) : Type 0 where
+-- The new font is made of these glyphs of the old one, in this order, and has no others. Besides it says what the old one says.
+pub record HasGlyphsOf (sources : Sources) (bytes : List ℕ) (old : View) (flat : List ℕ) (new : View) : Type 0 where
   pub header : HasHeader flat
   pub repeats : Repeats old new
   pub unnamed : NamesNoPrivateIfKeyed new.tables.dictionary
   pub many : length new.char_strings ≡ length sources
   pub glyphs : (i : ℕ) → i < length sources → IsMade bytes old (slice_index_or sources i None) flat new i
-  pub naming : KeepsNames retain_gids sources bytes old flat new
-  pub codes : IsTrue retain_gids → KeepsCodes sources bytes old flat new naming.old_set naming.new_set
-  pub encoding : retain_gids ≡ false → GivesWay bytes old flat new

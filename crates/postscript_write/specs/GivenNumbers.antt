@@ -7,14 +7,14 @@ use Rattle.postscript_base.specs.declared.compact1.operator.Operator.TheVariants
 use Rattle.postscript_view.specs.Select.{Selects, offset_of}
 use Rattle.postscript_view.specs.declared.font.FontView.{FontView}
 use Rattle.postscript_write.specs.Given.{NamesPredefined}
-use Rattle.postscript_write.specs.Texts.{Stands}
+use Rattle.postscript_write.specs.Texts.{TextStands}
 use Rattle.postscript_write.specs.Whole.{EncodingEnds}
 use Rattle.postscript_write.specs.declared.layout.Glyphs.{Glyphs}
 
 -- FDSelect, where it is written, gives each glyph the number in its place, wherever it stands.
 abbrev pub GivesNumbers : (numbers : List ℕ) → Option (Vec ℕ Global) → Type 0
 GivesNumbers numbers None = Unit {0}
-GivesNumbers numbers (Some text) = (bytes : List ℕ) (place i : ℕ) → Stands text.items bytes place → i < length numbers →
+GivesNumbers numbers (Some text) = (bytes : List ℕ) (place i : ℕ) → TextStands text.items bytes place → i < length numbers →
     Selects bytes place (length numbers) i (slice_index_or numbers i 0)
 
 -- These are the numbers of the parts of so many glyphs: the font has parts of these numbers, and FDSelect gives them.
@@ -28,7 +28,7 @@ pub record IsOwnText (bytes : List ℕ) (map : Dictionary) (text : List ℕ) : T
   pub place : ℕ
   pub named : offset_of map operators.Encoding ≡ Some place
   pub past : 2 ≤ place
-  pub stands : Stands text bytes place
+  pub stands : TextStands text bytes place
   pub ends : EncodingEnds bytes place (place + length text)
 
 -- The encoding stays: its text is that of the font's own, or it is predefined.

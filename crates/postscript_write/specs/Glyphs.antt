@@ -11,7 +11,7 @@ use Rattle.postscript_view.specs.Select.{IsSelected}
 
 -- A glyph has the part of a number: of several parts that of the font dictionary that FDSelect gives it; a single part is that
 -- of all glyphs.
-pub record HasPart (bytes : List ℕ) (font : View) (glyph number : ℕ) : Type 0 where
+pub record ShowsPart (bytes : List ℕ) (font : View) (glyph number : ℕ) : Type 0 where
   pub there : number < length font.parts
   pub selected : ((length font.parts ≡ 1) × (number ≡ 0))
       ⊎ ((length font.parts ≢ 1) × IsSelected bytes font.tables.dictionary (length font.char_strings) glyph number)
@@ -69,11 +69,11 @@ pub record AreCodesOf (font : View) (sources : Sources) (numbers : List ℕ) (fl
       IsCodeFor font (slice_index_or sources i None) (slice_index_or numbers i 0) (slice_index_or flats i [])
 
 -- the number of the part of a glyph; an empty one gets the first
-abbrev pub HasPartFor : List ℕ → View → Option ℕ → (number : ℕ) → Type 0
-HasPartFor bytes font None number = number ≡ 0
-HasPartFor bytes font (Some glyph) number = HasPart bytes font glyph number
+abbrev pub ShowsPartFor : List ℕ → View → Option ℕ → (number : ℕ) → Type 0
+ShowsPartFor bytes font None number = number ≡ 0
+ShowsPartFor bytes font (Some glyph) number = ShowsPart bytes font glyph number
 
 -- as many numbers of parts, each of the glyph in its place
 pub record AreNumbersOf (bytes : List ℕ) (font : View) (sources : Sources) (numbers : List ℕ) : Type 0 where
   pub many : length numbers ≡ length sources
-  pub each : (i : ℕ) → i < length sources → HasPartFor bytes font (slice_index_or sources i None) (slice_index_or numbers i 0)
+  pub each : (i : ℕ) → i < length sources → ShowsPartFor bytes font (slice_index_or sources i None) (slice_index_or numbers i 0)

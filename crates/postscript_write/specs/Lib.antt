@@ -17,6 +17,7 @@ pub mod Room
 pub mod LaidOut
 pub mod Written
 pub mod Fonts
+pub mod Making
 pub mod Whole
 pub mod Own
 pub mod Selected
@@ -29,6 +30,7 @@ pub mod Components
 pub mod Closure
 pub mod Kept
 pub mod Drawings
+pub mod SameGlyphs
 pub mod Readings
 pub mod Sizes
 pub mod Refusals

@@ -8,7 +8,7 @@ use Rattle.postscript_view.specs.Select.{offset_of}
 use Rattle.postscript_write.specs.Whole.{CharSetEnds, EncodingEnds}
 
 -- the bytes from one place up to another
-pub record IsCut (bytes : List ℕ) (from to : ℕ) (cut : List ℕ) : Type 0 where
+pub record IsCutFrom (bytes : List ℕ) (from to : ℕ) (cut : List ℕ) : Type 0 where
   pub order : from ≤ to
   pub within : to ≤ length bytes
   pub is : cut ≡ slice_range bytes from to
@@ -18,7 +18,7 @@ pub record IsCut (bytes : List ℕ) (from to : ℕ) (cut : List ℕ) : Type 0 wh
 abbrev pub IsOwn : List ℕ → Dictionary → Operator → (least : ℕ) → (ends : ℕ → ℕ → Type 0) → Option (List ℕ) → Type 0
 IsOwn bytes map operator least ends None = (offset : ℕ) × (offset_of map operator ≡ Some offset) × (offset < least)
 IsOwn bytes map operator least ends (Some own) = (place : ℕ) × (next : ℕ) × (offset_of map operator ≡ Some place) × (least ≤ place)
-    × ends place next × IsCut bytes place next own
+    × ends place next × IsCutFrom bytes place next own
 
 abbrev pub IsOwnEncoding : List ℕ → Dictionary → Option (List ℕ) → Type 0
 IsOwnEncoding bytes map own = IsOwn bytes map operators.Encoding 2 (EncodingEnds bytes) own

@@ -1,5 +1,6 @@
 -- What is written is the font that it was to be (Technical Note 5176, sections 7, 10, 12, 13 and 19).
-use Rattle.std.specs.Prelude.{◌≡◌, ℕ, ◌<◌, ◌≤◌, ◌^◌, List, Bool, MatchBool, Option, Some, None, Vec, length, slice_index_or}
+use Rattle.std.specs.Prelude.{◌≡◌, ℕ, ◌<◌, ◌≤◌, ◌^◌, List, Bool, ◌||◌, MatchBool, Option, Some, None, Vec, length, slice_index_or}
+use Rattle.std.specs.Option.{is_some}
 use Rattle.std.specs.declared.alloc.Global.{Global}
 use Rattle.postscript_base.specs.Compact1.Defaults.{look}
 use Rattle.postscript_base.specs.Compact1.Dictionary.{Dictionary}
@@ -12,21 +13,25 @@ use Rattle.postscript_view.specs.Select.{offset_of}
 use Rattle.postscript_view.specs.declared.char_set.CharSetView.{CharSetView}
 use Rattle.postscript_view.specs.declared.encoding.EncodingView.{EncodingView}
 use Rattle.postscript_write.specs.Fonts.{HasHeader, NamesNoPrivateIfKeyed, Repeats}
-use Rattle.postscript_write.specs.Glyphs.{HasPart, Sources}
+use Rattle.postscript_write.specs.Glyphs.{ShowsPart, Sources}
 use Rattle.postscript_write.specs.Naming.{SameEncoding, codes_for}
-use Rattle.postscript_write.specs.Strings.{AreNamedAs, AreNeeded, KeepsStrings, NameSame, keeps_strings}
-use Rattle.postscript_write.specs.Texts.{Stands}
+use Rattle.postscript_write.specs.Strings.{AreNamedAs, AreNeeded, KeepsStrings, NameSame}
+use Rattle.postscript_write.specs.Texts.{TextStands}
 use Rattle.postscript_write.specs.Whole.{HasNoByteBeside}
 
 -- Operators and glyphs name the same strings, glyphs by identifiers of both fonts, and each string is needed.
-pub record AreCut (sources : Sources) (old : View) (old_set : CharSetView) (new : View) (new_set : CharSetView) : Type 0 where
+pub record CutsByIdentifiers (sources : Sources) (old : View) (old_set : CharSetView) (new : View) (new_set : CharSetView) : Type 0 where
   pub operators : NameSame old.tables new.tables
   pub glyphs : AreNamedAs old_set old.tables.strings sources new_set new.tables.strings
   pub needed : AreNeeded new new_set
 
+-- Strings are kept where glyphs keep their numbers, and in a CID-keyed font, whose glyphs have no names (section 18).
+abbrev pub keeps_strings : (kept : Bool) → Dictionary → Bool
+keeps_strings kept map = kept || is_some (look map operators.ROS)
+
 abbrev pub AreStrings : (keeps : Bool) → Sources → View → CharSetView → View → CharSetView → Type 0
 AreStrings keeps sources old old_set new new_set =
-    MatchBool keeps (KeepsStrings sources old old_set new new_set) (AreCut sources old old_set new new_set)
+    MatchBool keeps (KeepsStrings sources old old_set new new_set) (CutsByIdentifiers sources old old_set new new_set)
 
 -- the new font has a char set, and by it strings and what names them are as they are to be
 pub record HasNames (keeps : Bool) (sources : Sources) (old : View) (old_set : CharSetView) (flat : List ℕ) (new : View) : Type 0 where
@@ -54,14 +59,14 @@ HasCodes kept old flat map = MatchBool kept (HasSameCodes old flat map) (HasOthe
 abbrev pub HasCharSetText : (old : Dictionary) → Option (Vec ℕ Global) → List ℕ → (new : Dictionary) → Type 0
 HasCharSetText old None out new = look new operators.CharSet ≡ look old operators.CharSet
 HasCharSetText old (Some text) out new =
-    (place : ℕ) × (offset_of new operators.CharSet ≡ Some place) × (3 ≤ place) × (place < 2 ^ 31) × Stands text.items out place
+    (place : ℕ) × (offset_of new operators.CharSet ≡ Some place) × (3 ≤ place) × (place < 2 ^ 31) × TextStands text.items out place
 
 -- The new font has the header, says what the old one says, has these codes and numbers of parts, and no byte stands beside its parts.
 pub record IsAsWritten (numbers : List ℕ) (codes : List (List ℕ)) (old : View) (flat : List ℕ) (new : View) : Type 0 where
   pub header : HasHeader flat
   pub repeats : Repeats old new
   pub char_strings : new.char_strings ≡ codes
-  pub parts : (i : ℕ) → i < length numbers → HasPart flat new i (slice_index_or numbers i 0)
+  pub parts : (i : ℕ) → i < length numbers → ShowsPart flat new i (slice_index_or numbers i 0)
   pub whole : HasNoByteBeside flat new
 
 -- The new font is laid out in the bytes, and is as it was to be written, with its names and codes.

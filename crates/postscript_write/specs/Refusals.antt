@@ -11,7 +11,7 @@ use Rattle.postscript_write.specs.Glyphs.{AreCodesOf, AreNumbersOf, Sources}
 use Rattle.postscript_write.specs.Sizes.{IsLarge}
 use Rattle.postscript_write.specs.declared.error.Error.{Error}
 use Rattle.postscript_write.specs.declared.error.Error.TheVariants.{Refused, Glyph, SeveralFonts, MissingGlyph, MissingPart, MissingName, NoGlyphs, TooLarge}
-use Rattle.postscript_write.specs.RefusedGlyphs.{IsFirst, IsPartless, IsNameless, HasSet, HasEncoding, AreSound}
+use Rattle.postscript_write.specs.RefusedGlyphs.{IsRefusedFirst, IsPartless, IsNameless, HasSet, HasEncoding, AreSound}
 
 -- With the codes of these glyphs the font is too large to be written.
 pub record IsTooLarge (bytes : List ℕ) (font : View) (sources : Sources) : Type 0 where
@@ -23,7 +23,7 @@ pub record IsTooLarge (bytes : List ℕ) (font : View) (sources : Sources) : Typ
 
 -- What a refusal says of the font that glyphs are taken from. `TooLarge` comes only where nothing is wrong with it.
 abbrev pub FontRefusedBy : List ℕ → View → Sources → Error → Type 0
-FontRefusedBy bytes font sources (Glyph glyph cause) = IsFirst bytes font sources glyph cause
+FontRefusedBy bytes font sources (Glyph glyph cause) = IsRefusedFirst bytes font sources glyph cause
 FontRefusedBy bytes font sources (Refused cause) = cause ≢ Memory → (HasSet bytes font → ⊥) ⊎ (HasEncoding bytes font → ⊥)
 FontRefusedBy bytes font sources (MissingPart glyph) = IsPartless bytes font sources glyph
 FontRefusedBy bytes font sources (MissingName glyph) = IsNameless bytes font sources glyph

@@ -9,7 +9,7 @@ use Rattle.postscript_view.specs.Naming.{Names}
 use Rattle.postscript_view.specs.Contents.{View, PrivateDict}
 use Rattle.postscript_view.specs.declared.char_set.CharSetView.{CharSetView}
 use Rattle.postscript_view.specs.declared.encoding.EncodingView.{EncodingView}
-use Rattle.postscript_write.specs.Glyphs.{AreNumbersOf, HasPart, Sources, run_in}
+use Rattle.postscript_write.specs.Glyphs.{AreNumbersOf, ShowsPart, Sources, run_in}
 
 -- the run of a glyph with the part of a number is refused with this cause
 pub record IsRunRefused (font : View) (glyph number : ℕ) (cause : causes.Error) : Type 0 where
@@ -40,8 +40,8 @@ pub record IsFirstRefused (font : View) (sources : Sources) (numbers : List ℕ)
   pub before : (i : ℕ) → i < place → IsFaultless font (slice_index_or sources i None) (slice_index_or numbers i 0)
 
 -- the first refused one of these glyphs of a font, each with its part
-abbrev pub IsFirst : List ℕ → View → Sources → (glyph : ℕ) → causes.Error → Type 0
-IsFirst bytes font sources glyph cause = (numbers : List ℕ) × AreNumbersOf bytes font sources numbers
+abbrev pub IsRefusedFirst : List ℕ → View → Sources → (glyph : ℕ) → causes.Error → Type 0
+IsRefusedFirst bytes font sources glyph cause = (numbers : List ℕ) × AreNumbersOf bytes font sources numbers
     × IsFirstRefused font sources numbers glyph cause
 
 -- one of these glyphs
@@ -51,7 +51,7 @@ IsOneOf sources glyph = (place : ℕ) × (place < length sources) × (slice_inde
 -- one of these glyphs, which has no part
 pub record IsPartless (bytes : List ℕ) (font : View) (sources : Sources) (glyph : ℕ) : Type 0 where
   pub one : IsOneOf sources glyph
-  pub partless : glyph < length font.char_strings → (number : ℕ) → HasPart bytes font glyph number → ⊥
+  pub partless : glyph < length font.char_strings → (number : ℕ) → ShowsPart bytes font glyph number → ⊥
 
 -- one of these glyphs, which the char set of the font does not name
 pub record IsNameless (bytes : List ℕ) (font : View) (sources : Sources) (glyph : ℕ) : Type 0 where

@@ -1,7 +1,7 @@
 -- FDSelect as it is written (Technical Note 5176, section 19, "FDSelect").
 use Rattle.std.specs.Prelude.{◌≡◌, ℕ, ◌+◌, ◌<◌, ◌≤◌, List, ◌++◌, flat_map, length, slice_index_or}
 use Rattle.postscript_view.specs.Select.{Selects}
-use Rattle.postscript_write.specs.Texts.{number_text, Stands}
+use Rattle.postscript_write.specs.Texts.{number_text, TextStands}
 use Rattle.postscript_write.specs.Whole.{SelectEnds}
 
 -- numbers of one byte
@@ -10,9 +10,9 @@ AreLow numbers = (i : ℕ) → i < length numbers → slice_index_or numbers i 0
 
 -- Wherever the text stands, an FDSelect stands that gives each glyph the number in its place, and it ends behind the text.
 pub record SelectsAll (text numbers : List ℕ) : Type 0 where
-  pub gives : (bytes : List ℕ) (place i : ℕ) → Stands text bytes place → i < length numbers →
+  pub gives : (bytes : List ℕ) (place i : ℕ) → TextStands text bytes place → i < length numbers →
       Selects bytes place (length numbers) i (slice_index_or numbers i 0)
-  pub ends : (bytes : List ℕ) (place : ℕ) → Stands text bytes place → SelectEnds bytes (length numbers) place (place + length text)
+  pub ends : (bytes : List ℕ) (place : ℕ) → TextStands text bytes place → SelectEnds bytes (length numbers) place (place + length text)
 
 -- format 0: a byte for each glyph
 abbrev pub listed_text : (numbers : List ℕ) → List ℕ

@@ -3,8 +3,8 @@ use Rattle.std.specs.Prelude.{◌≡◌, ℕ, ◌<◌, ◌==◌, ◌||◌, List,
 use Rattle.std.specs.List.{filter, range_with_len}
 use Rattle.postscript_view.specs.Layout.{IsLaidOut}
 use Rattle.postscript_view.specs.Contents.{View}
-use Rattle.postscript_write.specs.Fonts.{IsFontOf}
 use Rattle.postscript_write.specs.Glyphs.{Sources}
+use Rattle.postscript_write.specs.Making.{Making}
 
 -- every one of so many glyphs, in its place
 abbrev pub every : (glyphs : ℕ) → Sources
@@ -45,10 +45,10 @@ pub record AreMarks (named : List ℕ) (glyphs : ℕ) (marks : List Bool) : Type
   pub there : AreThere named glyphs
   pub each : (glyph : ℕ) → glyph < glyphs → (slice_index_or marks glyph false || (glyph == 0)) ≡ is_kept named glyph
 
--- Fonts begin both texts, and the new one is made of glyphs of the old one: those that this gives for so many.
-pub record IsWritten (kept : Bool) (sources : (glyphs : ℕ) → Sources) (bytes flat : List ℕ) : Type 0 where
+-- Fonts begin both texts, and the new one is so made of glyphs of the old one: those that this gives for so many.
+pub record IsWritten (is_made : Making) (sources : (glyphs : ℕ) → Sources) (bytes flat : List ℕ) : Type 0 where
   pub old : View
   pub new : View
   pub was : IsLaidOut bytes 0 old
   pub is : IsLaidOut flat 0 new
-  pub made : IsFontOf kept (sources (length old.char_strings)) bytes old flat new
+  pub made : is_made (sources (length old.char_strings)) bytes old flat new

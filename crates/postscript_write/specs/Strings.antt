@@ -1,12 +1,10 @@
 -- The strings of a font that is made of glyphs of another one, and what names them (Technical Note 5176, sections 9, 10 and 13).
-use Rattle.std.specs.Prelude.{◌≡◌, ◌↔◌, ◌⊎◌, ℕ, ◌+◌, ◌<◌, ℤ, pos, List, Option, Some, None, Bool, ◌||◌, length, nat_lt, slice_index_or, All, Any, MatchBool, if◌then◌else◌}
-use Rattle.std.specs.Option.{option_and_then, is_some}
+use Rattle.std.specs.Prelude.{◌≡◌, ◌↔◌, ◌⊎◌, ℕ, ◌+◌, ◌<◌, ℤ, pos, List, Option, Some, None, Bool, length, nat_lt, slice_index_or, All, Any, MatchBool, if◌then◌else◌}
+use Rattle.std.specs.Option.{option_and_then}
 use Rattle.postscript_base.specs.Compact1.Decimal.{to_i32}
 use Rattle.postscript_base.specs.Compact1.Defaults.{look, first_of}
 use Rattle.postscript_base.specs.Compact1.Dictionary.{Dictionary}
 use Rattle.postscript_base.specs.declared.compact1.operator.Operator.{Operator}
-use Rattle.postscript_base.specs.declared.compact1.operator.Operator.TheVariants as operators
-use Rattle.postscript_view.specs.CharSets.{IsCharSetOf}
 use Rattle.postscript_view.specs.Naming.{Names}
 use Rattle.postscript_view.specs.Contents.{Tables, View}
 use Rattle.postscript_view.specs.Strings.{HasString, string_of}
@@ -88,18 +86,7 @@ pub record CutsStrings (sources : Sources) (old : View) (old_set : CharSetView) 
   pub glyphs : SameTexts old_set old.tables.strings sources new_set new.tables.strings
   pub needed : AreNeeded new new_set
 
--- Strings are kept where glyphs keep their numbers, and in a CID-keyed font, whose glyphs have no names (section 18).
-abbrev pub keeps_strings : (kept : Bool) → Dictionary → Bool
-keeps_strings kept map = kept || is_some (look map operators.ROS)
-
+-- Where strings are kept, they stay; else they are cut.
 abbrev pub SameStrings : (keeps : Bool) → Sources → View → CharSetView → View → CharSetView → Type 0
 SameStrings keeps sources old old_set new new_set =
     MatchBool keeps (KeepsStrings sources old old_set new new_set) (CutsStrings sources old old_set new new_set)
-
--- the char sets of both fonts, and what names strings
-pub record KeepsNames (kept : Bool) (sources : Sources) (bytes : List ℕ) (old : View) (flat : List ℕ) (new : View) : Type 0 where
-  pub old_set : CharSetView
-  pub new_set : CharSetView
-  pub was : IsCharSetOf old_set bytes old.tables.dictionary (length old.char_strings)
-  pub is : IsCharSetOf new_set flat new.tables.dictionary (length new.char_strings)
-  pub strings : SameStrings (keeps_strings kept old.tables.dictionary) sources old old_set new new_set

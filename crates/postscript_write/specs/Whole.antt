@@ -113,5 +113,5 @@ abbrev pub HasNoByteBeside : List ℕ → View → Type 0
 HasNoByteBeside flat new = PartsEnd flat new (length flat)
 
 -- bytes that begin with a font, and no byte stands beside its parts
-abbrev pub IsWhole : List ℕ → Type 0
-IsWhole flat = (font : View) × IsLaidOut flat 0 font × HasNoByteBeside flat font
+abbrev pub IsWholeFont : List ℕ → Type 0
+IsWholeFont flat = (font : View) × IsLaidOut flat 0 font × HasNoByteBeside flat font

@@ -12,10 +12,10 @@ use Rattle.postscript_write.specs.Arrangement.{beginnings, places_of}
 use Rattle.postscript_write.specs.ArrangedText.{NameParts, PartsStand, dictionaries_text, parts_text, tables_text}
 use Rattle.postscript_write.specs.Dictionaries.{IsHeld, IsPlaced, IsWithPlaces}
 use Rattle.postscript_write.specs.Fonts.{HasHeader}
-use Rattle.postscript_write.specs.Index.{Fits, index_text}
+use Rattle.postscript_write.specs.Index.{FitsIndex, index_text}
 use Rattle.postscript_write.specs.Privates.{AreOwnPrivates, NoneIsNamed, private_offset, private_text}
 use Rattle.postscript_write.specs.Renumbered.{IsRenamed, all_renamed}
-use Rattle.postscript_write.specs.Texts.{Stands}
+use Rattle.postscript_write.specs.Texts.{TextStands}
 use Rattle.postscript_write.specs.declared.layout.Glyphs.{Glyphs}
 use Rattle.postscript_write.specs.declared.layout.Parts.{Parts}
 
@@ -36,7 +36,7 @@ pub record TablesStand (font : FontView) (glyphs : Glyphs) (parts : Parts) (star
 
 -- What is written of a font with glyphs of these codes: tables, and the parts behind them. Its dictionary is that of the font, but with the
 -- new identifiers of strings, and with the places where the parts stand.
-pub record IsWritten (font : FontView) (glyphs : Glyphs) (codes : List (List ℕ)) (out : List ℕ) : Type 0 where
+pub record IsPutTogether (font : FontView) (glyphs : Glyphs) (codes : List (List ℕ)) (out : List ℕ) : Type 0 where
   pub parts : Parts
   pub dictionary : List ℕ
   pub placed : List ℕ
@@ -46,11 +46,11 @@ pub record IsWritten (font : FontView) (glyphs : Glyphs) (codes : List (List ℕ
   pub text : out ≡ tables ++ parts_text parts dictionaries
   pub of_glyphs : parts.glyphs.now ≡ glyphs
   pub counted : parts.dictionaries ≡ length (dictionaries_text parts.glyphs.now.select dictionaries)
-  pub names_fit : Fits (items_of font.names)
-  pub dictionary_fits : Fits (placed ∷ [])
-  pub strings_fit : Fits (texts glyphs.strings.texts.items)
-  pub char_strings_fit : Fits codes
-  pub dictionaries_fit : IsSome parts.glyphs.now.select → Fits dictionaries
+  pub names_fit : FitsIndex (items_of font.names)
+  pub dictionary_fits : FitsIndex (placed ∷ [])
+  pub strings_fit : FitsIndex (texts glyphs.strings.texts.items)
+  pub char_strings_fit : FitsIndex codes
+  pub dictionaries_fit : IsSome parts.glyphs.now.select → FitsIndex dictionaries
   pub char_strings : parts.char_strings.items ≡ index_text codes
   pub privates : AreParts font.bytes.now font.dictionary (parts_shown font.parts.items) →
       AreOwnPrivates (parts_shown font.parts.items) parts.privates.items
@@ -65,6 +65,6 @@ pub record IsWritten (font : FontView) (glyphs : Glyphs) (codes : List (List ℕ
   pub dictionaries_stand : IsSome parts.glyphs.now.select → IsIndexAt out (beginnings (length tables) parts).dictionaries dictionaries
   pub stand : PartsStand parts dictionaries out (beginnings (length tables) parts)
   pub privates_stand : (number : ℕ) → number < length parts.privates.items →
-      Stands (private_text (slice_index_or parts.privates.items number None)) out
+      TextStands (private_text (slice_index_or parts.privates.items number None)) out
       (private_offset (beginnings (length tables) parts).privates parts.privates.items number)
   pub private_places : NameParts font.bytes.now font.dictionary parts (beginnings (length tables) parts).privates dictionaries

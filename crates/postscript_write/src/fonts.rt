@@ -8,14 +8,16 @@ ghost use Rattle.postscript_view.specs.Contents.{View};
 ghost use Rattle.postscript_view.specs.Value.{view_shown};
 ghost use Rattle.postscript_write.specs.Components.{AreKept, IsSubset};
 ghost use Rattle.postscript_write.specs.Drawings.{DrawsKept, KeepsDrawings};
+ghost use Rattle.postscript_write.specs.Making.{IsCutFont, IsFontBy, IsKeptFont};
 ghost use Rattle.postscript_write.specs.Readings.{HasLenientFont};
 ghost use Rattle.postscript_write.specs.Refusals.{IsChoiceRefusedBy, IsRefusedBy, IsSubsetRefusedBy};
 ghost use Rattle.postscript_write.specs.Room.{IsRead};
+ghost use Rattle.postscript_write.specs.SameGlyphs.{GlyphsKept, KeepsGlyphs};
 ghost use Rattle.postscript_write.specs.Selected.{AreLow};
 ghost use Rattle.postscript_write.specs.Sizes.{IsSmall};
 ghost use Rattle.postscript_write.specs.Sources.{AreThere, IsWritten, choice_by, chosen as the_chosen, every as the_every, keeping as the_keeping};
 ghost use Rattle.postscript_write.specs.Steps.{IsNotOpened};
-ghost use Rattle.postscript_write.specs.Whole.{IsWhole};
+ghost use Rattle.postscript_write.specs.Whole.{IsWholeFont};
 ghost use Rattle.postscript_write.specs.declared.error.Error.TheVariants as errors;
 
 use crate::closure::closed_over;
@@ -52,8 +54,9 @@ fn only_font<'l>(alloc: Global, bytes: &'l [u8]) -> Result<FontView<'l>>
 /// 2,000,000,000 bytes or more together.
 pub fn flat_font(alloc: Global, bytes: &[u8]) -> Result<Vec<u8>>
     ensures drawn { IfOk result (λ flat. KeepsDrawings the_every bytes.now flat.items) }
-    ensures written { IfOk result (λ flat. IsWritten true the_every bytes.now flat.items) }
-    ensures whole { IfOk result (λ flat. IsWhole flat.items) }
+    ensures same { IfOk result (λ flat. KeepsGlyphs the_every bytes.now flat.items) }
+    ensures written { IfOk result (λ flat. IsWritten IsKeptFont the_every bytes.now flat.items) }
+    ensures whole { IfOk result (λ flat. IsWholeFont flat.items) }
     ensures small { IfOk result (λ flat. IsSmall bytes.now flat.items) }
     ensures lenient { IfOk result (λ flat. HasLenientFont bytes.now → HasLenientFont flat.items) }
     ensures one { OnOk result (the_fonts bytes.now 0 ≡ Got 1 0) }
@@ -87,8 +90,8 @@ pub fn kept_glyphs(alloc: Global, bytes: &[u8], named: &[usize]) -> Result<Vec<u
 
 /// What `subset` answers, or `subset_keeping`, where glyphs keep their numbers.
 fn subset_by(alloc: Global, bytes: &[u8], named: &[usize], retain_gids: bool) -> Result<Vec<u8>>
-    ensures written { IfOk result (λ flat. IsSubset retain_gids (choice_by retain_gids) named.now bytes.now flat.items) }
-    ensures whole { IfOk result (λ flat. IsWhole flat.items) }
+    ensures written { IfOk result (λ flat. IsSubset (IsFontBy retain_gids) (choice_by retain_gids) named.now bytes.now flat.items) }
+    ensures whole { IfOk result (λ flat. IsWholeFont flat.items) }
     ensures small { IfOk result (λ flat. IsSmall bytes.now flat.items) }
     ensures lenient { IfOk result (λ flat. HasLenientFont bytes.now → HasLenientFont flat.items) }
     ensures one { OnOk result (the_fonts bytes.now 0 ≡ Got 1 0) }
@@ -117,8 +120,9 @@ fn subset_by(alloc: Global, bytes: &[u8], named: &[usize], retain_gids: bool) ->
 /// has no identifier for a glyph; and as `flat_font` is, but only for these glyphs.
 pub fn subset(alloc: Global, bytes: &[u8], named: &[usize]) -> Result<Vec<u8>>
     ensures drawn { IfOk result (λ flat. DrawsKept the_chosen named.now bytes.now flat.items) }
-    ensures written { IfOk result (λ flat. IsSubset false the_chosen named.now bytes.now flat.items) }
-    ensures whole { IfOk result (λ flat. IsWhole flat.items) }
+    ensures same { IfOk result (λ flat. GlyphsKept the_chosen named.now bytes.now flat.items) }
+    ensures written { IfOk result (λ flat. IsSubset IsCutFont the_chosen named.now bytes.now flat.items) }
+    ensures whole { IfOk result (λ flat. IsWholeFont flat.items) }
     ensures small { IfOk result (λ flat. IsSmall bytes.now flat.items) }
     ensures lenient { IfOk result (λ flat. HasLenientFont bytes.now → HasLenientFont flat.items) }
     ensures one { OnOk result (the_fonts bytes.now 0 ≡ Got 1 0) }
@@ -136,8 +140,9 @@ pub fn subset(alloc: Global, bytes: &[u8], named: &[usize]) -> Result<Vec<u8>>
 /// these glyphs.
 pub fn subset_keeping(alloc: Global, bytes: &[u8], named: &[usize]) -> Result<Vec<u8>>
     ensures drawn { IfOk result (λ flat. DrawsKept the_keeping named.now bytes.now flat.items) }
-    ensures written { IfOk result (λ flat. IsSubset true the_keeping named.now bytes.now flat.items) }
-    ensures whole { IfOk result (λ flat. IsWhole flat.items) }
+    ensures same { IfOk result (λ flat. GlyphsKept the_keeping named.now bytes.now flat.items) }
+    ensures written { IfOk result (λ flat. IsSubset IsKeptFont the_keeping named.now bytes.now flat.items) }
+    ensures whole { IfOk result (λ flat. IsWholeFont flat.items) }
     ensures small { IfOk result (λ flat. IsSmall bytes.now flat.items) }
     ensures lenient { IfOk result (λ flat. HasLenientFont bytes.now → HasLenientFont flat.items) }
     ensures one { OnOk result (the_fonts bytes.now 0 ≡ Got 1 0) }

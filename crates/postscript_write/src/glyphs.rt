@@ -5,7 +5,7 @@ ghost use Rattle.postscript_type2.specs.Program.Routines.{texts};
 ghost use Rattle.postscript_write.specs.declared.error.Error.TheVariants as errors;
 ghost use Rattle.postscript_view.specs.Value.{view_shown};
 ghost use Rattle.postscript_base.specs.Index.Lent.{items_of};
-ghost use Rattle.postscript_write.specs.Glyphs.{AreCodesOf, AreGlyphs, AreNumbersOf, HasPartFor, IsCodeFor, IsCodeOf, IsGlyph, code_text};
+ghost use Rattle.postscript_write.specs.Glyphs.{AreCodesOf, AreGlyphs, AreNumbersOf, ShowsPartFor, IsCodeFor, IsCodeOf, IsGlyph, code_text};
 ghost use Rattle.postscript_view.specs.Glyphs.{HasPartNumber};
 ghost use Rattle.postscript_write.specs.Refusals.{FontRefusedBy};
 ghost use Rattle.postscript_write.specs.Steps.{RefusedBy, RefusedFor};
@@ -18,7 +18,7 @@ use std::alloc::Global;
 
 /// The number of the part of the glyph that a glyph is made of.
 fn number_of(font: &FontView<'_>, source: Option<usize>) -> Result<usize>
-    ensures number { IfOk result (λ number. HasPartFor font.now.bytes.now (view_shown font.now) source number) }
+    ensures number { IfOk result (λ number. ShowsPartFor font.now.bytes.now (view_shown font.now) source number) }
     ensures there { OnOk result (IsGlyph source (length (items_of font.now.char_strings))) }
     ensures refused { IfErr result (λ e. (glyph : ℕ) × (source ≡ Some glyph) × (e ≡ errors.MissingPart glyph)
         × ((part : ℕ) → HasPartNumber font.now glyph part → ⊥)) }
@@ -106,7 +106,7 @@ fn code_of(
     number: usize,
 ) -> Result<Vec<u8>>
     requires glyph { IsGlyph source (length (items_of font.now.char_strings)) }
-    requires part { HasPartFor font.now.bytes.now (view_shown font.now) source number }
+    requires part { ShowsPartFor font.now.bytes.now (view_shown font.now) source number }
     ensures code { IfOk result (λ flat. IsCodeFor (view_shown font.now) source number flat.items) }
     ensures refused { IfErr result (λ e. RefusedFor (view_shown font.now) source number e) }
 {

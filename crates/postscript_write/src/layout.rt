@@ -25,20 +25,20 @@ ghost use Rattle.postscript_write.specs.DictionarySizes.{HasSize, places_size};
 ghost use Rattle.postscript_write.specs.Fonts.{NamesNoPrivateIfKeyed};
 ghost use Rattle.postscript_write.specs.Given.{AreGiven};
 ghost use Rattle.postscript_write.specs.GivenNumbers.{AreTheirNumbers, GivesWayTo, StaysEncoded};
-ghost use Rattle.postscript_write.specs.Index.{Fits, index_text};
+ghost use Rattle.postscript_write.specs.Index.{FitsIndex, index_text};
 ghost use Rattle.postscript_write.specs.LaidOut.{IsLaidOutOf, SelectsExactly};
 ghost use Rattle.postscript_view.specs.declared.char_set.CharSetView.{CharSetView as Set};
 ghost use Rattle.postscript_view.specs.declared.encoding.EncodingView.{EncodingView as Encodings};
-ghost use Rattle.postscript_write.specs.Own.{IsCut, IsOwnCharSet, IsOwnEncoding};
+ghost use Rattle.postscript_write.specs.Own.{IsCutFrom, IsOwnCharSet, IsOwnEncoding};
 ghost use Rattle.postscript_write.specs.Privates.{AreFontDictionaries, AreSized, AreOwnPrivates, IsFontDictionary, IsOwnPrivate, IsSomeDictionary, NoneIsNamed, place_of_private, private_text, privates_text};
 ghost use Rattle.postscript_write.specs.Glyphs.{Sources};
 ghost use Rattle.postscript_write.specs.Identified.{AreNamesFor, Identifiers};
-ghost use Rattle.postscript_write.specs.ReadBack.{HasCharSetText, HasNames, HasOtherCodes, HasSameCodes, IsAsWritten};
+ghost use Rattle.postscript_write.specs.ReadBack.{HasCharSetText, HasNames, HasOtherCodes, HasSameCodes, IsAsWritten, keeps_strings};
 ghost use Rattle.postscript_write.specs.Renumbered.{IsRenamed, IsUnnamed, all_renamed, renamed_if};
 ghost use Rattle.postscript_write.specs.Room.{HasRoom, IsRead, SelectsOnlyIfKeyed};
-ghost use Rattle.postscript_write.specs.Strings.{identifier_in as the_identifier, keeps_strings};
-ghost use Rattle.postscript_write.specs.Whole.{IsWhole};
-ghost use Rattle.postscript_write.specs.Written.{IsWritten};
+ghost use Rattle.postscript_write.specs.Strings.{identifier_in as the_identifier};
+ghost use Rattle.postscript_write.specs.Whole.{IsWholeFont};
+ghost use Rattle.postscript_write.specs.Written.{IsPutTogether};
 
 use crate::dictionaries::{Place, with_places, without};
 use crate::indices::put_index;
@@ -102,7 +102,7 @@ fn first_dictionary(bytes: &[u8]) -> Result<&[u8]>
 
 /// The bytes from one place to another, where they stand.
 fn bytes_to(bytes: &[u8], from: usize, to: Option<usize>) -> Result<&[u8]>
-    ensures cut { IfOk result (λ cut. (next : ℕ) × (to ≡ Some next) × IsCut bytes.now from next cut.now) }
+    ensures cut { IfOk result (λ cut. (next : ℕ) × (to ≡ Some next) × IsCutFrom bytes.now from next cut.now) }
     ensures refused { IfErr result (λ e. (next : ℕ) → to ≡ Some next → from ≤ next → next ≤ length bytes.now → ⊥) }
 {
     match to {
@@ -506,7 +506,7 @@ fn put_dictionary(
 ) -> Result<()>
     ensures text { OnOk result ((placed : List ℕ) × (out.new.items ≡ out.old.items ++ index_text (placed ∷ []))
         × IsWithPlaces dictionary.now places.now placed × HasSize dictionary.now places.now (length placed)
-        × Fits (placed ∷ [])) }
+        × FitsIndex (placed ∷ [])) }
     ensures held { OnOk result (All IsHeld places.now) }
     ensures refused { IfErr result (λ e. e ≢ errors.Memory → All IsHeld places.now → IsSomeDictionary dictionary.now →
         length dictionary.now + places_size places.now < 2 ^ 31 → ⊥) }
@@ -529,12 +529,12 @@ fn put_tables(
     ensures text { OnOk result ((placed : List ℕ) × (out.new.items ≡ out.old.items
         ++ tables_text (items_of font.now.names) placed (texts strings.now))
         × IsWithPlaces dictionary.now places.now placed × HasSize dictionary.now places.now (length placed)
-        × Fits (placed ∷ [])) }
-    ensures names_fit { OnOk result (Fits (items_of font.now.names)) }
-    ensures strings_fit { OnOk result (Fits (texts strings.now)) }
+        × FitsIndex (placed ∷ [])) }
+    ensures names_fit { OnOk result (FitsIndex (items_of font.now.names)) }
+    ensures strings_fit { OnOk result (FitsIndex (texts strings.now)) }
     ensures held { OnOk result (All IsHeld places.now) }
     ensures refused { IfErr result (λ e. e ≢ errors.Memory → All IsHeld places.now → IsSomeDictionary dictionary.now →
-        length dictionary.now + places_size places.now < 2 ^ 31 → Fits (items_of font.now.names) → Fits (texts strings.now) → ⊥) }
+        length dictionary.now + places_size places.now < 2 ^ 31 → FitsIndex (items_of font.now.names) → FitsIndex (texts strings.now) → ⊥) }
 {
     let names = copied(alloc, &font.names)?;
     out.extend_from_slice(&[1, 0, 4, 4])?;
@@ -555,7 +555,7 @@ fn tables_of(
     ensures tables { IfOk result (λ out. AreTablesOf font.now dictionary.now parts.now start out.items) }
     ensures refused { IfErr result (λ e. e ≢ errors.Memory → IsSomeDictionary dictionary.now →
         (beginnings start parts.now).end < 2 ^ 31 → length dictionary.now + places_size (places_of start parts.now) < 2 ^ 31 →
-        Fits (items_of font.now.names) → Fits (texts parts.now.glyphs.now.strings.texts.items) → ⊥) }
+        FitsIndex (items_of font.now.names) → FitsIndex (texts parts.now.glyphs.now.strings.texts.items) → ⊥) }
 {
     let places = places_from(alloc, start, parts)?;
     let mut out = Vec::new(alloc);
@@ -611,7 +611,7 @@ fn put_dictionaries(
         NameParts font.now.bytes.now font.now.dictionary parts.now start dictionaries)
         × (IsSome parts.now.glyphs.now.select →
         AreSizedFor font.now.bytes.now font.now.dictionary parts.now.privates.items dictionaries)
-        × (IsSome parts.now.glyphs.now.select → Fits dictionaries)) }
+        × (IsSome parts.now.glyphs.now.select → FitsIndex dictionaries)) }
     ensures refused { IfErr result (λ e. e ≢ errors.Memory → IsRead font.now → SelectsOnlyIfKeyed font.now parts.now.glyphs.now →
         length font.now.parts.items < 2 ^ 16 → AreOwnPrivates (parts_shown font.now.parts.items) parts.now.privates.items →
         start + length (privates_text parts.now.privates.items) < 2 ^ 31 → ⊥) }
@@ -630,7 +630,7 @@ fn put_parts(alloc: Global, out: &mut Vec<u8>, font: &FontView<'_>, parts: &Part
         × NameParts font.now.bytes.now font.now.dictionary parts.now (beginnings (length out.old.items) parts.now).privates dictionaries
         × (IsSome parts.now.glyphs.now.select →
         AreSizedFor font.now.bytes.now font.now.dictionary parts.now.privates.items dictionaries)
-        × (IsSome parts.now.glyphs.now.select → Fits dictionaries)) }
+        × (IsSome parts.now.glyphs.now.select → FitsIndex dictionaries)) }
     ensures refused { IfErr result (λ e. e ≢ errors.Memory → IsRead font.now → SelectsOnlyIfKeyed font.now parts.now.glyphs.now →
         length font.now.parts.items < 2 ^ 16 → AreOwnPrivates (parts_shown font.now.parts.items) parts.now.privates.items →
         (beginnings (length out.old.items) parts.now).end < 2 ^ 31 → ⊥) }
@@ -676,11 +676,11 @@ pub(crate) fn written(
     glyphs: &Glyphs,
     codes: &[Vec<u8>],
 ) -> Result<Vec<u8>>
-    ensures written { IfOk result (λ out. IsWritten font.now glyphs.now (texts codes.now) out.items) }
+    ensures written { IfOk result (λ out. IsPutTogether font.now glyphs.now (texts codes.now) out.items) }
     ensures laid_out { IfOk result (λ out. IsRead font.now → SelectsExactly font.now glyphs.now →
         IsLaidOutOf font.now glyphs.now (texts codes.now) out.items) }
     ensures whole { IfOk result (λ out. IsRead font.now → SelectsExactly font.now glyphs.now →
-        AreGiven font.now glyphs.now (length (texts codes.now)) → IsWhole out.items) }
+        AreGiven font.now glyphs.now (length (texts codes.now)) → IsWholeFont out.items) }
     ensures back { IfOk result (λ out. IsRead font.now → SelectsExactly font.now glyphs.now →
         AreGiven font.now glyphs.now (length (texts codes.now)) → (numbers : List ℕ) →
         AreTheirNumbers font.now glyphs.now (length (texts codes.now)) numbers → (new : View) → IsLaidOut out.items 0 new →

@@ -9,16 +9,16 @@ ghost use Rattle.postscript_view.specs.Layout.{IsLaidOut};
 ghost use Rattle.postscript_view.specs.Contents.{View};
 ghost use Rattle.postscript_base.specs.Index.Lent.{items_of};
 ghost use Rattle.postscript_view.specs.Value.{view_shown};
-ghost use Rattle.postscript_write.specs.Fonts.{IsFontOf};
 ghost use Rattle.postscript_write.specs.Glyphs.{AreCodesOf, AreGlyphs, AreNumbersOf};
 ghost use Rattle.postscript_write.specs.Identified.{AreSources, AreSourcesFor};
+ghost use Rattle.postscript_write.specs.Making.{IsFontBy};
 ghost use Rattle.postscript_write.specs.ReadBack.{IsReadAs};
 ghost use Rattle.postscript_write.specs.Readings.{HasLenientFont};
 ghost use Rattle.postscript_write.specs.Refusals.{FontRefusedBy};
 ghost use Rattle.postscript_write.specs.Room.{IsRead};
 ghost use Rattle.postscript_write.specs.Selected.{AreLow};
 ghost use Rattle.postscript_write.specs.Sizes.{IsLarge};
-ghost use Rattle.postscript_write.specs.Whole.{IsWhole};
+ghost use Rattle.postscript_write.specs.Whole.{IsWholeFont};
 ghost use Rattle.postscript_write.specs.declared.error.Error.TheVariants as errors;
 
 use crate::error::{Error, Result, of_memory};
@@ -64,8 +64,8 @@ fn put_together(
     ensures made { IfOk result (λ flat. (new : View) × IsReadAs from.now.retain_gids from.now.sources.now (view_shown from.now.font.now)
         from.now.set.now from.now.encoding.now from.now.numbers.now (texts from.now.codes.now) flat.items new) }
     ensures font { IfOk result (λ flat. (new : View) × IsLaidOut flat.items 0 new
-        × IsFontOf from.now.retain_gids from.now.sources.now from.now.font.now.bytes.now (view_shown from.now.font.now) flat.items new) }
-    ensures whole { IfOk result (λ flat. IsWhole flat.items) }
+        × IsFontBy from.now.retain_gids from.now.sources.now from.now.font.now.bytes.now (view_shown from.now.font.now) flat.items new) }
+    ensures whole { IfOk result (λ flat. IsWholeFont flat.items) }
     ensures codes { IfOk result (λ flat. (new : View) → IsLaidOut flat.items 0 new → new.char_strings ≡ texts from.now.codes.now) }
     ensures lenient { IfOk result (λ flat. HasLenientFont from.now.font.now.bytes.now → HasLenientFont flat.items) }
     ensures memory { IfErr result (λ e. e ≡ errors.Refused causes.Memory) }
@@ -110,8 +110,8 @@ pub(crate) fn font_of(
     requires few { length sources.now < 2 ^ 16 }
     requires sources { AreSources retain_gids (length (items_of font.now.char_strings)) sources.now }
     ensures font { IfOk result (λ flat. (new : View) × IsLaidOut flat.items 0 new
-        × IsFontOf retain_gids sources.now font.now.bytes.now (view_shown font.now) flat.items new) }
-    ensures whole { IfOk result (λ flat. IsWhole flat.items) }
+        × IsFontBy retain_gids sources.now font.now.bytes.now (view_shown font.now) flat.items new) }
+    ensures whole { IfOk result (λ flat. IsWholeFont flat.items) }
     ensures small { IfOk result (λ flat. (new : View) → IsLaidOut flat.items 0 new →
         IsLarge font.now.bytes.now (view_shown font.now) new.char_strings → ⊥) }
     ensures lenient { IfOk result (λ flat. HasLenientFont font.now.bytes.now → HasLenientFont flat.items) }

@@ -1,6 +1,6 @@
 use Rattle.std.proofs.Common.{◌≡◌, rules, sym, subst, Ok, ℤ, to_z, of_z, w32}
 use Rattle.postscript_c.specs.Either.{TellsGlyphOf}
-use Rattle.postscript_c.specs.Law.{IsFontOf}
+use Rattle.postscript_c.specs.Law.{OpensFont}
 use Rattle.postscript_c.specs.VariedTold.{outline_room}
 use Rattle.postscript_c.specs.declared.font.PsfFont.{PsfFont}
 use Rattle.postscript_c.proofs.Agreeing.{font_of}
@@ -14,7 +14,7 @@ returns-in-Ok c =
     (outline_room c.args.segments.now c.args.count.now c.args.bounds.now)
     (outline_room c.tell_glyph_of.new.segments c.tell_glyph_of.new.count c.tell_glyph_of.new.bounds) in (
       Ok c.in-Ok.font,
-      subst (IsFontOf c.args.bytes.now) c.in-Ok.is is,
+      subst (OpensFont c.args.bytes.now) c.in-Ok.is is,
       subst (λ font. Tells font (to_z w32 (of_z w32 c.tell_glyph_of.result))) c.within.ensures
           (subst (Tells c.within.result) (sym same) c.tell_glyph_of.ensures),
     )

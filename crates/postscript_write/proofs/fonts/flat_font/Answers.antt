@@ -1,13 +1,14 @@
 use Rattle.std.proofs.Common.{sym, ◌≡◌, ◌∙◌, ap, subst, List, length, arith}
-use Rattle.std.specs.Prelude.{IfOk, Option, true, ℕ}
+use Rattle.std.specs.Prelude.{IfOk, Option, ℕ}
 use Rattle.postscript_view.specs.Value.{view_shown}
-use Rattle.postscript_write.specs.Fonts.{IsFontOf}
+use Rattle.postscript_write.specs.Making.{IsKeptFont}
 use Rattle.postscript_write.specs.Readings.{HasLenientFont}
 use Rattle.postscript_write.specs.Refusals.{FontRefusedBy}
 use Rattle.postscript_write.specs.Sources.{every}
 use Rattle.std.proofs.lemmas.Result.{err_from_is_err_and}
 use Rattle.postscript_write.proofs.ReadAgain.{small_so}
 use Rattle.postscript_write.proofs.Drawings.{flat-drawn}
+use Rattle.postscript_write.proofs.SameGlyphs.{flat-same}
 use Rattle.postscript_write.proofs.Making.{if_err, if_ok, is_refused, memory_bytes, not_opened, on_ok}
 use Rattle.postscript_base.specs.Index.Lent.{items_of}
 use Rattle.postscript_write.specs.Identified.{KeepNumbers}
@@ -25,8 +26,8 @@ returns-clause-written c =
       new = made.0;
       was = c.in_ok-font.ensures.is;
       is = made.1;
-      made = subst (λ (s : List (Option ℕ)). IsFontOf true s c.args.bytes.now old flat.items made.0) are
-          (subst (λ (bs : List ℕ). IsFontOf true c.deref.result.now bs old flat.items made.0) bytes made.2);
+      made = subst (λ (s : List (Option ℕ)). IsKeptFont s c.args.bytes.now old flat.items made.0) are
+          (subst (λ (bs : List ℕ). IsKeptFont c.deref.result.now bs old flat.items made.0) bytes made.2);
     }) c.font_of.ensures.font
 
 pub returns-clause-refused : goal.returns-clause-refused
@@ -78,3 +79,6 @@ returns-clause-small c =
     if_ok c.font_of.result (λ flat small. small_so c.in_ok-font.font c.args.bytes.now flat.items c.in_ok-font.ensures.is
     c.in_ok-font.ensures.bytes small)
     c.font_of.ensures.small
+
+pub returns-clause-same : goal.returns-clause-same
+returns-clause-same c = flat-same c.font_of.result c.args.bytes.now (returns-clause-written c)

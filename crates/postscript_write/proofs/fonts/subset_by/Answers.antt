@@ -13,6 +13,7 @@ use Rattle.postscript_write.proofs.Making.{if_ok, on_ok}
 use Rattle.postscript_write.proofs.Subsets.{closed-so, not-chosen, not-closed, not-opened, subset-made, subset-refused}
 use Rattle.postscript_base.specs.Index.Lent.{items_of}
 use Rattle.postscript_write.specs.Identified.{AreSources}
+use Rattle.postscript_write.specs.Making.{IsFontBy}
 use Rattle.postscript_write.proofs.Sourced.{long_by, sources_by}
 use Rattle.postscript_write.proofs.fonts.subset_by.Goals as goal
 
@@ -24,7 +25,7 @@ returns-clause-written c =
     let same = c.deref-2.ensures.value ∙ c.in_ok-sources.ensures.sources
     ∙ ap (λ n. choice_by c.args.retain_gids c.deref.result.now n) c.len.ensures
     ∙ ap (λ xs. choice_by c.args.retain_gids xs (glyphs_of font)) c.deref.ensures.value in
-    subset-made c.font_of.result c.args.retain_gids
+    subset-made c.font_of.result (IsFontBy c.args.retain_gids)
     (choice_by c.args.retain_gids) font c.args.bytes.now c.args.named.now closed c.deref-2.result.now opened
     (closed-so c.args.bytes.now c.args.named.now closed font opened c.in_ok-closed.ensures.closed) same c.font_of.ensures.font
 

@@ -1,5 +1,9 @@
 use Rattle.postscript_write.proofs.Drawings.{keeping-drawn}
+use Rattle.postscript_write.proofs.SameGlyphs.{keeping-same}
 use Rattle.postscript_write.proofs.fonts.subset_keeping.Goals as goal
 
 pub returns-clause-drawn : goal.returns-clause-drawn
 returns-clause-drawn c = keeping-drawn c.subset_by.result c.args.named.now c.args.bytes.now c.subset_by.ensures.written
+
+pub returns-clause-same : goal.returns-clause-same
+returns-clause-same c = keeping-same c.subset_by.result c.args.named.now c.args.bytes.now c.subset_by.ensures.written

@@ -5,7 +5,7 @@ use Rattle.std.proofs.lemmas.Result.{err_from_is_err_and}
 use Rattle.std.specs.Option.{is_none}
 use Rattle.postscript_type2.specs.Program.Routines.{texts}
 use Rattle.postscript_write.specs.ArrangedText.{AreSizedFor}
-use Rattle.postscript_write.specs.Index.{Fits, index_text}
+use Rattle.postscript_write.specs.Index.{FitsIndex, index_text}
 use Rattle.postscript_write.proofs.Few.{are_few, few_fit, few_most}
 use Rattle.postscript_write.proofs.Lengths.{none_text, some_text}
 use Rattle.postscript_write.proofs.layout.dictionaries_len.Goals as goal
@@ -41,7 +41,7 @@ returns-in_err-put_index-clause-refused c =
     elim c.in_err-put_index.ensures.refused [
       | inl memory ↦ other memory
       | inr bad ↦
-          bad.1 (subst (λ (ds : List (Vec ℕ Global)). Fits (texts ds)) (sym c.deref.ensures.value)
+          bad.1 (subst (λ (ds : List (Vec ℕ Global)). FitsIndex (texts ds)) (sym c.deref.ensures.value)
           (few_fit ds (are_few font.bytes.now font.dictionary font.parts.items c.args.privates.now ds keyed
           (read.few keyed) read.laid.parts parts c.in_ok-dictionaries.ensures.sized)))
     ])

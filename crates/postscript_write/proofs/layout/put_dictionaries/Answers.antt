@@ -5,7 +5,7 @@ use Rattle.std.proofs.lemmas.Result.{err_from_is_err_and}
 use Rattle.postscript_view.specs.Value.{parts_shown}
 use Rattle.std.specs.Option.{is_none}
 use Rattle.postscript_write.specs.Index.{index_text}
-use Rattle.postscript_write.specs.Index.{Fits}
+use Rattle.postscript_write.specs.Index.{FitsIndex}
 use Rattle.postscript_write.specs.Privates.{AreFontDictionaries, AreOwnPrivates, privates_text}
 use Rattle.postscript_type2.specs.Program.Routines.{texts}
 use Rattle.postscript_write.specs.ArrangedText.{AreSizedFor}
@@ -26,7 +26,7 @@ returns-clause-text c =
           (subst (λ ps. c.args.start + length (privates_text ps) < 2 ^ 64) (sym c.deref.ensures.value) fits)),
       λ is. subst (λ ps. AreSizedFor c.args.font.now.bytes.now c.args.font.now.dictionary ps ds) c.deref.ensures.value
           c.in_ok-dictionaries.ensures.sized,
-      λ is. subst (λ ds. Fits (texts ds)) c.deref-2.ensures.value c.in_ok-put_index.ensures.fits,
+      λ is. subst (λ ds. FitsIndex (texts ds)) c.deref-2.ensures.value c.in_ok-put_index.ensures.fits,
     )
 
 pub returns-in_err-dictionaries-clause-refused : goal.returns-in_err-dictionaries-clause-refused
@@ -50,7 +50,7 @@ returns-in_err-put_index-clause-refused c =
     elim c.in_err-put_index.ensures.refused [
       | inl memory ↦ other memory
       | inr bad ↦
-          bad.1 (subst (λ (ds : List (Vec ℕ Global)). Fits (texts ds)) (sym c.deref-2.ensures.value)
+          bad.1 (subst (λ (ds : List (Vec ℕ Global)). FitsIndex (texts ds)) (sym c.deref-2.ensures.value)
           (few_fit ds (are_few font.bytes.now font.dictionary font.parts.items c.deref.result.now ds keyed
           (read.few keyed) read.laid.parts parts c.in_ok-dictionaries.ensures.sized)))
     ])

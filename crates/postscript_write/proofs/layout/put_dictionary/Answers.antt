@@ -2,7 +2,7 @@ use Rattle.std.proofs.Common.{◌≡◌, ◌∙◌, ℕ, sym, ap, subst, List, [
 use Rattle.std.specs.declared.alloc.Global.{Global}
 use Rattle.std.proofs.lemmas.Result.{err_from_is_err_and}
 use Rattle.postscript_type2.specs.Program.Routines.{texts}
-use Rattle.postscript_write.specs.Index.{Fits}
+use Rattle.postscript_write.specs.Index.{FitsIndex}
 use Rattle.postscript_write.proofs.Room.{single_fits}
 use Rattle.postscript_write.proofs.Without.{sized_within}
 use Rattle.postscript_write.proofs.layout.put_dictionary.Goals as goal
@@ -23,6 +23,6 @@ returns-in_err-put_index-clause-refused c =
     let size = sized_within c.args.dictionary.now c.args.places.now (length placed.items) c.in_ok-with_places.ensures.sized in
     elim c.in_err-put_index.ensures.refused [
       | inl memory ↦ other memory
-      | inr bad ↦ bad.1 (subst (λ (ds : List (Vec ℕ Global)). Fits (texts ds)) (sym is)
+      | inr bad ↦ bad.1 (subst (λ (ds : List (Vec ℕ Global)). FitsIndex (texts ds)) (sym is)
           (single_fits placed.items (omega (arith, size, few))))
     ])

@@ -8,7 +8,7 @@ use Rattle.postscript_write.specs.Arrangement.{beginnings, places_of}
 use Rattle.postscript_write.specs.ArrangedText.{tables_text}
 use Rattle.postscript_write.specs.Dictionaries.{IsHeld, IsWithPlaces}
 use Rattle.postscript_write.specs.DictionarySizes.{HasSize, places_size}
-use Rattle.postscript_write.specs.Index.{Fits}
+use Rattle.postscript_write.specs.Index.{FitsIndex}
 use Rattle.postscript_write.specs.declared.dictionaries.Place.{Place}
 use Rattle.postscript_write.proofs.Room.{places_held}
 use Rattle.postscript_write.proofs.layout.tables_of.Goals as goal
@@ -29,7 +29,7 @@ returns-clause-tables c =
       held = λ small. subst (All IsHeld) (places small) c.in_ok-put_tables.ensures.held;
       names_fit = c.in_ok-put_tables.ensures.names_fit;
       dictionary_fits = put.4;
-      strings_fit = subst (λ ts. Fits (texts ts)) c.deref.ensures.value c.in_ok-put_tables.ensures.strings_fit;
+      strings_fit = subst (λ ts. FitsIndex (texts ts)) c.deref.ensures.value c.in_ok-put_tables.ensures.strings_fit;
     }
 
 pub returns-in_err-put_tables-clause-refused : goal.returns-in_err-put_tables-clause-refused
@@ -39,4 +39,4 @@ returns-in_err-put_tables-clause-refused c =
     let places = sym (c.deref-2.ensures.value ∙ c.in_ok-places.ensures.places (omega (arith, end))) in
     c.in_err-put_tables.ensures.refused other (subst (All IsHeld) places (places_held c.args.start c.args.parts.now end)) some
     (subst (λ (ps : List Place). length c.args.dictionary.now + places_size ps < 2 ^ 31) places few) names
-    (subst (λ (ts : List (Vec ℕ Global)). Fits (texts ts)) (sym c.deref.ensures.value) strings))
+    (subst (λ (ts : List (Vec ℕ Global)). FitsIndex (texts ts)) (sym c.deref.ensures.value) strings))

@@ -11,7 +11,7 @@ use Rattle.postscript_write.specs.Privates.{AreOwnPrivates, privates_text}
 use Rattle.postscript_view.specs.Value.{parts_shown}
 use Rattle.postscript_write.specs.declared.layout.Parts.{Parts}
 use Rattle.postscript_write.proofs.Lengths.{parts_end, parts_stand, same_tables, same_text}
-use Rattle.postscript_write.specs.Texts.{Stands}
+use Rattle.postscript_write.specs.Texts.{TextStands}
 use Rattle.postscript_write.proofs.Arranged.{private_there}
 use Rattle.postscript_write.proofs.TablesStand.{dictionaries_there, header_is, index_there, tables_are}
 use Rattle.postscript_write.proofs.Within.{HasFew, RefusesTables, codes_fit, end_within, tables_end, tables_written}
@@ -112,7 +112,7 @@ returns-clause-written c =
                 put.strings_fit new.1;
           };
       codes_stand = index_there (texts c.args.codes.now) out at.char_strings less c.in_ok-put_index.ensures.fits
-          (subst (λ xs. Stands xs out at.char_strings) codes_are stand.char_strings);
+          (subst (λ xs. TextStands xs out at.char_strings) codes_are stand.char_strings);
       dictionaries_stand = dictionaries_there glyphs.select behind.0 out at.dictionaries less behind.4 stand.font_dictionaries;
       stand = stand;
       privates_stand = λ number less. private_there parts.privates.items number out at.privates less stand.privates;

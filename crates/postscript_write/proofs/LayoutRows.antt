@@ -1,0 +1,68 @@
+-- Known texts and places of what is written (Technical Note 5176, sections 5, 10, 13 and 19).
+use Rattle.std.proofs.Common.{◌≡◌, refl, ap, ℕ, List, [], ◌∷◌, length}
+use Rattle.std.specs.Prelude.{Option, Some, None, slice_index_or}
+use Rattle.std.specs.Option.{unwrap_or}
+use Rattle.postscript_base.specs.declared.compact1.operator.Operator.TheVariants.{FullName}
+use Rattle.postscript_write.specs.Arrangement.{beginnings, place_at, text_of}
+use Rattle.postscript_write.specs.NewStrings.{left_of, names_text}
+use Rattle.postscript_write.specs.Privates.{privates_text}
+use Rattle.postscript_write.specs.Renumbered.{new_identifier, renamed}
+use Rattle.postscript_write.specs.Room.{index_room}
+use Rattle.postscript_write.specs.Selected.{listed_text, ranges_text}
+use Rattle.postscript_write.specs.Texts.{number_text}
+use Rattle.postscript_write.specs.declared.layout.Parts.{Parts}
+use Rattle.postscript_write.specs.declared.strings.Strings.{Strings}
+
+-- FDSelect of five glyphs, two of them with the font dictionary 0, by bytes and by ranges
+select_by_bytes : listed_text (0 ∷ 0 ∷ 1 ∷ 1 ∷ 1 ∷ []) ≡ 0 ∷ 0 ∷ 0 ∷ 1 ∷ 1 ∷ 1 ∷ []
+unfolding number_text
+select_by_bytes = refl
+
+select_by_ranges : ranges_text (0 ∷ 0 ∷ 1 ∷ 1 ∷ 1 ∷ []) (0 ∷ 2 ∷ []) ≡ 3 ∷ 0 ∷ 2 ∷ 0 ∷ 0 ∷ 0 ∷ 0 ∷ 2 ∷ 1 ∷ 0 ∷ 5 ∷ []
+unfolding number_text
+select_by_ranges = refl
+
+-- alpha and beta
+abbrev both : List (List ℕ)
+both = (97 ∷ 108 ∷ 112 ∷ 104 ∷ 97 ∷ []) ∷ (98 ∷ 101 ∷ 116 ∷ 97 ∷ []) ∷ []
+
+-- beta alone stays, under the first identifier of the font's own strings
+abbrev beta_stays : List (Option ℕ)
+beta_stays = None ∷ Some 391 ∷ []
+
+alpha_is_left : left_of beta_stays both ≡ (97 ∷ 108 ∷ 112 ∷ 104 ∷ 97 ∷ []) ∷ []
+unfolding left_of
+alpha_is_left = refl
+
+beta_moves : (strings : Strings) → strings.renumbered.items ≡ beta_stays → new_identifier strings 392 ≡ 391
+beta_moves strings is = ap (λ (rs : List (Option ℕ)). unwrap_or (slice_index_or rs 1 None) 392) is
+
+-- the letter A, and beta: 391 is 1 times 256 and 135
+names_of_two : (strings : Strings) → strings.renumbered.items ≡ beta_stays → names_text strings (34 ∷ 392 ∷ []) ≡
+    0 ∷ 0 ∷ 34 ∷ 1 ∷ 135 ∷ []
+unfolding number_text
+names_of_two strings is = rw is refl
+
+operator_moves : renamed FullName 392 391 ≡ place_at FullName 391 ∷ []
+operator_moves = refl
+
+operator_stays : renamed FullName 34 34 ≡ []
+operator_stays = refl
+
+-- the count, the size of offsets, three offsets of four bytes, and nine bytes of items
+room_of_two : index_room both ≡ 24
+room_of_two = refl
+
+-- An encoding of 4 bytes, char strings of 30, a private dictionary of 12, and a char set of 7, behind 100 bytes.
+one_behind_the_other : (parts : Parts) → length (text_of parts.glyphs.now.encoding) ≡ 4 → length (text_of parts.glyphs.now.select) ≡ 0 →
+    length parts.char_strings.items ≡ 30 → length (privates_text parts.privates.items) ≡ 12 → parts.dictionaries ≡ 0 →
+    length (text_of parts.glyphs.now.char_set) ≡ 7 → beginnings 100 parts ≡ record {
+      encoding = 100;
+      select = 104;
+      char_strings = 104;
+      privates = 134;
+      dictionaries = 146;
+      char_set = 146;
+      end = 153;
+    }
+one_behind_the_other parts a b c d e f = rw (a, b, c, d, e, f) refl
