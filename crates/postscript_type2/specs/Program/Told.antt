@@ -1,16 +1,14 @@
 -- What a program tells of an operation within a limit: as `step_within`, and the hints of a mask, and how it is spelled.
-use Rattle.std.specs.Prelude.{◌≡◌, ℕ, ℤ, List, [], ◌∷◌, ◌++◌, Result, Ok, Err}
+use Rattle.std.specs.Prelude.{◌≡◌, ℕ, List, [], ◌∷◌, ◌++◌, Result, Ok, Err}
 use Rattle.std.specs.Borrow.{Fml, MutBor}
 use Rattle.std.specs.Io.BufRead.{Rests}
 use mir.Syntax.{named}
 use Rattle.postscript_base.specs.declared.error.Error.{Error}
 use Rattle.postscript_type2.specs.contracts.program.Program.{the_row}
-use Rattle.postscript_type2.specs.declared.operation.Operator.{Operator}
 use Rattle.postscript_type2.specs.declared.program.told.Told.{Told}
 use Rattle.postscript_type2.specs.declared.program.told.Told.TheVariants as told
 use Rattle.postscript_type2.specs.declared.program.within.Within.{Within}
 use Rattle.postscript_type2.specs.declared.program.within.Within.TheVariants as within
-use Rattle.postscript_type2.specs.Program.Phrases.{IsPhrase}
 use Rattle.postscript_type2.specs.Program.Programs.{Pending}
 use Rattle.postscript_type2.specs.Program.Runs.{Answer, Hints, Phrase, by}
 use Rattle.postscript_type2.specs.Program.Within.{StepsWithin}

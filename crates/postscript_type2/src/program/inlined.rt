@@ -133,7 +133,7 @@ pub(crate) fn inlined_measured(machine: &mut Machine<'_>) -> Result<usize>
 {
     let mut lengths = Lengths { len: 0, whole: 0 };
     loop {
-        match machine.advance()? {
+        match machine.advance::<()>()? {
             Event::UsedUp => return Ok(lengths.whole),
             Event::Continued(said) => lengths = lengths.count(said),
             Event::Operation(said, taken) => {
@@ -155,7 +155,7 @@ pub(crate) fn inlined_code(alloc: Global, len: usize, machine: &mut Machine<'_>)
     let code = Vec::with_capacity(alloc, len)?;
     let mut inlined = Inlined { code, whole: 0 };
     loop {
-        let event = machine.advance()?;
+        let event = machine.advance::<()>()?;
         match event {
             Event::UsedUp => return Ok(inlined.finish()),
             Event::Continued(said) => inlined.append(said)?,

@@ -61,8 +61,8 @@ impl<'l> Program<'l> {
         self.step_within_for::<()>(limit)
     }
 
-    /// The same, in a copy of its own for each `S`: what draws into a sink asks for that of the sink, so that the run stands in the
-    /// drawing, with no call for each operation.
+    /// As `step_within`, compiled anew for each type `S`, of which nothing is used. A compiler puts a function that has one caller into
+    /// that caller: so what draws into a sink of type `S` has the run in itself, with no call for each operation.
     ///
     /// Refused: as `next` is.
     #[inline(always)]

@@ -12,12 +12,12 @@ use Rattle.postscript_type2.proofs.Arms.{IsRead, is-read, some-of, used-up, kept
 use Rattle.postscript_type2.proofs.program.machine.Machine.advance.Goals as goal
 
 pub returns-then-is_empty-clause-advances : goal.returns-then-is_empty-clause-advances
-returns-then-is_empty-clause-advances c =
+returns-then-is_empty-clause-advances g c =
     let run : still_of c.args.self.now ≡ at_end UsedUp = grind (arith, used-up, eqb-true) in
     (run, refl, drop_all (length c.args.self.now.state.stack.items - 0) c.args.self.now.state.stack.items (omega arith))
 
 pub returns-in_err-operator-clause-advances : goal.returns-in_err-operator-clause-advances
-returns-in_err-operator-clause-advances c =
+returns-in_err-operator-clause-advances g c =
     let some : 0 < length c.args.self.now.routine = rw (← c.rest-rest.ensures)
     (some-of (length c.rest-rest.result.now) c.if-is_empty.ensures) in
     let error = err_from_is_err_and c.from_residual.result c.from_residual.ensures.1 in
@@ -29,7 +29,7 @@ returns-in_err-operator-clause-advances c =
     )
 
 pub returns-in_err-operator-clause-last : goal.returns-in_err-operator-clause-last
-returns-in_err-operator-clause-last c =
+returns-in_err-operator-clause-last g c =
     let some : 0 < length c.args.self.now.routine = rw (← c.rest-rest.ensures)
     (some-of (length c.rest-rest.result.now) c.if-is_empty.ensures) in
     let error = err_from_is_err_and c.from_residual.result c.from_residual.ensures.1 in
@@ -38,7 +38,7 @@ returns-in_err-operator-clause-last c =
     (state_of c.args.self.now.state) c.in_err-operator.field-0.0 some c.in_err-operator.ensures)
 
 pub returns-in_err-act-clause-last : goal.returns-in_err-act-clause-last
-returns-in_err-act-clause-last c =
+returns-in_err-act-clause-last g c =
     let read : IsRead c.args.self.now.routine c.phrase.new.self
     (state_of c.args.self.now.state) c.phrase.new.stack.items c.in_ok-operator.operator c.in_ok-operator.ensures.0 =
     is-read c.rest-rest.ensures c.if-is_empty.ensures c.in_ok-operator.ensures.1 c.in_ok-operator.ensures.2 in
@@ -47,7 +47,7 @@ returns-in_err-act-clause-last c =
     rw (error.1, error.2) (refused-is-last _ c.args.self.now.left c.args.self.now.callers read does.0)
 
 pub returns-then-self-eq0-clause-last : goal.returns-then-self-eq0-clause-last
-returns-then-self-eq0-clause-last c =
+returns-then-self-eq0-clause-last g c =
     let read : IsRead c.args.self.now.routine c.phrase.new.self
     (state_of c.args.self.now.state) c.phrase.new.stack.items c.in_ok-operator.operator c.in_ok-operator.ensures.0 =
     is-read c.rest-rest.ensures c.if-is_empty.ensures c.in_ok-operator.ensures.1 c.in_ok-operator.ensures.2 in
@@ -56,7 +56,7 @@ returns-then-self-eq0-clause-last c =
     (too-deep-is-last _ c.args.self.now.callers read (does.0 ∙ ap (λ done. move_of done (state_of c.act.new.self)) c.in-Calls.is)))
 
 pub returns-then-not-are_used_up-clause-last : goal.returns-then-not-are_used_up-clause-last
-returns-then-not-are_used_up-clause-last c =
+returns-then-not-are_used_up-clause-last g c =
     let read : IsRead c.args.self.now.routine c.phrase.new.self
     (state_of c.args.self.now.state) c.phrase.new.stack.items c.in_ok-operator.operator c.in_ok-operator.ensures.0 =
     is-read c.rest-rest.ensures c.if-is_empty.ensures c.in_ok-operator.ensures.1 c.in_ok-operator.ensures.2 in
@@ -65,7 +65,7 @@ returns-then-not-are_used_up-clause-last c =
     (does.0 ∙ ap (λ done. move_of done (state_of c.act.new.self)) c.in-Ends.is) c.if-not-are_used_up.ensures)
 
 pub returns-in_err-act-clause-advances : goal.returns-in_err-act-clause-advances
-returns-in_err-act-clause-advances c =
+returns-in_err-act-clause-advances g c =
     let read : IsRead c.args.self.now.routine c.phrase.new.self
     (state_of c.args.self.now.state) c.phrase.new.stack.items c.in_ok-operator.operator c.in_ok-operator.ensures.0 =
     is-read c.rest-rest.ensures c.if-is_empty.ensures c.in_ok-operator.ensures.1 c.in_ok-operator.ensures.2 in
@@ -74,7 +74,7 @@ returns-in_err-act-clause-advances c =
     rw (error.1, error.2) (refused-or-memory _ c.args.self.now.left c.args.self.now.callers read does.0, does.1)
 
 pub returns-in-Keeps-clause-advances : goal.returns-in-Keeps-clause-advances
-returns-in-Keeps-clause-advances c =
+returns-in-Keeps-clause-advances g c =
     let read : IsRead c.args.self.now.routine c.phrase.new.self
     (state_of c.args.self.now.state) c.phrase.new.stack.items c.in_ok-operator.operator c.in_ok-operator.ensures.0 =
     is-read c.rest-rest.ensures c.if-is_empty.ensures c.in_ok-operator.ensures.1 c.in_ok-operator.ensures.2 in
@@ -85,7 +85,7 @@ returns-in-Keeps-clause-advances c =
     (does.0 ∙ ap (λ done. move_of done (state_of c.act.new.self)) c.in-Keeps.is) does.1 front
 
 pub returns-in-Some-clause-advances : goal.returns-in-Some-clause-advances
-returns-in-Some-clause-advances c =
+returns-in-Some-clause-advances g c =
     let read : IsRead c.args.self.now.routine c.phrase.new.self
     (state_of c.args.self.now.state) c.phrase.new.stack.items c.in_ok-operator.operator c.in_ok-operator.ensures.0 =
     is-read c.rest-rest.ensures c.if-is_empty.ensures c.in_ok-operator.ensures.1 c.in_ok-operator.ensures.2 in
@@ -99,7 +99,7 @@ returns-in-Some-clause-advances c =
     (answered _ c.args.self.now.left c.args.self.now.callers read moves refl refl (omega arith) front, refl)
 
 pub returns-in-Clears-clause-advances : goal.returns-in-Clears-clause-advances
-returns-in-Clears-clause-advances c =
+returns-in-Clears-clause-advances g c =
     let read : IsRead c.args.self.now.routine c.phrase.new.self
     (state_of c.args.self.now.state) c.phrase.new.stack.items c.in_ok-operator.operator c.in_ok-operator.ensures.0 =
     is-read c.rest-rest.ensures c.if-is_empty.ensures c.in_ok-operator.ensures.1 c.in_ok-operator.ensures.2 in
@@ -118,7 +118,7 @@ returns-in-Clears-clause-advances c =
     )
 
 pub returns-then-self-eq0-clause-advances : goal.returns-then-self-eq0-clause-advances
-returns-then-self-eq0-clause-advances c =
+returns-then-self-eq0-clause-advances g c =
     let read : IsRead c.args.self.now.routine c.phrase.new.self
     (state_of c.args.self.now.state) c.phrase.new.stack.items c.in_ok-operator.operator c.in_ok-operator.ensures.0 =
     is-read c.rest-rest.ensures c.if-is_empty.ensures c.in_ok-operator.ensures.1 c.in_ok-operator.ensures.2 in
@@ -128,7 +128,7 @@ returns-then-self-eq0-clause-advances c =
     (inr (rw c.if-self-eq0.true refusal.0), refusal.1)
 
 pub returns-in_ok-enter-in-Calls-clause-advances : goal.returns-in_ok-enter-in-Calls-clause-advances
-returns-in_ok-enter-in-Calls-clause-advances c =
+returns-in_ok-enter-in-Calls-clause-advances g c =
     let read : IsRead c.args.self.now.routine c.phrase.new.self
     (state_of c.args.self.now.state) c.phrase.new.stack.items c.in_ok-operator.operator c.in_ok-operator.ensures.0 =
     is-read c.rest-rest.ensures c.if-is_empty.ensures c.in_ok-operator.ensures.1 c.in_ok-operator.ensures.2 in
@@ -141,7 +141,7 @@ returns-in_ok-enter-in-Calls-clause-advances c =
     (rw (entry.lists, entry.state) run.0, ap (λ (s : State). s.width) entry.state ∙ run.1)
 
 pub returns-in_default-leave-clause-advances : goal.returns-in_default-leave-clause-advances
-returns-in_default-leave-clause-advances c =
+returns-in_default-leave-clause-advances g c =
     let read : IsRead c.args.self.now.routine c.phrase.new.self
     (state_of c.args.self.now.state) c.phrase.new.stack.items c.in_ok-operator.operator c.in_ok-operator.ensures.0 =
     is-read c.rest-rest.ensures c.if-is_empty.ensures c.in_ok-operator.ensures.1 c.in_ok-operator.ensures.2 in
@@ -155,7 +155,7 @@ returns-in_default-leave-clause-advances c =
     )
 
 pub returns-in-Some-leave-clause-advances : goal.returns-in-Some-leave-clause-advances
-returns-in-Some-leave-clause-advances c =
+returns-in-Some-leave-clause-advances g c =
     let read : IsRead c.args.self.now.routine c.phrase.new.self
     (state_of c.args.self.now.state) c.phrase.new.stack.items c.in_ok-operator.operator c.in_ok-operator.ensures.0 =
     is-read c.rest-rest.ensures c.if-is_empty.ensures c.in_ok-operator.ensures.1 c.in_ok-operator.ensures.2 in
@@ -166,7 +166,7 @@ returns-in-Some-leave-clause-advances c =
     (add-one c.args.self.now.left) c.in-Some-leave.ensures front
 
 pub returns-then-not-are_used_up-clause-advances : goal.returns-then-not-are_used_up-clause-advances
-returns-then-not-are_used_up-clause-advances c =
+returns-then-not-are_used_up-clause-advances g c =
     let read : IsRead c.args.self.now.routine c.phrase.new.self
     (state_of c.args.self.now.state) c.phrase.new.stack.items c.in_ok-operator.operator c.in_ok-operator.ensures.0 =
     is-read c.rest-rest.ensures c.if-is_empty.ensures c.in_ok-operator.ensures.1 c.in_ok-operator.ensures.2 in
@@ -176,7 +176,7 @@ returns-then-not-are_used_up-clause-advances c =
     (inr run.0, run.1)
 
 pub returns-else-not-are_used_up-clause-advances : goal.returns-else-not-are_used_up-clause-advances
-returns-else-not-are_used_up-clause-advances c =
+returns-else-not-are_used_up-clause-advances g c =
     let read : IsRead c.args.self.now.routine c.phrase.new.self
     (state_of c.args.self.now.state) c.phrase.new.stack.items c.in_ok-operator.operator c.in_ok-operator.ensures.0 =
     is-read c.rest-rest.ensures c.if-is_empty.ensures c.in_ok-operator.ensures.1 c.in_ok-operator.ensures.2 in
