@@ -49,7 +49,7 @@ use Rattle.postscript_view.proofs.Wider.{map_is}
 use Rattle.postscript_view.specs.Glyphs.{HasPartNumber, IsPartNumber}
 use Rattle.postscript_view.specs.Layout.{AreParts, ArePartsOf, HasLocals, IsLaidOut, IsPart, NamesIndex, OfFont, OfFontDictionaries}
 use Rattle.postscript_view.specs.Contents as contents
-use Rattle.postscript_view.specs.Order.{aside, header_size, map_from, view}
+use Rattle.postscript_view.specs.Order.{aside, header_size, map_from}
 use Rattle.postscript_view.specs.Contents.{View}
 use Rattle.postscript_view.specs.Select.{IsSelected, Selects, offset_from, offset_of}
 use Rattle.postscript_view.specs.Value.{part_shown, parts_shown, view_shown}

@@ -10,7 +10,6 @@ use Rattle.postscript_c.specs.declared.varied.Unvaried.TheVariants.{NoTable, Bad
 use Rattle.postscript_cff2.specs.Causes.{NoFont}
 use Rattle.postscript_cff2.specs.Layout.{IsLaidOut}
 use Rattle.postscript_cff2.specs.Shown.{view_shown}
-use Rattle.postscript_cff2.specs.declared.error.Error as tables
 use Rattle.postscript_cff2.specs.declared.font.Font.{Font}
 use Rattle.postscript_drawing.specs.declared.error.Error.{Error}
 use Rattle.postscript_drawing.specs.declared.error.Error.TheVariants.{TooLong}

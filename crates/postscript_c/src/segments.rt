@@ -64,3 +64,29 @@ impl Sink for Segments {
         Ok(())
     }
 }
+
+/// The same of a glyph at a place of the design space. It is a type of its own so that drawing into `Segments` has one caller, into which
+/// the compiler puts it.
+#[derive(Drop)]
+pub(crate) struct PlacedSegments {
+    pub(crate) segments: Segments,
+}
+
+impl Sink for PlacedSegments {
+    ghost use Rattle.std.specs.Prelude.{◌≡◌, ◌++◌, ◌∷◌, [], List, map};
+    ghost use Rattle.postscript_c.specs.Segments.{meant};
+    ghost use Rattle.postscript_outline.specs.declared.segment.Segment.{Segment};
+
+    ghost State = { List Segment };
+
+    ghost state = { λ sketch. map meant sketch.segments.segments.items };
+
+    ghost after = { λ old segment new. new ≡ old ++ segment ∷ [] };
+
+    ghost refuses = { λ _. Unit {0} };
+
+    #[inline(always)]
+    fn add(&mut self, segment: Segment) -> Given {
+        self.segments.add(segment)
+    }
+}

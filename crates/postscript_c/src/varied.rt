@@ -7,7 +7,7 @@ ghost use Rattle.postscript_c.specs.VariedTold.{HandsOutline, TellsAnswer, Tells
 use crate::costs::is_within;
 use crate::fill::{PsfSegment, fill};
 use crate::place::{Unplaced, coordinates_at, unplaced_status};
-use crate::segments::Segments;
+use crate::segments::{PlacedSegments, Segments};
 use crate::status::{NO_DATA, NO_ROOM, NO_TABLE, TOO_LONG};
 use crate::tight::PsfBounds;
 use crate::told::undrawn_status;
@@ -136,10 +136,10 @@ fn draw_within(
     requires { sketch.segments.items ≡ [] }
     ensures { IsDrawnWithin limit font.now glyph place.now (segments_shown result) }
 {
-    let mut drawn = sketch;
+    let mut drawn = PlacedSegments { segments: sketch };
     let mut left = limit;
     match draw_glyph(alloc, font, glyph, place, &mut left, &mut drawn) {
-        Ok(()) => Ok(drawn),
+        Ok(()) => Ok(drawn.segments),
         Err(e) => Err(e),
     }
 }

@@ -8,7 +8,7 @@ use Rattle.postscript_variable_drawing.specs.Glyphs.{DrawsGlyph}
 pub returns-in-Ok : goal.returns-in-Ok
 returns-in-Ok c =
     let gives = c.in-Ok.ensures.drawn in
-    let same = all-given (map meant c.args.sketch.segments.items) (map meant c.draw_glyph.new.sink.segments.items) gives.segments
+    let same = all-given (map meant c.args.sketch.segments.items) (map meant c.draw_glyph.new.sink.segments.segments.items) gives.segments
     (ap (map meant) c.requires) gives.taken in
     record {
       left = c.draw_glyph.new.limit;
