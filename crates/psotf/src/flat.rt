@@ -22,7 +22,12 @@ const DSIG: u32 = 0x44534947;
 
 /// Whether there is a table of the tag.
 fn has(tables: &[Table<'_>], tag: u32) -> bool {
-    tables.iter().any(|table| table.tag == tag)
+    for table in tables {
+        if table.tag == tag {
+            return true;
+        }
+    }
+    false
 }
 
 /// Adds the tables of a face but for its signature, of each tag the first.

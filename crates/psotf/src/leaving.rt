@@ -37,13 +37,23 @@ fn tags(alloc: Global, file: &FontFile<'_>) -> Result<String, AllocError> {
     text.end()
 }
 
+/// Whether a file has a table of kerning or ligatures.
+fn has_layout(file: &FontFile<'_>) -> bool {
+    for tag in &LAYOUT {
+        if file.table(*tag).is_some() {
+            return true;
+        }
+    }
+    false
+}
+
 /// Tells on standard error, in one line, which tables are left out, and what is lost with them.
 pub fn tell(rt: &HostRuntime, file: &FontFile<'_>) -> Result<(), Failure> {
     let tags = tags(rt.alloc(), file)?;
     if tags.is_empty() {
         return Ok(());
     }
-    let lost = if LAYOUT.iter().any(|tag| file.table(*tag).is_some()) {
+    let lost = if has_layout(file) {
         "; kerning and ligatures are lost"
     } else {
         ""

@@ -61,7 +61,12 @@ impl Made {
     /// Whether there is a table of a tag.
     pub fn has(&self, tag: [u8; 4]) -> bool {
         let tag = u32::from_be_bytes(tag);
-        self.tables.iter().any(|table| table.tag == tag)
+        for table in &self.tables {
+            if table.tag == tag {
+                return true;
+            }
+        }
+        false
     }
 
     /// The tables, to be written.

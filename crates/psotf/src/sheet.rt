@@ -212,7 +212,7 @@ impl Sheet {
     /// A character, as a text.
     pub fn character(&mut self, char: u32) {
         self.text.clear();
-        write!(self.text, "U+{char:04X}");
+        self.text.put_character(char);
         self.put_own();
     }
 

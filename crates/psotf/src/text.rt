@@ -86,6 +86,11 @@ impl Text {
         self.push('\n');
     }
 
+    /// Adds a character as U+ and its number.
+    pub fn put_character(&mut self, char: u32) {
+        write!(self, "U+{char:04X}");
+    }
+
     /// Adds bytes as hex digits.
     pub fn put_hex(&mut self, bytes: &[u8]) {
         for byte in bytes {

@@ -38,7 +38,12 @@ fn is_fit(name: &[u8]) -> bool {
     if name.is_empty() || name.len() > 127 {
         return false;
     }
-    name.iter().all(|byte| byte.is_ascii_graphic() && !b"[](){}<>/%".contains(byte))
+    for byte in name {
+        if !byte.is_ascii_graphic() || b"[](){}<>/%".contains(byte) {
+            return false;
+        }
+    }
+    true
 }
 
 /// The names of so many glyphs. None where one has none, or one that does not fit.
@@ -57,11 +62,21 @@ fn all<'l>(
     Ok(Some(all))
 }
 
+/// Whether two names side by side are the same.
+fn are_twins(sorted: &[&[u8]]) -> bool {
+    for pair in sorted.windows(2) {
+        if pair[0] == pair[1] {
+            return true;
+        }
+    }
+    false
+}
+
 /// Whether two names are the same.
 fn has_twins(alloc: Global, names: &[&[u8]]) -> Result<bool, AllocError> {
     let mut sorted: Vec<&[u8]> = Vec::from_slice(alloc, names)?;
     sorted.sort()?;
-    Ok(sorted.windows(2).any(|pair| pair[0] == pair[1]))
+    Ok(are_twins(sorted.as_slice()))
 }
 
 /// Names that a font has room for, and which differ.

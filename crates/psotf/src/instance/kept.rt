@@ -97,12 +97,19 @@ pub fn put<'l>(tables: &mut Vec<Table<'l>>, face: &VariableFace<'l>) -> Result<(
     Ok(())
 }
 
+/// Whether a table of a tag stays as it is.
+fn stays(file: &FontFile<'_>, tag: [u8; 4]) -> bool {
+    for (same, condition) in &SAME {
+        if *same == tag {
+            return kept(file, tag, *condition).is_some();
+        }
+    }
+    false
+}
+
 /// Whether a table of a tag is left out, and is to be told of.
 fn is_left_out(file: &FontFile<'_>, made: &Made, tag: [u8; 4]) -> bool {
-    if GONE.contains(&tag) || made.has(tag) {
-        return false;
-    }
-    !SAME.iter().any(|(same, condition)| *same == tag && kept(file, tag, *condition).is_some())
+    !GONE.contains(&tag) && !made.has(tag) && !stays(file, tag)
 }
 
 /// The tags of the tables that are left out, each behind a space.
