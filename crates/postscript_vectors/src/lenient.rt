@@ -24,7 +24,8 @@ const NAMELESS: &str =
     "header 1 0 4 1|strings 0|globals 0|font Standard ISOAdobe glyphs 1 locals 0|local 0 width 0";
 
 const FIRST_WITHOUT: &str =
-    "header 1 0 4 1|strings 0|globals 0|font Standard ISOAdobe glyphs 1 locals 0|font Standard ISOAdobe glyphs 1 locals 0|local 0 width 0|local 1 width 0";
+    "header 1 0 4 1|strings 0|globals 0|font Standard ISOAdobe glyphs 1 locals 0|font Standard ISOAdobe glyphs 1 locals 0\
+        |local 0 width 0|local 1 width 0";
 
 #[rattlefmt::skip]
 const ROWS: &[Row] = &[
