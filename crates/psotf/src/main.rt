@@ -16,6 +16,7 @@ mod face;
 mod failure;
 mod flat;
 mod glyph;
+mod glyphs;
 mod hints;
 mod inspect;
 mod instance;
@@ -172,7 +173,7 @@ fn write<W: Write>(
 ) -> Result<(), Failure> {
     match name {
         "inspect" => inspect::write(rt, face, words.get_flag("json"), budget, out),
-        "glyph" => glyph::write(rt, face, words, budget, out),
+        "glyph" => glyphs::write(rt, face, words, budget, out),
         "svg" => svg::write(rt, face, words, budget, out),
         "flat" => flat::write(rt, face, words, budget, out),
         "subset" => subset::write(rt, face, words, budget, out),

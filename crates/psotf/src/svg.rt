@@ -1,14 +1,14 @@
 //! Lines of text as pictures.
 use crate::characters::missing;
-use crate::drawing::{count, draw};
-use crate::face::Face;
 use crate::failure::Failure;
+use crate::glyphs::Glyphs;
 use crate::limit::Budget;
 use crate::saving;
 use crate::telling::tell;
 use crate::text::Text;
 use clap::ArgMatches;
 use postscript_outline::Outline;
+use postscript_sfnt::CharacterMap;
 use std::alloc::{AllocError, Global};
 use std::fmt::Display;
 use std::io::Write;
@@ -25,46 +25,45 @@ pub fn put_path<N: Display + Drop>(picture: &mut Text, x: N, outline: &Outline) 
     picture.push_str("\"/>\n");
 }
 
-/// Draws a glyph so far to the right.
-fn put(
+/// Adds the path of a glyph so far to the right, and tells its advance.
+fn put<G: Glyphs>(
     alloc: Global,
-    face: &Face<'_>,
+    glyphs: &G,
     gid: u16,
-    x: u64,
+    x: i64,
     budget: &mut Budget,
     picture: &mut Text,
-) -> Result<(), Failure> {
-    if gid >= count(face) {
+) -> Result<i64, Failure> {
+    if gid >= glyphs.count() {
         return Err(Failure::no_glyph(u32::from(gid)));
     }
-    match draw(alloc, face, gid, budget) {
-        Ok((_, outline)) => {
+    match glyphs.outline(alloc, gid, budget) {
+        Ok(outline) => {
             put_path(picture, x, &outline);
-            Ok(())
+            Ok(glyphs.advance(gid))
         }
         Err(refusal) => Err(Failure::glyph(gid, &refusal)),
     }
 }
 
 /// Adds the paths of a text, and tells its width.
-fn put_text(
+fn put_text<G: Glyphs>(
     alloc: Global,
-    face: &Face<'_>,
+    glyphs: &G,
     text: &str,
     budget: &mut Budget,
     picture: &mut Text,
-) -> Result<u64, Failure> {
-    let Some(map) = &face.map else {
+) -> Result<i64, Failure> {
+    let Some(map) = glyphs.map() else {
         return Err(Failure::no_part("character map"));
     };
-    let mut x = 0u64;
+    let mut x = 0i64;
     for char in text.chars() {
         if picture.has_failed() {
             break;
         }
         let gid = map.glyph_of(u32::from(char));
-        put(alloc, face, gid, x, budget, picture)?;
-        x = x.saturating_add(u64::from(face.advances.of(gid)));
+        x = x.saturating_add(put(alloc, glyphs, gid, x, budget, picture)?);
     }
     Ok(x)
 }
@@ -73,11 +72,11 @@ fn put_text(
 /// then.
 fn see_missing(
     rt: &HostRuntime,
-    face: &Face<'_>,
+    map: &Option<CharacterMap<'_>>,
     words: &ArgMatches<'_>,
     text: &str,
 ) -> Result<(), Failure> {
-    let missing = missing(rt.alloc(), &face.map, text)?;
+    let missing = missing(rt.alloc(), map, text)?;
     if !missing.is_empty() {
         match words.get_str("missing") {
             Some("draw") => tell(rt, format_args!("the face has no glyph for:{missing}"))?,
@@ -89,20 +88,19 @@ fn see_missing(
 }
 
 /// Adds the path of the glyph or the paths of the text that words name, and tells the width.
-fn put_named(
+fn put_named<G: Glyphs>(
     rt: &HostRuntime,
-    face: &Face<'_>,
+    glyphs: &G,
     words: &ArgMatches<'_>,
     budget: &mut Budget,
     picture: &mut Text,
-) -> Result<u64, Failure> {
+) -> Result<i64, Failure> {
     if let Some(gid) = words.get_one::<u16>("gid") {
-        put(rt.alloc(), face, gid, 0, budget, picture)?;
-        return Ok(u64::from(face.advances.of(gid)));
+        return put(rt.alloc(), glyphs, gid, 0, budget, picture);
     }
     let text = words.get_str("text").unwrap_or("");
-    see_missing(rt, face, words, text)?;
-    put_text(rt.alloc(), face, text, budget, picture)
+    see_missing(rt, glyphs.map(), words, text)?;
+    put_text(rt.alloc(), glyphs, text, budget, picture)
 }
 
 /// A picture so wide of paths that stand on a line, in so many units to the em.
@@ -121,15 +119,15 @@ pub fn picture_of<N: Display>(
 }
 
 /// Writes a picture of the glyph or the text that words name.
-pub fn write<W: Write>(
+pub fn write<G: Glyphs, W: Write>(
     rt: &HostRuntime,
-    face: &Face<'_>,
+    glyphs: &G,
     words: &ArgMatches<'_>,
     budget: &mut Budget,
     out: &mut W,
 ) -> Result<(), Failure> {
     let mut paths = Text::new(rt.alloc());
-    let width = put_named(rt, face, words, budget, &mut paths)?;
-    let picture = picture_of(rt.alloc(), face.units, &width, paths)?;
+    let width = put_named(rt, glyphs, words, budget, &mut paths)?;
+    let picture = picture_of(rt.alloc(), glyphs.units(), &width, paths)?;
     saving::put(rt, words, picture.as_bytes(), out)
 }

@@ -1,24 +1,23 @@
 //! Glyphs of variable fonts, at a place.
 use super::place::Chosen;
 use super::{VariableFace, moving};
-use crate::characters::{Mapped, by_glyph, glyph_of, of_glyph, refuse_missing};
+use crate::characters::{Mapped, of_glyph};
 use crate::drawing::SEGMENT;
 use crate::failure::{Failure, Refusal};
-use crate::glyph::{char_of, chars, shape};
+use crate::glyph::{chars, shape};
+use crate::glyphs::{self, Glyphs};
 use crate::limit::Budget;
-use crate::progress::Progress;
-use crate::saving;
 use crate::sheet::Sheet;
-use crate::svg::{picture_of, put_path};
+use crate::svg;
 use crate::text::Text;
 use clap::ArgMatches;
 use postscript_drawing::Error as Undrawn;
 use postscript_outline::Outline;
+use postscript_sfnt::CharacterMap;
 use postscript_variable_drawing::draw_glyph;
 use postscript_variation::in_whole;
 use std::alloc::Global;
 use std::io::Write;
-use std::ops::Range;
 
 /// How many glyphs a face has that have a charstring too.
 pub fn count(face: &VariableFace<'_>) -> u16 {
@@ -100,126 +99,57 @@ fn drawn(sheet: &mut Sheet, outline: &Result<Outline, Refusal>) -> bool {
     }
 }
 
-/// Writes a glyph as an object, and tells whether it is drawn.
-fn object(
-    alloc: Global,
-    sheet: &mut Sheet,
-    face: &VariableFace<'_>,
-    mapped: &[Mapped],
-    gid: u16,
-    chosen: &Chosen,
-    budget: &mut Budget,
-) -> bool {
-    sheet.begin_object();
-    sheet.number("gid", u64::from(gid));
-    chars(sheet, of_glyph(mapped, gid));
-    sheet.key("advance");
-    sheet.i64(advance_of(face, gid, chosen));
-    let is_drawn = drawn(sheet, &outline_of(alloc, face, gid, chosen, budget));
-    sheet.end_object();
-    is_drawn
+/// A face at a place.
+#[derive(Clone, Copy)]
+struct Placed<'f, 'l> {
+    face: &'f VariableFace<'l>,
+    chosen: &'f Chosen,
 }
 
-/// Adds a glyph as a line: its number, its advance and its path; and tells whether it is drawn.
-fn put_line(
-    alloc: Global,
-    line: &mut Text,
-    face: &VariableFace<'_>,
-    gid: u16,
-    chosen: &Chosen,
-    budget: &mut Budget,
-) -> bool {
-    line.put_number(u64::from(gid));
-    line.push(' ');
-    line.write_fmt(advance_of(face, gid, chosen));
-    line.push(' ');
-    match outline_of(alloc, face, gid, chosen, budget) {
-        Ok(outline) => {
-            line.write_fmt(&outline);
-            line.push('\n');
-            true
-        }
-        Err(refusal) => {
-            line.push_str("refused: ");
-            line.write_fmt(&refusal);
-            line.push('\n');
-            false
-        }
+impl<'f, 'l> Glyphs for Placed<'f, 'l> {
+    fn count(&self) -> u16 {
+        count(self.face)
     }
-}
 
-/// The glyph that words name.
-fn asked(face: &VariableFace<'_>, words: &ArgMatches<'_>) -> Result<u16, Failure> {
-    if let Some(gid) = words.get_one::<u16>("gid") {
-        return Ok(gid);
+    fn map(&self) -> &Option<CharacterMap<'_>> {
+        &self.face.common.map
     }
-    if words.get_str("name").is_some() {
-        return Err(Failure::no_part("names of glyphs: CFF2 has none"));
-    }
-    match glyph_of(&face.common.map, char_of(words)?) {
-        0 => Err(Failure::no_part("glyph of this character")),
-        gid => Ok(gid),
-    }
-}
 
-/// The numbers of the glyphs that words name.
-fn named(face: &VariableFace<'_>, words: &ArgMatches<'_>) -> Result<Range<u16>, Failure> {
-    let glyphs = count(face);
-    if words.get_flag("all") {
-        return Ok(0..glyphs);
+    fn units(&self) -> u16 {
+        self.face.common.units
     }
-    let gid = asked(face, words)?;
-    if gid >= glyphs {
-        return Err(Failure::no_glyph(u32::from(gid)));
-    }
-    Ok(gid..gid.saturating_add(1))
-}
 
-/// Writes glyphs, each as an object on a line, and tells how many are refused.
-fn objects<W: Write>(
-    rt: &HostRuntime,
-    face: &VariableFace<'_>,
-    gids: Range<u16>,
-    chosen: &Chosen,
-    budget: &mut Budget,
-    out: &mut W,
-) -> Result<u64, Failure> {
-    let mapped = by_glyph(rt.alloc(), &face.common.map)?;
-    let mut progress = Progress::of_answers(rt, gids.end);
-    let mut sheet = Sheet::new(rt.alloc());
-    let mut refused = 0u64;
-    for gid in gids {
-        progress.at(gid);
-        if !object(rt.alloc(), &mut sheet, face, &mapped, gid, chosen, budget) {
-            refused = refused.saturating_add(1);
-        }
-        sheet.end(out)?;
+    fn of_name(&self, _name: &str) -> Result<u16, Failure> {
+        Err(Failure::no_part("names of glyphs: CFF2 has none"))
     }
-    progress.end();
-    Ok(refused)
-}
 
-/// Writes glyphs, each on a line, and tells how many are refused.
-fn lines<W: Write>(
-    rt: &HostRuntime,
-    face: &VariableFace<'_>,
-    gids: Range<u16>,
-    chosen: &Chosen,
-    budget: &mut Budget,
-    out: &mut W,
-) -> Result<u64, Failure> {
-    let mut progress = Progress::of_answers(rt, gids.end);
-    let mut line = Text::new(rt.alloc());
-    let mut refused = 0u64;
-    for gid in gids {
-        progress.at(gid);
-        if !put_line(rt.alloc(), &mut line, face, gid, chosen, budget) {
-            refused = refused.saturating_add(1);
-        }
-        line.end_in(out)?;
+    fn put_name(&self, _alloc: Global, _line: &mut Text, _gid: u16) {}
+
+    fn advance(&self, gid: u16) -> i64 {
+        advance_of(self.face, gid, self.chosen)
     }
-    progress.end();
-    Ok(refused)
+
+    fn outline(&self, alloc: Global, gid: u16, budget: &mut Budget) -> Result<Outline, Refusal> {
+        outline_of(alloc, self.face, gid, self.chosen, budget)
+    }
+
+    fn object(
+        &self,
+        alloc: Global,
+        sheet: &mut Sheet,
+        mapped: &[Mapped],
+        gid: u16,
+        budget: &mut Budget,
+    ) -> Result<bool, Failure> {
+        sheet.begin_object();
+        sheet.number("gid", u64::from(gid));
+        chars(sheet, of_glyph(mapped, gid));
+        sheet.key("advance");
+        sheet.i64(self.advance(gid));
+        let is_drawn = drawn(sheet, &self.outline(alloc, gid, budget));
+        sheet.end_object();
+        Ok(is_drawn)
+    }
 }
 
 /// Writes the glyphs that words name, at the place that they name.
@@ -231,74 +161,11 @@ pub fn write<W: Write>(
     out: &mut W,
 ) -> Result<(), Failure> {
     let chosen = Chosen::read(rt, face, words)?;
-    let gids = named(face, words)?;
-    let refused = if words.get_flag("json") {
-        objects(rt, face, gids, &chosen, budget, out)?
-    } else {
-        lines(rt, face, gids, &chosen, budget, out)?
+    let placed = Placed {
+        face,
+        chosen: &chosen,
     };
-    match refused {
-        0 => Ok(()),
-        refused => Err(Failure::refused(refused)),
-    }
-}
-
-/// Adds the path of a glyph so far to the right, and tells its advance.
-fn put(
-    alloc: Global,
-    face: &VariableFace<'_>,
-    gid: u16,
-    x: i64,
-    chosen: &Chosen,
-    budget: &mut Budget,
-    picture: &mut Text,
-) -> Result<i64, Failure> {
-    if gid >= count(face) {
-        return Err(Failure::no_glyph(u32::from(gid)));
-    }
-    match outline_of(alloc, face, gid, chosen, budget) {
-        Ok(outline) => {
-            put_path(picture, x, &outline);
-            Ok(advance_of(face, gid, chosen))
-        }
-        Err(refusal) => Err(Failure::glyph(gid, &refusal)),
-    }
-}
-
-/// Adds the paths of a text, whose characters all have a glyph, and tells its width.
-fn put_text(
-    alloc: Global,
-    face: &VariableFace<'_>,
-    text: &str,
-    chosen: &Chosen,
-    budget: &mut Budget,
-    picture: &mut Text,
-) -> Result<i64, Failure> {
-    refuse_missing(alloc, &face.common.map, text)?;
-    let mut x = 0i64;
-    for char in text.chars() {
-        let gid = glyph_of(&face.common.map, u32::from(char));
-        x = x.saturating_add(put(alloc, face, gid, x, chosen, budget, picture)?);
-    }
-    Ok(x)
-}
-
-/// Adds the path of the glyph or the paths of the text that words name, at a place, and tells the width.
-fn put_named(
-    alloc: Global,
-    face: &VariableFace<'_>,
-    words: &ArgMatches<'_>,
-    chosen: &Chosen,
-    budget: &mut Budget,
-    picture: &mut Text,
-) -> Result<i64, Failure> {
-    match words.get_one::<u16>("gid") {
-        Some(gid) => put(alloc, face, gid, 0, chosen, budget, picture),
-        None => {
-            let text = words.get_str("text").unwrap_or("");
-            put_text(alloc, face, text, chosen, budget, picture)
-        }
-    }
+    glyphs::write(rt, &placed, words, budget, out)
 }
 
 /// Writes a picture of the glyph or the text that words name, at the place that they name.
@@ -313,8 +180,9 @@ pub fn write_picture<W: Write>(
         return moving::write(rt, face, axis, words, budget, out);
     }
     let chosen = Chosen::read(rt, face, words)?;
-    let mut paths = Text::new(rt.alloc());
-    let width = put_named(rt.alloc(), face, words, &chosen, budget, &mut paths)?;
-    let picture = picture_of(rt.alloc(), face.common.units, &width, paths)?;
-    saving::put(rt, words, picture.as_bytes(), out)
+    let placed = Placed {
+        face,
+        chosen: &chosen,
+    };
+    svg::write(rt, &placed, words, budget, out)
 }
