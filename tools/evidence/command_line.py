@@ -306,6 +306,17 @@ def varied(folder, change=None):
     return path
 
 
+@case("svg: a variable font's characters without a glyph are named too, and --missing draw draws them")
+def _(folder):
+    font, out = varied(folder), folder / "text.svg"
+    told = "the face has no glyph for: U+6F22\n"
+    assert run("svg", font, "--text", "A漢", "-o", out, status=1)[1] == f"psotf: {font}: {told}"
+    assert not out.exists()
+    assert run("svg", font, "--text", "A漢", "--missing", "draw", "-o", out)[1] == f"psotf: {told}"
+    paths = [path.get("d") for path in xml.etree.ElementTree.parse(out).getroot().iter(f"{SVG}path")]
+    assert len(paths) == 2 and paths[0], paths
+
+
 def instance(folder, *words, change=None, status=0):
     """What is said of the instance of words; the file that is written. Where it is refused, what stood there stays, alone."""
     path, out = varied(folder, change), folder / "out.otf"
