@@ -27,7 +27,7 @@ use Rattle.postscript_c.specs.Law.{NamesSelection}
 use Rattle.postscript_c.specs.Parts.{IsPartIn, TellsNoPart, no_glyph, no_dictionary, refused}
 use Rattle.postscript_c.specs.Places as told
 use Rattle.postscript_c.specs.Places.{Places, codes, placed, places, places_of}
-use Rattle.postscript_c.specs.SameParts.{HasNoPart, HasNumberIn, HasSameSubroutines, HasSameWidths, IsNoneIn, IsToldNone, IsToldOf, KeepsParts, SamePart, TellsPart, TellsParts, program_in}
+use Rattle.postscript_c.specs.SameParts.{HasNoPart, HasNumberIn, HasSameSubroutines, HasSameWidths, IsNoneIn, IsToldNone, AreNumbersOf, KeepsParts, SamePart, TellsPart, TellsParts, program_in}
 use Rattle.postscript_c.specs.AtStart.{NamesNoStart, NamesSubroutines, NamesSubroutinesOf, naming}
 use Rattle.postscript_c.specs.Widths.{AreWidths, IsWidth}
 use Rattle.postscript_c.specs.declared.font.PsfFont.{PsfFont}
@@ -183,7 +183,7 @@ globals_behind bytes p m e =
     let behind = tables_behind bytes a.0 t.0 t.1 t.2 in
     omega arith
 
-common : (bytes : List ℕ) (font : PsfFont) (v : FontView) → IsToldOf bytes font → IsFirst bytes v → Common bytes font v
+common : (bytes : List ℕ) (font : PsfFont) (v : FontView) → AreNumbersOf bytes font → IsFirst bytes v → Common bytes font v
 common bytes font v told_of first =
     let is = told_of.1 in
     let w = is.widths in

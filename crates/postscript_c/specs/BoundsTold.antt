@@ -24,7 +24,8 @@ AreZeros told = told.has_bounds ≡ 0 → (told.left ≡ pos 0) × (told.bottom 
 
 -- tight bounds of what a glyph draws by a part
 abbrev pub IsTracedOver : (bytes : List ℕ) (font : PsfFont) (part : PsfPart) (glyph : ℕ) → Option Bounds → Type 0
-IsTracedOver bytes font part glyph bounds = (segments : List Segment) × ((width : Option ℤ) × IsDrawnOver bytes font part glyph segments width)
+IsTracedOver bytes font part glyph bounds = (segments : List Segment)
+    × ((width : Option ℤ) × IsDrawnOver bytes font part glyph segments width)
     × IsTightBoundsOf bounds (arcs (point (pos 0) (pos 0)) segments)
 
 -- what is told of such bounds, of a refusal, and where there is no such glyph

@@ -1,6 +1,6 @@
 -- What C is told of the identifiers of glyphs and of their strings (Technical Note 5176, sections 10, 13 and 18).
 use Rattle.std.specs.Prelude.{◌≡◌, ◌⊎◌, ℕ, ◌+◌, ℤ, pos, negsuc, List, [], ◌∷◌, length, Some, None}
-use Rattle.postscript_c.specs.Naming.{IsSetOf, LacksSet, OfFirst}
+use Rattle.postscript_c.specs.Naming.{IsSetOf, LacksSet, TellsOfFirst}
 use Rattle.postscript_c.specs.Texts.{HandsOver, Lent}
 use Rattle.postscript_view.specs.Naming.{Names}
 use Rattle.postscript_view.specs.Contents.{View}
@@ -30,7 +30,7 @@ TellsIdentifiersIn bytes view status old new =
     ⊎ ((LacksSet bytes view status × (new ≡ old)) ⊎ ((status ≡ pos 3) × (new ≡ old)))
 
 abbrev pub TellsIdentifiers : List ℕ → (status : ℤ) → (old new : Lent ℤ) → Type 0
-TellsIdentifiers bytes status old new = OfFirst bytes (λ view. TellsIdentifiersIn bytes view status old new) status (new ≡ old)
+TellsIdentifiers bytes status old new = TellsOfFirst bytes (λ view. TellsIdentifiersIn bytes view status old new) status (new ≡ old)
 
 -- the string of an identifier is handed over, or the font has none
 abbrev pub TellsStringIn : View → (identifier : ℕ) → (status : ℤ) → (old new : Lent ℕ) → Type 0
@@ -39,4 +39,4 @@ TellsStringIn view identifier status old new =
     ⊎ ((status ≡ pos 38) × (string_of view.tables.strings identifier ≡ None) × (new ≡ old))
 
 abbrev pub TellsString : List ℕ → (identifier : ℕ) → (status : ℤ) → (old new : Lent ℕ) → Type 0
-TellsString bytes identifier status old new = OfFirst bytes (λ view. TellsStringIn view identifier status old new) status (new ≡ old)
+TellsString bytes identifier status old new = TellsOfFirst bytes (λ view. TellsStringIn view identifier status old new) status (new ≡ old)

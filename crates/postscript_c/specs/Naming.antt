@@ -24,8 +24,8 @@ abbrev pub LacksFont : List ℕ → (status : ℤ) → Type 0
 LacksFont bytes status = (e : Error) × (status ≡ pos (code e)) × (e ≢ Memory → RefusedAs e (view bytes 0))
 
 -- what is told of a font is told of the one that the bytes begin with; where there is none, what C lends is the same as before
-abbrev pub OfFirst : List ℕ → (View → Type 0) → (status : ℤ) → (same : Type 0) → Type 0
-OfFirst bytes tells status same = ((v : View) × (next : ℕ) × (view bytes 0 ≡ Got v next) × tells v) ⊎ (LacksFont bytes status × same)
+abbrev pub TellsOfFirst : List ℕ → (View → Type 0) → (status : ℤ) → (same : Type 0) → Type 0
+TellsOfFirst bytes tells status same = ((v : View) × (next : ℕ) × (view bytes 0 ≡ Got v next) × tells v) ⊎ (LacksFont bytes status × same)
 
 -- the name of a glyph of a font is handed over, or it has none, as each glyph of a CID-keyed font
 abbrev pub TellsNameIn : List ℕ → View → (glyph : ℕ) → (status : ℤ) → (old new : Lent ℕ) → Type 0
@@ -36,7 +36,7 @@ TellsNameIn bytes view glyph status old new =
     ⊎ (LacksSet bytes view status × (new ≡ old)))
 
 abbrev pub TellsName : List ℕ → (glyph : ℕ) → (status : ℤ) → (old new : Lent ℕ) → Type 0
-TellsName bytes glyph status old new = OfFirst bytes (λ view. TellsNameIn bytes view glyph status old new) status (new ≡ old)
+TellsName bytes glyph status old new = TellsOfFirst bytes (λ view. TellsNameIn bytes view glyph status old new) status (new ≡ old)
 
 -- the first glyph of a font that has a name, or none has it
 abbrev pub TellsNamedIn : List ℕ → View → (name : List ℕ) → (status : ℤ) → (old new : ℕ) → Type 0
@@ -46,4 +46,4 @@ TellsNamedIn bytes view name status old new =
     ⊎ (LacksSet bytes view status × (new ≡ old)))
 
 abbrev pub TellsNamed : List ℕ → (name : List ℕ) → (status : ℤ) → (old new : ℕ) → Type 0
-TellsNamed bytes name status old new = OfFirst bytes (λ view. TellsNamedIn bytes view name status old new) status (new ≡ old)
+TellsNamed bytes name status old new = TellsOfFirst bytes (λ view. TellsNamedIn bytes view name status old new) status (new ≡ old)

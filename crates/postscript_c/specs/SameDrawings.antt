@@ -2,7 +2,7 @@
 use Rattle.std.specs.Prelude.{ℕ, ℤ, List, Option}
 use Rattle.postscript_c.specs.Drawn.{IsDrawnOver, IsFirst}
 use Rattle.postscript_c.specs.Parts.{IsPartIn}
-use Rattle.postscript_c.specs.SameParts.{IsToldOf}
+use Rattle.postscript_c.specs.SameParts.{AreNumbersOf}
 use Rattle.postscript_c.specs.AtStart.{NamesNoStart}
 use Rattle.postscript_c.specs.declared.font.PsfFont.{PsfFont}
 use Rattle.postscript_c.specs.declared.part.PsfPart.{PsfPart}
@@ -18,5 +18,5 @@ DrawsSame bytes font view glyph =
 
 -- A law: so it is with each glyph of a font that C is told, where the same bytes begin with a font in place that names nothing at 0.
 abbrev pub DrawsInPlace : Type 0
-DrawsInPlace = (bytes : List ℕ) (font : PsfFont) (view : FontView) (glyph : ℕ) → IsToldOf bytes font → IsFirst bytes view
+DrawsInPlace = (bytes : List ℕ) (font : PsfFont) (view : FontView) (glyph : ℕ) → AreNumbersOf bytes font → IsFirst bytes view
     → NamesNoStart view → DrawsSame bytes font view glyph

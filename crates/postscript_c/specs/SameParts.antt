@@ -89,15 +89,15 @@ pub record SamePart (bytes : List ℕ) (font : PsfFont) (view : FontView) (glyph
   pub missing : (told : PsfPart) → HasNone bytes font told glyph ↔ (font.glyphs ≤ glyph)
 
 -- The numbers are those that C is told of the font that bytes begin with, but for the limit, which a caller may change.
-abbrev pub IsToldOf : List ℕ → PsfFont → Type 0
-IsToldOf bytes font = (limit : ℕ) × OpensFont bytes (Ok (record font { limit = limit }))
+abbrev pub AreNumbersOf : List ℕ → PsfFont → Type 0
+AreNumbersOf bytes font = (limit : ℕ) × OpensFont bytes (Ok (record font { limit = limit }))
 
 -- A law: so it is with each glyph of a font that C is told, where the same bytes begin with a font in place.
 abbrev pub TellsParts : Type 0
-TellsParts = (bytes : List ℕ) (font : PsfFont) (view : FontView) (glyph : ℕ) → IsToldOf bytes font → IsFirst bytes view
+TellsParts = (bytes : List ℕ) (font : PsfFont) (view : FontView) (glyph : ℕ) → AreNumbersOf bytes font → IsFirst bytes view
     → TellsPart bytes font view glyph
 
 -- A law: where besides nothing is named at 0, C and the font in place have the same parts.
 abbrev pub KeepsParts : Type 0
-KeepsParts = (bytes : List ℕ) (font : PsfFont) (view : FontView) (glyph : ℕ) → IsToldOf bytes font → IsFirst bytes view
+KeepsParts = (bytes : List ℕ) (font : PsfFont) (view : FontView) (glyph : ℕ) → AreNumbersOf bytes font → IsFirst bytes view
     → NamesNoStart view → SamePart bytes font view glyph
