@@ -6,11 +6,14 @@ use Rattle.std.proofs.lemmas.Int.{ints}
 use Rattle.std.proofs.lemmas.Option.{slice_get-map, slice_get_past, slice_get_within}
 use Rattle.std.proofs.lemmas.Bool.{cases_lt}
 use Rattle.std.proofs.lemmas.Bool.Decides.{nat_tests}
+use Rattle.postscript_base.proofs.Opening.{opened_only}
 use Rattle.postscript_base.specs.Compact1.Decimal.{Decimal, to_i32}
 use Rattle.postscript_base.specs.Compact1.Defaults.{look, first_of}
 use Rattle.postscript_base.specs.Compact1.Dictionary.{Dictionary}
 use Rattle.postscript_base.specs.Compact1.DictionaryLaw.{IsDictionary}
 use Rattle.postscript_base.specs.Error.{code}
+use Rattle.postscript_base.specs.Index.{opened}
+use Rattle.postscript_base.specs.Index.Lent.{items_of}
 use Rattle.postscript_base.specs.Tape.Outcome.{Got, RefusedAs}
 use Rattle.postscript_base.specs.declared.compact1.operator.Operator.{Operator}
 use Rattle.postscript_base.specs.declared.compact1.operator.Operator.TheVariants as operators
@@ -18,6 +21,7 @@ use Rattle.postscript_base.specs.declared.error.Error.{Error}
 use Rattle.postscript_base.specs.declared.error.Error.TheVariants.{Memory}
 use Rattle.postscript_c.proofs.Agreeing.{dictionary_same, one}
 use Rattle.postscript_c.proofs.PartPlaces.{index_none, index_there, part_told, same_widths, told_widths}
+use Rattle.postscript_c.specs.AtStart.{NamesNoStart, NamesSubroutines, NamesSubroutinesOf, naming}
 use Rattle.postscript_c.specs.CidParts.{HasDictionary, HasItem, HasNumber, IsPartOf, NoPart, item_part}
 use Rattle.postscript_c.specs.Drawn.{HasNone, IsFirst}
 use Rattle.postscript_c.specs.FontWidths.{HaveWidths}
@@ -28,29 +32,25 @@ use Rattle.postscript_c.specs.Parts.{IsPartIn, TellsNoPart, no_glyph, no_diction
 use Rattle.postscript_c.specs.Places as told
 use Rattle.postscript_c.specs.Places.{Places, codes, placed, places, places_of}
 use Rattle.postscript_c.specs.SameParts.{HasNoPart, HasNumberIn, HasSameSubroutines, HasSameWidths, IsNoneIn, IsToldNone, AreNumbersOf, KeepsParts, SamePart, TellsPart, TellsParts, program_in}
-use Rattle.postscript_c.specs.AtStart.{NamesNoStart, NamesSubroutines, NamesSubroutinesOf, naming}
 use Rattle.postscript_c.specs.Widths.{AreWidths, IsWidth}
 use Rattle.postscript_c.specs.declared.font.PsfFont.{PsfFont}
 use Rattle.postscript_c.specs.declared.part.PsfPart.{PsfPart}
 use Rattle.postscript_compact1.proofs.OperandLaws.{placed_has, placed_is}
 use Rattle.postscript_compact1.proofs.Outcomes.{got}
-use Rattle.postscript_compact1.specs.FontSet.Parts.{HasFirst, IsPlace}
 use Rattle.postscript_compact1.specs.FontSet.Operands.{place_at, type_two}
+use Rattle.postscript_compact1.specs.FontSet.Parts.{HasFirst, IsPlace}
 use Rattle.postscript_compact1.specs.Kinds.{map_of}
-use Rattle.postscript_base.proofs.Opening.{opened_only}
-use Rattle.postscript_base.specs.Index.{opened}
-use Rattle.postscript_base.specs.Index.Lent.{items_of}
 use Rattle.postscript_type2.specs.Program.Evaluation.{run_of}
 use Rattle.postscript_type2.specs.Program.Programs.{begun}
 use Rattle.postscript_type2.specs.Program.Routines.{lent}
 use Rattle.postscript_view.proofs.LayoutLaws.{reads_layout, whole_offset}
 use Rattle.postscript_view.proofs.Selecting.{one_named}
 use Rattle.postscript_view.proofs.Wider.{map_is}
+use Rattle.postscript_view.specs.Contents as contents
+use Rattle.postscript_view.specs.Contents.{View}
 use Rattle.postscript_view.specs.Glyphs.{HasPartNumber, IsPartNumber}
 use Rattle.postscript_view.specs.Layout.{AreParts, ArePartsOf, HasLocals, IsLaidOut, IsPart, NamesIndex, OfFont, OfFontDictionaries}
-use Rattle.postscript_view.specs.Contents as contents
 use Rattle.postscript_view.specs.Order.{aside, header_size, map_from}
-use Rattle.postscript_view.specs.Contents.{View}
 use Rattle.postscript_view.specs.Select.{IsSelected, Selects, offset_from, offset_of}
 use Rattle.postscript_view.specs.Value.{part_shown, parts_shown, view_shown}
 use Rattle.postscript_view.specs.declared.font.FontView.{FontView}

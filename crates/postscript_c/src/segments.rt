@@ -20,7 +20,7 @@ pub(crate) struct Segments {
     pub(crate) segments: Vec<PsfSegment>,
     bounds: Option<Bounds>,
     ghost shown: { AreShown segments.items } by { AreShown-prop segments.items },
-    ghost bounded: { bounds ≡ fold taking None (map meant segments.items) } by { Coded-set bounds-code bounds (fold taking None (map meant segments.items)) },
+    ghost bounded: { bounds ≡ fold taking None (map meant segments.items) } by { Coded-set bounds-code bounds _ },
 }
 
 impl Segments {

@@ -14,7 +14,7 @@ use Rattle.postscript_drawing.specs.declared.stroke.Stroke.TheVariants.{Move, Li
 use Rattle.postscript_drawing.specs.declared.stroke.Vector.{Vector}
 use Rattle.postscript_drawing.specs.declared.undrawn.Undrawn.{Undrawn}
 use Rattle.postscript_drawing.specs.declared.undrawn.Undrawn.TheVariants.{Overflow, Full}
-use Rattle.postscript_drawing.specs.Bends.{IsDrawnBy, IsRefused}
+use Rattle.postscript_drawing.specs.Bends.{IsDrawnBy, IsCurveRefused}
 use Rattle.postscript_drawing.specs.Drawing.{Drawing, ◌>>=◌, begun, closed, closing, drawing, drawn, held, opening, reached}
 use Rattle.postscript_drawing.specs.Outcome.{DrawsInto, DrawsStrokes, IsFront}
 use Rattle.postscript_drawing.proofs.GivenLaws.{drawing-append, drawing-behind, drawing-grows, front-of, front-through, front-under, mapped, prefixed}
@@ -233,5 +233,5 @@ pub curved : (pen : Pen) (a b c : Vector) (p q r : Point) → IsDrawnBy pen.at a
     (held pen []) ≡ Ok (standing r (opening pen ++ CurveTo p q r ∷ []))
 curved pen a b c p q r is = is pen.is_open [] ∙ ap (λ v. Ok (standing r (v ++ CurveTo p q r ∷ []))) (begun-there pen.at pen.is_open)
 
-pub curved-out : (pen : Pen) (a b c : Vector) → IsRefused pen.at a b c → drawn (Curve a b c) (held pen []) ≡ Err overflow
+pub curved-out : (pen : Pen) (a b c : Vector) → IsCurveRefused pen.at a b c → drawn (Curve a b c) (held pen []) ≡ Err overflow
 curved-out pen a b c is = is pen.is_open []

@@ -25,7 +25,7 @@ use Rattle.postscript_drawing.specs.Outcome.{IsFront}
 use Rattle.postscript_drawing.specs.Given.{GivesComponent, GivesComponents, GivesGlyph, GivesOwn, GivesOwnFront}
 use Rattle.postscript_drawing.specs.Outline.{drawing_of, finished, outlined_at}
 use Rattle.postscript_drawing.specs.Drawn.{DrawsAt, DrawsComponent, DrawsComponents, HasOwn, IsDrawnAs, Takes, zero_point}
-use Rattle.postscript_drawing.specs.Refused.{AreRefused, IsAccented, IsComponentRefused, IsGlyphRefused, IsNested, IsRefused, IsUnread}
+use Rattle.postscript_drawing.specs.Refused.{AreRefused, IsAccented, IsComponentRefused, IsGlyphRefused, IsNested, IsUndrawnGlyph, IsUnread}
 use Rattle.postscript_drawing.proofs.GivenLaws.{front-of}
 use Rattle.postscript_drawing.specs.declared.accent.Accent.{Accent}
 use Rattle.postscript_drawing.specs.declared.glyph.Own.{Own}
@@ -161,7 +161,7 @@ accent-refused left (Err e) font accent (inr why) = inr (inr why)
 -- the components of an accented glyph are refused
 pub components-refused : (left : ℕ) (font : FontView) (glyph : ℕ) (origin : Point) (segments : List Segment) (width : Option ℤ)
     (accent : Accent) (e : Error) →
-    HasOwn font glyph origin segments width (Some accent) → IsWanting left e ⊎ AreRefused font accent e → IsRefused font glyph left e
+    HasOwn font glyph origin segments width (Some accent) → IsWanting left e ⊎ AreRefused font accent e → IsUndrawnGlyph font glyph left e
 components-refused left font glyph origin segments width accent e own (inl wanting) = inl wanting
 components-refused left font glyph origin segments width accent e own (inr why) =
     inr (inr (record { accent = accent; accented = is-accented font glyph origin segments width accent own; refused = why }))

@@ -12,8 +12,8 @@ abbrev pub standing : Point → Bool → List Segment → Drawing
 standing at is_open segments = record { place = at; is_open = is_open; segments = segments }
 
 -- a coordinate leaves the range
-abbrev pub IsRefused : (from : Point) (a b c : Vector) → Type 0
-IsRefused from a b c = (is_open : Bool) (segments : List Segment) → drawn (Curve a b c) (standing from is_open segments) ≡ Err overflow
+abbrev pub IsCurveRefused : (from : Point) (a b c : Vector) → Type 0
+IsCurveRefused from a b c = (is_open : Bool) (segments : List Segment) → drawn (Curve a b c) (standing from is_open segments) ≡ Err overflow
 
 -- these are its control points and its end
 abbrev pub IsDrawnBy : (from : Point) (a b c : Vector) (first second to : Point) → Type 0

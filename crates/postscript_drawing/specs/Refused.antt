@@ -71,5 +71,5 @@ pub record HasComponentsRefused (font : FontView) (glyph : ℕ) (e : Error) : Ty
   pub refused : AreRefused font accent e
 
 -- Why a glyph is not drawn: memory, room or the limit runs out, the glyph is refused by itself, or its components are.
-abbrev pub IsRefused : FontView → (glyph : ℕ) → (left : ℕ) → Error → Type 0
-IsRefused font glyph left e = IsWanting left e ⊎ IsGlyphRefused font glyph zero_point e ⊎ HasComponentsRefused font glyph e
+abbrev pub IsUndrawnGlyph : FontView → (glyph : ℕ) → (left : ℕ) → Error → Type 0
+IsUndrawnGlyph font glyph left e = IsWanting left e ⊎ IsGlyphRefused font glyph zero_point e ⊎ HasComponentsRefused font glyph e

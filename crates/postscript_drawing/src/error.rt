@@ -3,10 +3,12 @@ ghost use Rattle.std.specs.Prelude.{◌≡◌};
 ghost use Rattle.postscript_drawing.specs.Undrawn.{error_of};
 ghost use Rattle.postscript_base.specs.declared.error.Error.TheVariants as causes;
 ghost use Rattle.postscript_drawing.specs.declared.error.Error.TheVariants as errors;
+ghost use Rattle.postscript_type2.specs.Refused.{error_of as cause_of};
 
 use crate::undrawn::Undrawn;
 use postscript_base::Error as Cause;
 use postscript_outline::Full;
+use postscript_type2::Refused;
 use std::alloc::{AllocError, AllocFailed};
 use thiserror::Error;
 
@@ -49,6 +51,15 @@ impl From<Cause> for Error {
 
     fn from(fault: Cause) -> Error {
         Error::Font(fault)
+    }
+}
+
+/// A refusal of a program: `Font`. Never refused.
+impl From<Refused> for Error {
+    ghost from_gives = { λ refused e. e ≡ errors.Font (cause_of refused) };
+
+    fn from(refused: Refused) -> Error {
+        Error::Font(Cause::from(refused))
     }
 }
 

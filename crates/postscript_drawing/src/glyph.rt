@@ -5,7 +5,7 @@ ghost use Rattle.postscript_drawing.specs.Accents.{IsTold, run_by};
 ghost use Rattle.postscript_drawing.specs.DrawnProgram.{DrawsFront, IsUndrawn, IsWanting};
 ghost use Rattle.postscript_drawing.specs.Drawn.{DrawsAt, DrawsComponent, DrawsComponents, DrawsGlyph, HasOwn, IsDrawnAs, Takes};
 ghost use Rattle.postscript_drawing.specs.Given.{GivesComponent, GivesComponents, GivesGlyph, GivesOwn};
-ghost use Rattle.postscript_drawing.specs.Refused.{AreRefused, IsComponentRefused, IsGlyphRefused, IsRefused, IsUnread};
+ghost use Rattle.postscript_drawing.specs.Refused.{AreRefused, IsComponentRefused, IsGlyphRefused, IsUndrawnGlyph, IsUnread};
 ghost use Rattle.postscript_drawing.specs.Spending.{PaysCode, PaysComponents, PaysDrawing, PaysOwn, SpendsOnRuns};
 ghost use Rattle.postscript_drawing.specs.declared.error.Error.TheVariants as errors;
 ghost use Rattle.postscript_outline.specs.Points.{point};
@@ -37,7 +37,7 @@ pub fn outline_of(
     limit: &mut u64,
 ) -> Result<Outline>
     ensures found { IfOk result (λ outline. IsDrawnAs font.now glyph outline.segments.items outline.width_difference) }
-    ensures why { IfErr result (λ e. IsRefused font.now glyph limit.new e) }
+    ensures why { IfErr result (λ e. IsUndrawnGlyph font.now glyph limit.new e) }
     ensures memory { result ≢ Err errors.Full }
     ensures paid { OnOk result (PaysDrawing font.now glyph limit.old limit.new) }
     ensures spends { SpendsOnRuns font.now 3 limit.old limit.new }
@@ -51,7 +51,7 @@ pub fn outline_of(
 /// The same, but that a list that takes no more is told as such.
 fn outlined(alloc: Global, font: &FontView<'_>, glyph: usize, limit: &mut u64) -> Result<Outline>
     ensures found { IfOk result (λ outline. IsDrawnAs font.now glyph outline.segments.items outline.width_difference) }
-    ensures why { IfErr result (λ e. IsRefused font.now glyph limit.new e) }
+    ensures why { IfErr result (λ e. IsUndrawnGlyph font.now glyph limit.new e) }
     ensures paid { OnOk result (PaysDrawing font.now glyph limit.old limit.new) }
     ensures spends { SpendsOnRuns font.now 3 limit.old limit.new }
 {
@@ -83,7 +83,7 @@ pub fn draw_glyph<S: Sink>(
     sink: &mut S,
 ) -> Result<Option<Operand>>
     ensures drawn { IfOk result (λ width. DrawsGlyph S.after (S.state sink.old) (S.state sink.new) font.now glyph width) }
-    ensures why { IfErr result (λ e. IsRefused font.now glyph limit.new e) }
+    ensures why { IfErr result (λ e. IsUndrawnGlyph font.now glyph limit.new e) }
     ensures front { OnErr result (GivesGlyph S.after (S.state sink.old) (S.state sink.new) font.now glyph) }
     ensures full { result ≡ Err errors.Full → S.refuses (S.state sink.new) }
     ensures paid { OnOk result (PaysDrawing font.now glyph limit.old limit.new) }

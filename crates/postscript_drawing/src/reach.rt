@@ -1,7 +1,7 @@
 //! Where vectors lead.
 ghost use Rattle.std.specs.Prelude.{◌≡◌, ◌+ℤ◌, Ok, Err, MatchOption};
 ghost use Rattle.postscript_base.specs.Refusal.{overflow};
-ghost use Rattle.postscript_drawing.specs.Bends.{IsDrawnBy, IsRefused};
+ghost use Rattle.postscript_drawing.specs.Bends.{IsDrawnBy, IsCurveRefused};
 ghost use Rattle.postscript_drawing.specs.Drawing.{reached};
 ghost use Rattle.postscript_type2.specs.Program.FixedPoint.{fit};
 
@@ -27,7 +27,7 @@ pub(crate) fn reach_by_curve(
     b: Vector,
     c: Vector,
 ) -> Option<(Point, Point, Point)>
-    ensures { MatchOption result (IsRefused from a b c) (λ p. IsDrawnBy from a b c p.0 p.1 p.2) }
+    ensures { MatchOption result (IsCurveRefused from a b c) (λ p. IsDrawnBy from a b c p.0 p.1 p.2) }
 {
     let first = reach(from, a)?;
     let second = reach(first, b)?;

@@ -4,7 +4,7 @@ use Rattle.std.proofs.Math.Nat.{lt_of_mul-lt-mul_right, one-le-pow, pow-suc}
 use Rattle.std.proofs.lemmas.Bool.Decides.{nat_tests}
 use Rattle.postscript_outline.specs.declared.curve.Curve.{Curve}
 use Rattle.postscript_outline.specs.declared.curve.Span.{Span}
-use Rattle.postscript_outline.specs.Halves.{IsBent, IsNearLevel, IsWithin, Spans, back, cube, front, height, joined}
+use Rattle.postscript_outline.specs.Halves.{IsBent, IsNearLevel, IsCurveWithin, Spans, back, cube, front, height, joined}
 
 height-front : (c : Curve) (m n : ℕ) → height (front c) m n ≡ height c (2 * m + n) n
 height-front c m n = omega arith
@@ -185,10 +185,10 @@ pub some-parts : (unit h : ℕ) → unit * 8 ^ h ≡ 2 ^ 51 → 0 < unit
 some-parts zero h is = let z : 0 * 8 ^ h ≡ 0 = omega arith in omega arith
 some-parts (suc unit) h is = omega arith
 
-pub within-front : (c : Curve) (unit : ℕ) → IsWithin (2 ^ 32 * unit) c → IsWithin (2 ^ 32 * (8 * unit)) (front c)
+pub within-front : (c : Curve) (unit : ℕ) → IsCurveWithin (2 ^ 32 * unit) c → IsCurveWithin (2 ^ 32 * (8 * unit)) (front c)
 within-front c unit h = record { from = omega arith; first = omega arith; second = omega arith; to = omega arith }
 
-pub within-back : (c : Curve) (unit : ℕ) → IsWithin (2 ^ 32 * unit) c → IsWithin (2 ^ 32 * (8 * unit)) (back c)
+pub within-back : (c : Curve) (unit : ℕ) → IsCurveWithin (2 ^ 32 * unit) c → IsCurveWithin (2 ^ 32 * (8 * unit)) (back c)
 within-back c unit h = record { from = omega arith; first = omega arith; second = omega arith; to = omega arith }
 
 -- each half bends a quarter as much, of eight times as many parts

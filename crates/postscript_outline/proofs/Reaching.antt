@@ -5,7 +5,7 @@ use Rattle.std.proofs.Math.IntN.{negsuc-*ℤ-pos}
 use Rattle.postscript_outline.specs.Arcs.{Reaches, bezier}
 use Rattle.postscript_outline.specs.declared.curve.Curve.{Curve}
 use Rattle.postscript_outline.specs.declared.curve.Span.{Span}
-use Rattle.postscript_outline.specs.Halves.{IsWithin, Spans, height}
+use Rattle.postscript_outline.specs.Halves.{IsCurveWithin, Spans, height}
 
 -- so many from the least coordinate on
 abbrev Raised : ℤ → ℕ → Type 0
@@ -60,5 +60,5 @@ spans-reaches c span low high p q r s a b d e l h is = record {
 pub spans-low : (c : Curve) (span : Span) → c.from ≤ 2 ^ 32 - 1 → Spans span 1 c → span.low ≤ 2 ^ 32 - 1
 spans-low c span h is = let i = is.above 1 0 in omega arith
 
-pub spans-high : (c : Curve) (span : Span) → IsWithin (2 ^ 32 - 1) c → Spans span 1 c → span.high ≤ 2 ^ 32 - 1
+pub spans-high : (c : Curve) (span : Span) → IsCurveWithin (2 ^ 32 - 1) c → Spans span 1 c → span.high ≤ 2 ^ 32 - 1
 spans-high c span h is = is.greatest (2 ^ 32 - 1) (omega arith) (omega arith) (omega arith) (omega arith)

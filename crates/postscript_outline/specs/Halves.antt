@@ -28,7 +28,7 @@ back c = record {
 }
 
 -- no coordinate is greater
-pub record IsWithin (most : ℕ) (c : Curve) : Type 0 where
+pub record IsCurveWithin (most : ℕ) (c : Curve) : Type 0 where
   pub from : c.from ≤ most
   pub first : c.first ≤ most
   pub second : c.second ≤ most

@@ -1,6 +1,6 @@
 //! Bézier curves along one axis.
 ghost use Rattle.std.specs.Prelude.{◌≡◌, ◌+◌, ◌*◌, ◌^◌, ◌≤◌, ◌<◌, ◌↔◌, ◌-◌, ◌+ℤ◌, pos, IsTrue, min, max};
-ghost use Rattle.postscript_outline.specs.Halves.{Spans, IsLevel, IsWithin, IsBent, IsNearLevel, back as the_back, front as the_front, joined};
+ghost use Rattle.postscript_outline.specs.Halves.{Spans, IsLevel, IsCurveWithin, IsBent, IsNearLevel, back as the_back, front as the_front, joined};
 ghost use Rattle.postscript_outline.specs.Arcs.{Reaches};
 
 /// How often a curve is halved at most: so often that what is left lies within a unit of its ends.
@@ -37,7 +37,7 @@ impl Span {
 impl Curve {
     /// Its first half, in eighths.
     fn front(self) -> Curve
-        requires { IsWithin (2 ^ 83) self }
+        requires { IsCurveWithin (2 ^ 83) self }
         ensures { result ≡ the_front self }
     {
         Curve {
@@ -50,7 +50,7 @@ impl Curve {
 
     /// Its second half, in eighths.
     fn back(self) -> Curve
-        requires { IsWithin (2 ^ 83) self }
+        requires { IsCurveWithin (2 ^ 83) self }
         ensures { result ≡ the_back self }
     {
         Curve {
@@ -72,7 +72,7 @@ impl Curve {
     /// From where to where its ends and control points come, in units of so many parts.
     fn hull(self, unit: u128) -> Span
         requires some { 0 < unit }
-        requires room { IsWithin (2 ^ 84) self }
+        requires room { IsCurveWithin (2 ^ 84) self }
         requires near { IsNearLevel unit self }
         ensures { Spans result unit self }
     {
@@ -87,7 +87,7 @@ impl Curve {
     /// From where to where it comes, in units of so many parts, with at most so many halvings.
     fn span(self, unit: u128, halvings: u32) -> Span
         requires parts { unit * 8 ^ halvings ≡ 2 ^ 51 }
-        requires room { IsWithin (2 ^ 32 * unit) self }
+        requires room { IsCurveWithin (2 ^ 32 * unit) self }
         requires bent { IsBent (2 ^ halvings) (2 ^ 50) self }
         ensures { Spans result unit self }
     {

@@ -7,7 +7,7 @@ use Rattle.postscript_sfnt.specs.Choice.{IsChosen, place_at, rank, rank_at, reco
 use Rattle.postscript_sfnt.specs.Maps.{IsMapAt, IsWhole}
 use Rattle.postscript_sfnt.specs.declared.character_map.CharacterMap.{CharacterMap}
 use Rattle.postscript_sfnt.specs.declared.character_map.CharacterMap.TheVariants.{Segments, Groups, Trimmed}
-use Rattle.postscript_sfnt_write.specs.Grouping.{AllFit, AreBelow, GroupsFit, IsLarge, IsSmall, encoding_text, end, format12_text, groups, head4_text, large_text, rows_text, small_text}
+use Rattle.postscript_sfnt_write.specs.Grouping.{MappingsFit, AreBelow, GroupsFit, IsLarge, IsSmall, encoding_text, end, format12_text, groups, head4_text, large_text, rows_text, small_text}
 use Rattle.postscript_sfnt_write.specs.Mappings.{AreTold, CharsRise, IsGlyphIn, IsReadable, Tells}
 use Rattle.postscript_sfnt_write.specs.Numbers.{uint16, uint32}
 use Rattle.postscript_sfnt_write.specs.declared.mapping.Group.{Group}
@@ -255,7 +255,7 @@ unfolding small_text encoding_text uint16 uint32
 length-small = refl
 
 pub small_answer : (cmap : List ℕ) (gs : List Group) (ms : List Mapping) → CharsRise ms → AreBelow ms → gs ≡ groups (ms ++ end ∷ []) →
-    length gs < 8002 → AllFit (ms ++ end ∷ []) → IsSmall cmap gs → Answer cmap ms
+    length gs < 8002 → MappingsFit (ms ++ end ∷ []) → IsSmall cmap gs → Answer cmap ms
 small_answer cmap gs ms rise below is few fit text =
     let body = head4_text (length gs) text.selector ++ rows_text gs in
     let s = whole cmap (small_text ++ body) text.text in
@@ -283,7 +283,7 @@ unfolding head4_text uint16
 length-head count selector = refl
 
 pub large_answer : (cmap : List ℕ) (low gs : List Group) (ms : List Mapping) → CharsRise ms → gs ≡ groups ms → length low < 8002 →
-    16 + length gs * 12 < 2 ^ 32 → AllFit ms → GroupsFit gs → IsLarge cmap low gs → Answer cmap ms
+    16 + length gs * 12 < 2 ^ 32 → MappingsFit ms → GroupsFit gs → IsLarge cmap low gs → Answer cmap ms
 large_answer cmap low gs ms rise is few small fit fits text =
     let behind : ℕ = 52 + length low * 8 in
     let head : List ℕ = head4_text (length low) text.selector ++ rows_text low in

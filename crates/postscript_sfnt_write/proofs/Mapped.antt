@@ -4,7 +4,7 @@ use Rattle.std.specs.Prelude.{if◌then◌else◌, nat_lt}
 use Rattle.std.proofs.lemmas.Bool.{lt-ltb}
 use Rattle.postscript_base.specs.Index.{number_at}
 use Rattle.postscript_sfnt.specs.CharacterMap.{Holds, IsFirst, IsGlyphOf, first12, last12, glyph12, gives12}
-use Rattle.postscript_sfnt_write.specs.Grouping.{AllFit, GroupFits, GroupsFit, IsGroup, format12_text, group_text, groups_text}
+use Rattle.postscript_sfnt_write.specs.Grouping.{MappingsFit, GroupFits, GroupsFit, IsGroup, format12_text, group_text, groups_text}
 use Rattle.postscript_sfnt_write.specs.Mappings.{IsGlyphIn, IsMapping}
 use Rattle.postscript_sfnt_write.specs.Numbers.{uint16, uint32}
 use Rattle.postscript_sfnt_write.specs.declared.mapping.Group.{Group}
@@ -54,7 +54,7 @@ lacks first last gives count gs ms char are say none i held =
     none has.i has.mapping has.there has.char_is
 
 pub told_glyph : (first last : ℕ → ℕ) (gives : (i char : ℕ) → ℕ) (count : ℕ) (gs : List Group) (ms : List Mapping) (char glyph : ℕ) →
-    Are first last gives count gs → Say gs ms → AllFit ms →
+    Are first last gives count gs → Say gs ms → MappingsFit ms →
     IsGlyphOf first last gives count char glyph → IsGlyphIn ms char glyph
 told_glyph first last gives count gs ms char glyph are say fit of = record {
   given = λ i m there e.

@@ -7,7 +7,7 @@ use Rattle.std.proofs.lemmas.List.{append-nil, append_assoc, at_drop_more, at_dr
 use Rattle.postscript_base.specs.Numbers.{two_sided}
 use Rattle.postscript_base.specs.Index.{number_at}
 use Rattle.postscript_sfnt.specs.Metrics.{IsWord, advance_of}
-use Rattle.postscript_sfnt_write.specs.Layout.{AllFit, metric_text, metrics_text}
+use Rattle.postscript_sfnt_write.specs.Layout.{MetricsFit, metric_text, metrics_text}
 use Rattle.postscript_sfnt_write.specs.Metrics.{CanBeRead, IsMetric, KeepsBut, TellsAdvances, TellsBearings}
 use Rattle.postscript_sfnt_write.specs.Numbers.{uint16, uint32}
 use Rattle.postscript_sfnt_write.specs.declared.metrics.Metric.{Metric}
@@ -68,7 +68,7 @@ record Told (bytes : List ℕ) (i : ℕ) (m : Metric) : Type 0 where
   advance : number_at bytes (i * 4) 2 ≡ m.advance
   bearing : number_at bytes (i * 4 + 2) 2 ≡ cast_unsigned w16 m.bearing
 
-told : (bytes : List ℕ) (metrics : List Metric) → bytes ≡ metrics_text metrics → AllFit metrics → (i : ℕ) (m : Metric) →
+told : (bytes : List ℕ) (metrics : List Metric) → bytes ≡ metrics_text metrics → MetricsFit metrics → (i : ℕ) (m : Metric) →
     IsMetric metrics i m → Told bytes i m
 unfolding metric_text
 told bytes metrics text fit i m e =
@@ -84,7 +84,7 @@ told bytes metrics text fit i m e =
       bearing = uint16_stands (cast_unsigned w16 m.bearing) (fit i m e).small (stands_second a b 2 (length-uint16 m.advance) here);
     }
 
-pub tells_advances : (bytes : List ℕ) (metrics : List Metric) → bytes ≡ metrics_text metrics → AllFit metrics → TellsAdvances bytes metrics
+pub tells_advances : (bytes : List ℕ) (metrics : List Metric) → bytes ≡ metrics_text metrics → MetricsFit metrics → TellsAdvances bytes metrics
 tells_advances bytes metrics text fit hhea advances word of i m e =
     let less : i < length metrics = metric_below metrics i m e in
     let count : advances.count ≡ length metrics = of.told.counted.value ∙ sym word.value in
@@ -93,7 +93,7 @@ tells_advances bytes metrics text fit hhea advances word of i m e =
     ap (λ (xs : List ℕ). advance_of xs advances.count i) of.lent
     ∙ ap (λ b. if b then number_at bytes (i * 4) 2 else number_at bytes ((advances.count - 1) * 4) 2) yes ∙ here
 
-pub tells_bearings : (bytes : List ℕ) (metrics : List Metric) → bytes ≡ metrics_text metrics → AllFit metrics → TellsBearings bytes metrics
+pub tells_bearings : (bytes : List ℕ) (metrics : List Metric) → bytes ≡ metrics_text metrics → MetricsFit metrics → TellsBearings bytes metrics
 tells_bearings bytes metrics text fit i m e = ap (two_sided 32768) (told bytes metrics text fit i m e).bearing ∙ (fit i m e).bearing
 
 pub can_be_read : (bytes : List ℕ) (metrics : List Metric) → bytes ≡ metrics_text metrics → CanBeRead bytes metrics

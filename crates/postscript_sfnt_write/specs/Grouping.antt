@@ -7,12 +7,12 @@ use Rattle.postscript_sfnt_write.specs.declared.mapping.Mapping.{Mapping}
 use Rattle.postscript_sfnt_write.specs.declared.mapping.Row.{Row}
 use Rattle.postscript_sfnt_write.specs.declared.mapping.Row.TheVariants.{Delta, End, Offset, Start}
 
-pub record Fits (mapping : Mapping) : Type 0 where
+pub record MappingFits (mapping : Mapping) : Type 0 where
   pub char : mapping.char < 2 ^ 32
   pub glyph : mapping.glyph < 2 ^ 16
 
-abbrev pub AllFit : List Mapping → Type 0
-AllFit mappings = (i : ℕ) (mapping : Mapping) → IsMapping mappings i mapping → Fits mapping
+abbrev pub MappingsFit : List Mapping → Type 0
+MappingsFit mappings = (i : ℕ) (mapping : Mapping) → IsMapping mappings i mapping → MappingFits mapping
 
 -- the character goes on where the group ends
 abbrev pub goes_on : Group → Mapping → Bool

@@ -72,10 +72,10 @@ metrics_text [] = []
 metrics_text (metric ∷ metrics) = metric_text metric ++ metrics_text metrics
 
 -- metrics of 16 bits
-pub record Fits (metric : Metric) : Type 0 where
+pub record MetricFits (metric : Metric) : Type 0 where
   pub advance : metric.advance < 2 ^ 16
   pub small : cast_unsigned w16 metric.bearing < 2 ^ 16
   pub bearing : two_sided 32768 (cast_unsigned w16 metric.bearing) ≡ metric.bearing
 
-abbrev pub AllFit : List Metric → Type 0
-AllFit metrics = (glyph : ℕ) (metric : Metric) → IsMetric metrics glyph metric → Fits metric
+abbrev pub MetricsFit : List Metric → Type 0
+MetricsFit metrics = (glyph : ℕ) (metric : Metric) → IsMetric metrics glyph metric → MetricFits metric

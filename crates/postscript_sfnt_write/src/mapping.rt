@@ -1,7 +1,7 @@
 //! Character maps, written (ISO/IEC 14496-22, 5.2.1).
 ghost use Rattle.std.specs.Prelude.{◌≡◌, ℕ, ◌+◌, ◌*◌, ◌^◌, ◌<◌, ◌≤◌, [], ◌∷◌, ◌++◌, List, length, IsTrue, ◌↔◌, OnOk, IfOk, IfErr};
 ghost use Rattle.postscript_sfnt_write.specs.Mappings.{AreTold, CharsRise, IsReadable, RefusesMap};
-ghost use Rattle.postscript_sfnt_write.specs.Grouping.{AllFit, AreBelow, Fits, GroupFits, GroupsFit, IsLarge, IsSmall, encoding_text, end, format12_text, goes_on as the_goes_on, group_of as the_group_of, group_text, grouped, groups as the_groups, groups_text, head4_text, large_text, row_number, row_text, rows_text};
+ghost use Rattle.postscript_sfnt_write.specs.Grouping.{MappingsFit, AreBelow, MappingFits, GroupFits, GroupsFit, IsLarge, IsSmall, encoding_text, end, format12_text, goes_on as the_goes_on, group_of as the_group_of, group_text, grouped, groups as the_groups, groups_text, head4_text, large_text, row_number, row_text, rows_text};
 ghost use Rattle.postscript_sfnt_write.specs.declared.mapping.Mapping.{Mapping};
 
 use crate::error::{Error, Result};
@@ -73,7 +73,7 @@ fn chars_rise(mappings: &[Mapping]) -> bool
 /// Whether a character with a glyph goes on where the group ends.
 fn goes_on(group: &Group, mapping: &Mapping) -> bool
     ensures exact { result ≡ the_goes_on group.now mapping.now }
-    ensures fits { Fits mapping.now }
+    ensures fits { MappingFits mapping.now }
 {
     mapping.char as u64 == group.end as u64 + 1
         && mapping.glyph as u64 + group.start as u64 == group.glyph as u64 + mapping.char as u64
@@ -82,7 +82,7 @@ fn goes_on(group: &Group, mapping: &Mapping) -> bool
 /// The group of one character.
 fn group_of(mapping: Mapping) -> Group
     ensures exact { result ≡ the_group_of mapping }
-    ensures fits { Fits mapping }
+    ensures fits { MappingFits mapping }
 {
     Group {
         start: mapping.char,
@@ -100,7 +100,7 @@ fn next_group(
 ) -> std::result::Result<Group, AllocError>
     ensures exact { IfOk result (λ next. (rest : List Mapping) →
         groups.new.items ++ grouped next rest ≡ groups.old.items ++ grouped group (mapping.now ∷ rest)) }
-    ensures fits { Fits mapping.now }
+    ensures fits { MappingFits mapping.now }
 {
     if goes_on(&group, mapping) {
         return Ok(Group {
@@ -121,7 +121,7 @@ fn groups_from(
 ) -> std::result::Result<Vec<Group>, AllocError>
     ensures exact { IfOk result (λ groups. groups.items ≡ grouped first mappings.now) }
     ensures few { IfOk result (λ groups. length groups.items ≤ length mappings.now + 1) }
-    ensures fit { OnOk result (AllFit mappings.now) }
+    ensures fit { OnOk result (MappingsFit mappings.now) }
 {
     let mut groups = Vec::new(alloc);
     let mut group = first;
@@ -137,7 +137,7 @@ fn groups_from(
 fn groups(alloc: Global, mappings: &[Mapping]) -> std::result::Result<Vec<Group>, AllocError>
     ensures exact { IfOk result (λ groups. groups.items ≡ the_groups mappings.now) }
     ensures few { IfOk result (λ groups. length groups.items ≤ length mappings.now) }
-    ensures fit { OnOk result (AllFit mappings.now) }
+    ensures fit { OnOk result (MappingsFit mappings.now) }
 {
     match mappings {
         [] => Ok(Vec::new(alloc)),
@@ -265,7 +265,7 @@ fn segments(alloc: Global, mappings: &[Mapping]) -> std::result::Result<Vec<Grou
     ensures exact { IfOk result (λ segments. segments.items ≡ the_groups (mappings.now ++ end ∷ [])) }
     ensures some { IfOk result (λ segments. 0 < length segments.items) }
     ensures few { IfOk result (λ segments. length segments.items ≤ length mappings.now + 1) }
-    ensures fit { OnOk result (AllFit (mappings.now ++ end ∷ [])) }
+    ensures fit { OnOk result (MappingsFit (mappings.now ++ end ∷ [])) }
 {
     let all = with_end(alloc, mappings)?;
     groups(alloc, all.as_slice())
@@ -361,7 +361,7 @@ fn of_segments(
     requires below { AreBelow mappings.now }
     requires exact { segments.now ≡ the_groups (mappings.now ++ end ∷ []) }
     requires most { length segments.now < 8002 }
-    requires fit { AllFit (mappings.now ++ end ∷ []) }
+    requires fit { MappingsFit (mappings.now ++ end ∷ []) }
     ensures read { IfOk result (λ cmap. IsReadable cmap.items) }
     ensures told { IfOk result (λ cmap. AreTold cmap.items mappings.now) }
 {

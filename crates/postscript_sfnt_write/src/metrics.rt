@@ -2,7 +2,7 @@
 ghost use Rattle.std.specs.Prelude.{◌≡◌, ℕ, ◌+◌, ◌*◌, ◌<◌, ◌≤◌, ◌++◌, length, take, drop, replicate, OnOk, IfOk, IfErr};
 ghost use Rattle.postscript_base.specs.Index.{number_at as the_number};
 ghost use Rattle.postscript_sfnt.specs.Metrics.{IsGlyphs, IsWord};
-ghost use Rattle.postscript_sfnt_write.specs.Layout.{AllFit, Fits, metric_text, metrics_text};
+ghost use Rattle.postscript_sfnt_write.specs.Layout.{MetricsFit, MetricFits, metric_text, metrics_text};
 ghost use Rattle.postscript_sfnt_write.specs.Metrics.{CanBeRead, IsCutBelow, KeepsBut, TellsAdvances, TellsBearings};
 ghost use Rattle.postscript_sfnt_write.specs.Numbers.{uint16 as the_uint16};
 
@@ -21,7 +21,7 @@ pub struct Metric {
 #[tactic(auto, unfolding(crate::specs::Layout::metric_text))]
 fn put_metric(out: &mut Vec<u8>, metric: Metric) -> std::result::Result<(), AllocError>
     ensures text { OnOk result (out.new.items ≡ out.old.items ++ metric_text metric) }
-    ensures fits { Fits metric }
+    ensures fits { MetricFits metric }
 {
     put_uint16(out, metric.advance)?;
     put_uint16(out, metric.bearing.cast_unsigned())
@@ -41,7 +41,7 @@ pub fn hmtx(alloc: Global, metrics: &[Metric]) -> std::result::Result<Vec<u8>, A
 /// Metrics one behind the other.
 fn put_metrics(alloc: Global, metrics: &[Metric]) -> std::result::Result<Vec<u8>, AllocError>
     ensures text { IfOk result (λ table. table.items ≡ metrics_text metrics.now) }
-    ensures fit { OnOk result (AllFit metrics.now) }
+    ensures fit { OnOk result (MetricsFit metrics.now) }
 {
     let mut table = Vec::new(alloc);
     for metric in metrics {

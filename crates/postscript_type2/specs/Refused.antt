@@ -1,5 +1,5 @@
--- What the machine is refused with, and the error that tells it.
-use Rattle.std.specs.Prelude.{ℕ, List, Result, MatchResult}
+-- What a program is refused with, and the error that tells it.
+use Rattle.std.specs.Prelude.{ℕ, List, Result, Ok, Err, MatchResult}
 use Rattle.postscript_base.specs.declared.error.Error.{Error}
 use Rattle.postscript_base.specs.declared.error.Error.TheVariants as errors
 use Rattle.postscript_base.specs.Error.{IsOneOf}
@@ -28,6 +28,12 @@ error_of cases.Overflow = errors.Overflow
 error_of cases.ZeroDivisor = errors.ZeroDivisor
 error_of cases.NegativeRoot = errors.NegativeRoot
 error_of cases.TooManyStems = errors.TooManyStems
+error_of cases.AlreadyFailed = errors.AlreadyFailed
+
+-- the same answer, with the error in the place of the refusal
+abbrev pub with_error : {A : Type 0} → Result A Refused → Result A Error
+with_error (Ok answer) = Ok answer
+with_error (Err refused) = Err (error_of refused)
 
 -- the refusal that it tells
 abbrev pub reason : Refused → Refusal

@@ -1,4 +1,4 @@
-//! What the machine is refused with.
+//! What a program is refused with.
 ghost use Rattle.std.specs.Prelude.{◌≡◌};
 ghost use Rattle.postscript_type2.specs.Refused.{error_of};
 ghost use Rattle.postscript_type2.specs.declared.refused.Refused.TheVariants as cases;
@@ -11,7 +11,8 @@ use std::alloc::{AllocError, AllocFailed};
 pub type Result<T> = std::result::Result<T, Refused>;
 
 /// What a program is refused with, by the name that its error has: a small type, since an error may hold a fault of a tape.
-#[derive(Drop)]
+/// `Error::from` gives the error.
+#[derive(Debug, Drop)]
 pub enum Refused {
     Memory,
     UnexpectedEof,
@@ -31,6 +32,8 @@ pub enum Refused {
     ZeroDivisor,
     NegativeRoot,
     TooManyStems,
+    /// The program was refused before.
+    AlreadyFailed,
 }
 
 impl From<AllocError> for Refused {
@@ -72,6 +75,7 @@ impl From<Refused> for Error {
             Refused::ZeroDivisor => Error::ZeroDivisor,
             Refused::NegativeRoot => Error::NegativeRoot,
             Refused::TooManyStems => Error::TooManyStems,
+            Refused::AlreadyFailed => Error::AlreadyFailed,
         }
     }
 }

@@ -1,4 +1,5 @@
--- What a charstring is run over, and where a run stands: the operands, the stems, the scalars in use (OpenType 1.9, "CFF2 CharString Format").
+-- What a charstring is run over, and where a run stands: the operands, the stems, the scalars in use (OpenType 1.9, "CFF2 CharString
+-- Format").
 use Rattle.std.specs.Prelude.{ℕ, ℤ, Bool, false, List, [], ◌∷◌, ◌++◌, slice_get, Option}
 use Rattle.postscript_base.specs.Refusal.{Refusal}
 use Rattle.postscript_type2.specs.declared.operation.Operator.{Operator}

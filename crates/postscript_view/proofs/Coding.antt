@@ -7,7 +7,7 @@ use Rattle.std.specs.Option.{is_some, option_or}
 use Rattle.postscript_base.specs.Compact1.Defaults.{default_of, look}
 use Rattle.postscript_base.specs.Compact1.Dictionary.{Dictionary}
 use Rattle.postscript_base.specs.declared.compact1.operator.Operator.TheVariants as operators
-use Rattle.postscript_view.specs.Encoding.{Gives, HasCode, IsFirstGiven, IsFirstWithCode, IsInRanges, first_code, codes_left, coded}
+use Rattle.postscript_view.specs.Encoding.{Gives, HasCode, IsFirstGiven, IsFirstWithCode, IsInCodeRanges, first_code, codes_left, coded}
 use Rattle.postscript_view.specs.Naming.{Names}
 use Rattle.postscript_view.specs.declared.char_set.CharSetView.{CharSetView}
 use Rattle.postscript_view.specs.declared.encoding.Codes.{Codes}
@@ -37,7 +37,7 @@ abbrev pub HaveNot : List ℕ → (code r : ℕ) → Type 0
 HaveNot ranges code r = (q : ℕ) → q < r → first_code ranges q ≤ code → code ≤ first_code ranges q + codes_left ranges q → ⊥
 
 -- so that a glyph with the code stands behind them
-pub behind_them : (ranges : List ℕ) (code glyph r g : ℕ) → g ≡ 1 + coded ranges r → HaveNot ranges code r → IsInRanges ranges code glyph →
+pub behind_them : (ranges : List ℕ) (code glyph r g : ℕ) → g ≡ 1 + coded ranges r → HaveNot ranges code r → IsInCodeRanges ranges code glyph →
     g ≤ glyph
 behind_them ranges code glyph r g is none named =
     let not_low : named.range < r → ⊥ = λ below. none named.range below named.from named.to in
@@ -55,7 +55,7 @@ have_not ranges code r before here q below low high =
 -- where the next has it, the first glyph with the code is in it
 least : (ranges : List ℕ) (code glyph r g : ℕ) → g ≡ 1 + coded ranges r → HaveNot ranges code r → first_code ranges r ≤ code →
     code ≤ first_code ranges r + codes_left ranges r
-    → IsInRanges ranges code glyph → g + (code - first_code ranges r) ≤ glyph
+    → IsInCodeRanges ranges code glyph → g + (code - first_code ranges r) ≤ glyph
 least ranges code glyph r g is none low high named =
     let not_below : glyph < g + (code - first_code ranges r) → ⊥ = λ less.
     let not_low : named.range < r → ⊥ = λ below. none named.range below named.from named.to in
@@ -73,7 +73,7 @@ pub in_ranges : (o : Option ℕ) (ranges : List ℕ) (code r glyphs g step : ℕ
     g ≡ 1 + coded ranges r → HaveNot ranges code r
     → first_code ranges r ≤ code → code ≤ first_code ranges r + codes_left ranges r → IfSome o
     (λ found. (found ≡ g + step) × (found < glyphs))
-    → IfSome o (λ glyph. (glyph < glyphs) × IsInRanges ranges code glyph × ((other : ℕ) → other < glyph → IsInRanges ranges code other → ⊥))
+    → IfSome o (λ glyph. (glyph < glyphs) × IsInCodeRanges ranges code glyph × ((other : ℕ) → other < glyph → IsInCodeRanges ranges code other → ⊥))
 in_ranges None ranges code r glyphs g step stepped inside is none low high h = tt
 in_ranges (Some found) ranges code r glyphs g step stepped inside is none low high h =
     let place = h.0 in (
@@ -86,7 +86,7 @@ in_ranges (Some found) ranges code r glyphs g step stepped inside is none low hi
 pub not_in_ranges : (o : Option ℕ) (ranges : List ℕ) (code r glyphs g step : ℕ) → step ≡ code - first_code ranges r →
     g ≡ 1 + coded ranges r → HaveNot ranges code r
     → first_code ranges r ≤ code → code ≤ first_code ranges r + codes_left ranges r → IfNone o (glyphs ≤ g + step) → IfNone o
-    ((glyph : ℕ) → glyph < glyphs → IsInRanges ranges code glyph → ⊥)
+    ((glyph : ℕ) → glyph < glyphs → IsInCodeRanges ranges code glyph → ⊥)
 not_in_ranges (Some found) ranges code r glyphs g step stepped is none low high h = tt
 not_in_ranges None ranges code r glyphs g step stepped is none low high h = λ glyph below named.
     let no_less = least ranges code glyph r g is none low high named in

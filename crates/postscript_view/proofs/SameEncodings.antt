@@ -6,19 +6,19 @@ use Rattle.postscript_base.specs.declared.compact1.operator.Operator.TheVariants
 use Rattle.postscript_base.specs.declared.error.Error.{Error}
 use Rattle.postscript_compact1.specs.FontSet.Parts.{HasFirst, HasEncoding}
 use Rattle.postscript_compact1.specs.declared.encoding.Encoding.{Encoding}
-use Rattle.postscript_view.specs.Encodings.{IsEncodingOf, IsNamedBy}
+use Rattle.postscript_view.specs.Encodings.{IsEncodingOf, IsEncodingAtOffset}
 use Rattle.postscript_view.specs.SameEncoding.{IsSameEncoding}
 use Rattle.postscript_view.specs.declared.encoding.Codes.TheVariants.{Predefined}
 use Rattle.postscript_view.specs.declared.encoding.EncodingView.{EncodingView}
 use Rattle.postscript_view.proofs.SameSets.{offset_is}
 
 named : (view : EncodingView) (bytes : List ℕ) (map : Dictionary) (offset : ℕ) → HasFirst map operators.Encoding (pos offset) →
-    IsEncodingOf view bytes map → IsNamedBy view bytes offset
+    IsEncodingOf view bytes map → IsEncodingAtOffset view bytes offset
 named view bytes map offset first h =
     let is = offset_is map operators.Encoding offset first in
     let other = h.1 in
     let same : h.0 ≡ offset = cc in
-    subst (λ o. IsNamedBy view bytes o) same h.2
+    subst (λ o. IsEncodingAtOffset view bytes o) same h.2
 
 same_encoding : (view : EncodingView) (bytes : List ℕ) (map : Dictionary) (encoding : Encoding) → IsEncodingOf view bytes map →
     HasEncoding map encoding → IsSameEncoding encoding view

@@ -20,7 +20,7 @@ use Rattle.postscript_compact1.specs.declared.char_set.CharSet.TheVariants as se
 use Rattle.postscript_compact1.specs.declared.char_set.range.Range1.{Range1}
 use Rattle.postscript_compact1.specs.declared.char_set.range.Range2.{Range2}
 use Rattle.postscript_base.specs.Index.{number_at}
-use Rattle.postscript_view.specs.CharSets.{StandsAt, IsNamedBy, AreNamedIn, IsCharSetOf}
+use Rattle.postscript_view.specs.CharSets.{CharSetStandsAt, IsCharSetAtOffset, AreNamedIn, IsCharSetOf}
 use Rattle.postscript_view.specs.SameSet.{AreIdentifiers, BeginWith, IsSame}
 use Rattle.postscript_view.specs.Select.{offset_of}
 use Rattle.postscript_view.specs.declared.char_set.CharSetView.{CharSetView}
@@ -182,7 +182,7 @@ format_is bytes place format behind e =
     (sym one.1, one.2, one.0)
 
 at_place : (set : CharSet) (view : Identifiers) (bytes : List ℕ) (place glyphs next : ℕ) → IsCharSet bytes place glyphs set next →
-    StandsAt view bytes place glyphs → IsSame set view
+    CharSetStandsAt view bytes place glyphs → IsSame set view
 at_place sets.ISOAdobe view bytes place glyphs next h stands = absurd h
 at_place sets.Expert view bytes place glyphs next h stands = absurd h
 at_place sets.ExpertSubset view bytes place glyphs next h stands = absurd h
@@ -224,7 +224,7 @@ at_place (sets.Format2 set) (Ranges2 ranges) bytes place glyphs next h stands =
 
 -- what stands there can be lent
 lends : (set : CharSet) (bytes : Bor (List ℕ)) (place glyphs next : ℕ) → IsCharSet bytes.now place glyphs set next →
-    (view : Identifiers) × StandsAt view bytes.now place glyphs
+    (view : Identifiers) × CharSetStandsAt view bytes.now place glyphs
 lends sets.ISOAdobe bytes place glyphs next h = absurd h
 lends sets.Expert bytes place glyphs next h = absurd h
 lends sets.ExpertSubset bytes place glyphs next h = absurd h
@@ -255,12 +255,12 @@ unfolding offset_of
 offset_is map operator offset h = rw (h.1, h.2) refl
 
 named : (view : Identifiers) (bytes : List ℕ) (map : Dictionary) (offset glyphs : ℕ) → HasFirst map operators.CharSet (pos offset) →
-    AreNamedIn view bytes map glyphs → IsNamedBy view bytes offset glyphs
+    AreNamedIn view bytes map glyphs → IsCharSetAtOffset view bytes offset glyphs
 named view bytes map offset glyphs first h =
     let is = offset_is map operators.CharSet offset first in
     let other = h.1 in
     let same : h.0 ≡ offset = cc in
-    subst (λ o. IsNamedBy view bytes o glyphs) same h.2
+    subst (λ o. IsCharSetAtOffset view bytes o glyphs) same h.2
 
 pub same_set : (view : Identifiers) (bytes : List ℕ) (map : Dictionary) (glyphs : ℕ) (set : CharSet) → AreNamedIn view bytes map glyphs →
     HasCharSet bytes 0 glyphs map set → IsSame set view

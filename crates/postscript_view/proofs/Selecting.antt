@@ -4,11 +4,11 @@ use Rattle.std.specs.Prelude.{Option, Some, None, IfNone}
 use Rattle.postscript_base.specs.Compact1.Dictionary.{Dictionary}
 use Rattle.postscript_base.specs.declared.compact1.operator.Operator.TheVariants as operators
 use Rattle.postscript_base.specs.Index.{number_at}
-use Rattle.postscript_view.specs.Selecting.{IsOf, StandsAt}
+use Rattle.postscript_view.specs.Selecting.{IsSelectOf, SelectStandsAt}
 use Rattle.postscript_view.specs.declared.select.Ranges.{Ranges}
 use Rattle.postscript_view.specs.declared.select.Select.{Select}
 use Rattle.postscript_view.specs.declared.select.Select.TheVariants.{Listed, InRanges, Unknown}
-use Rattle.postscript_view.specs.Select.{offset_of, IsInRanges, IsSelected, Selects, first_glyph, AreInOrder, LiesIn}
+use Rattle.postscript_view.specs.Select.{offset_of, IsInGlyphRanges, IsSelected, Selects, first_glyph, AreInOrder, LiesIn}
 
 -- what does not fall from each to the next does not fall
 rise : (f : ℕ → ℕ) (count : ℕ) → ((r : ℕ) → r < count → f r ≤ f (r + 1)) → (i k : ℕ) → k + i ≤ count → f i ≤ f (k + i)
@@ -71,7 +71,7 @@ one_named bytes map glyphs glyph a b x y =
 
 -- what stands at the place that a dictionary names is what it names
 pub named : (s : Select) (bytes : List ℕ) (map : Dictionary) (place glyphs : ℕ) → offset_of map operators.FDSelect ≡ Some place →
-    StandsAt s bytes place glyphs → IsOf s bytes map glyphs
+    SelectStandsAt s bytes place glyphs → IsSelectOf s bytes map glyphs
 named (Listed list) bytes map place glyphs names h =
     let there = h.1 in
     (h.0, cc, h.2)
@@ -84,20 +84,20 @@ named Unknown bytes map place glyphs names h = λ glyph fd selected.
     h glyph fd (subst (λ p. Selects bytes p glyphs glyph fd) same selected.2)
 
 -- where the ranges give none, none is selected
-none_at_place : (r : Ranges) (glyph : ℕ) → ((fd : ℕ) → IsInRanges r.bytes.now r.place glyph fd → ⊥) → (bytes : List ℕ)
-    (place glyphs fd : ℕ) → StandsAt (InRanges r) bytes place glyphs → Selects bytes place glyphs glyph fd → ⊥
+none_at_place : (r : Ranges) (glyph : ℕ) → ((fd : ℕ) → IsInGlyphRanges r.bytes.now r.place glyph fd → ⊥) → (bytes : List ℕ)
+    (place glyphs fd : ℕ) → SelectStandsAt (InRanges r) bytes place glyphs → Selects bytes place glyphs glyph fd → ⊥
 none_at_place r glyph none bytes place glyphs fd stands selects =
     let bytes_are = stands.0 in
     let place_is = stands.1 in
     let format : number_at bytes place 1 ≡ number_at r.bytes.now r.place 1 = cc in
     elim selects [
       | inl listed ↦ absurd (omega (arith, listed.format, r.format, format))
-      | inr ranges ↦ none fd (subst (λ p. IsInRanges r.bytes.now p glyph fd) (sym place_is)
-          (subst (λ b. IsInRanges b place glyph fd) (sym bytes_are) ranges))
+      | inr ranges ↦ none fd (subst (λ p. IsInGlyphRanges r.bytes.now p glyph fd) (sym place_is)
+          (subst (λ b. IsInGlyphRanges b place glyph fd) (sym bytes_are) ranges))
     ]
 
-ranges_none : (r : Ranges) (glyph : ℕ) → ((fd : ℕ) → IsInRanges r.bytes.now r.place glyph fd → ⊥) → (bytes : List ℕ) (map : Dictionary)
-    (glyphs fd : ℕ) → IsOf (InRanges r) bytes map glyphs → IsSelected bytes map glyphs glyph fd → ⊥
+ranges_none : (r : Ranges) (glyph : ℕ) → ((fd : ℕ) → IsInGlyphRanges r.bytes.now r.place glyph fd → ⊥) → (bytes : List ℕ) (map : Dictionary)
+    (glyphs fd : ℕ) → IsSelectOf (InRanges r) bytes map glyphs → IsSelected bytes map glyphs glyph fd → ⊥
 ranges_none r glyph none bytes map glyphs fd is selected =
     let names = is.1 in
     let other = selected.1 in
@@ -105,24 +105,24 @@ ranges_none r glyph none bytes map glyphs fd is selected =
     none_at_place r glyph none bytes selected.0 glyphs fd (is.0, same) selected.2
 
 pub none_in_ranges_at : (o : Option ℕ) (s : Select) (r : Ranges) (glyph : ℕ) → s ≡ InRanges r →
-    IfNone o ((fd : ℕ) → IsInRanges r.bytes.now r.place glyph fd → ⊥)
-    → IfNone o ((bytes : List ℕ) (place glyphs fd : ℕ) → StandsAt s bytes place glyphs → Selects bytes place glyphs glyph fd → ⊥)
+    IfNone o ((fd : ℕ) → IsInGlyphRanges r.bytes.now r.place glyph fd → ⊥)
+    → IfNone o ((bytes : List ℕ) (place glyphs fd : ℕ) → SelectStandsAt s bytes place glyphs → Selects bytes place glyphs glyph fd → ⊥)
 none_in_ranges_at (Some fd) s r glyph is h = tt
 none_in_ranges_at None s r glyph is h =
     λ bytes place glyphs fd stands selects. none_at_place r glyph h bytes place glyphs fd
-    (subst (λ s. StandsAt s bytes place glyphs) is stands) selects
+    (subst (λ s. SelectStandsAt s bytes place glyphs) is stands) selects
 
 pub none_in_ranges : (o : Option ℕ) (s : Select) (r : Ranges) (glyph : ℕ) → s ≡ InRanges r →
-    IfNone o ((fd : ℕ) → IsInRanges r.bytes.now r.place glyph fd → ⊥)
-    → IfNone o ((bytes : List ℕ) (map : Dictionary) (glyphs fd : ℕ) → IsOf s bytes map glyphs → IsSelected bytes map glyphs glyph fd → ⊥)
+    IfNone o ((fd : ℕ) → IsInGlyphRanges r.bytes.now r.place glyph fd → ⊥)
+    → IfNone o ((bytes : List ℕ) (map : Dictionary) (glyphs fd : ℕ) → IsSelectOf s bytes map glyphs → IsSelected bytes map glyphs glyph fd → ⊥)
 none_in_ranges (Some fd) s r glyph is h = tt
 none_in_ranges None s r glyph is h =
-    λ bytes map glyphs fd of selected. ranges_none r glyph h bytes map glyphs fd (subst (λ s. IsOf s bytes map glyphs) is of) selected
+    λ bytes map glyphs fd of selected. ranges_none r glyph h bytes map glyphs fd (subst (λ s. IsSelectOf s bytes map glyphs) is of) selected
 
-pub none_known : (s : Select) (glyph : ℕ) → s ≡ Unknown → (bytes : List ℕ) (map : Dictionary) (glyphs fd : ℕ) → IsOf s bytes map glyphs →
+pub none_known : (s : Select) (glyph : ℕ) → s ≡ Unknown → (bytes : List ℕ) (map : Dictionary) (glyphs fd : ℕ) → IsSelectOf s bytes map glyphs →
     IsSelected bytes map glyphs glyph fd → ⊥
-none_known s glyph is bytes map glyphs fd of selected = subst (λ s. IsOf s bytes map glyphs) is of glyph fd selected
+none_known s glyph is bytes map glyphs fd of selected = subst (λ s. IsSelectOf s bytes map glyphs) is of glyph fd selected
 
-pub none_known_at : (s : Select) (glyph : ℕ) → s ≡ Unknown → (bytes : List ℕ) (place glyphs fd : ℕ) → StandsAt s bytes place glyphs →
+pub none_known_at : (s : Select) (glyph : ℕ) → s ≡ Unknown → (bytes : List ℕ) (place glyphs fd : ℕ) → SelectStandsAt s bytes place glyphs →
     Selects bytes place glyphs glyph fd → ⊥
-none_known_at s glyph is bytes place glyphs fd stands selects = subst (λ s. StandsAt s bytes place glyphs) is stands glyph fd selects
+none_known_at s glyph is bytes place glyphs fd stands selects = subst (λ s. SelectStandsAt s bytes place glyphs) is stands glyph fd selects

@@ -9,28 +9,28 @@ use Rattle.postscript_view.specs.declared.char_set.Identifiers.{Identifiers}
 use Rattle.postscript_view.specs.declared.char_set.Identifiers.TheVariants.{ISOAdobe, Expert, ExpertSubset, Listed, Ranges1, Ranges2}
 
 -- At a place stands the byte of the format. Behind it stand two bytes for each of so many glyphs but the first, or ranges.
-abbrev pub StandsAt : Identifiers → List ℕ → (place glyphs : ℕ) → Type 0
-StandsAt ISOAdobe bytes place glyphs = ⊥
-StandsAt Expert bytes place glyphs = ⊥
-StandsAt ExpertSubset bytes place glyphs = ⊥
-StandsAt (Listed identifiers) bytes place glyphs =
+abbrev pub CharSetStandsAt : Identifiers → List ℕ → (place glyphs : ℕ) → Type 0
+CharSetStandsAt ISOAdobe bytes place glyphs = ⊥
+CharSetStandsAt Expert bytes place glyphs = ⊥
+CharSetStandsAt ExpertSubset bytes place glyphs = ⊥
+CharSetStandsAt (Listed identifiers) bytes place glyphs =
     (number_at bytes place 1 ≡ 0) × (place + 1 + 2 * (glyphs - 1) ≤ length bytes)
     × (identifiers.now ≡ take (2 * (glyphs - 1)) (drop (place + 1) bytes))
-StandsAt (Ranges1 ranges) bytes place glyphs = (number_at bytes place 1 ≡ 1) × (place + 1 ≤ length bytes)
+CharSetStandsAt (Ranges1 ranges) bytes place glyphs = (number_at bytes place 1 ≡ 1) × (place + 1 ≤ length bytes)
     × (ranges.now ≡ drop (place + 1) bytes)
-StandsAt (Ranges2 ranges) bytes place glyphs = (number_at bytes place 1 ≡ 2) × (place + 1 ≤ length bytes)
+CharSetStandsAt (Ranges2 ranges) bytes place glyphs = (number_at bytes place 1 ≡ 2) × (place + 1 ≤ length bytes)
     × (ranges.now ≡ drop (place + 1) bytes)
 
 -- The offsets 0, 1 and 2 name the predefined sets; at another one stands the font's own.
-abbrev pub IsNamedBy : Identifiers → List ℕ → (offset glyphs : ℕ) → Type 0
-IsNamedBy identifiers bytes offset glyphs =
+abbrev pub IsCharSetAtOffset : Identifiers → List ℕ → (offset glyphs : ℕ) → Type 0
+IsCharSetAtOffset identifiers bytes offset glyphs =
     ((offset ≡ 0) × (identifiers ≡ ISOAdobe)) ⊎ ((offset ≡ 1) × (identifiers ≡ Expert)) ⊎ ((offset ≡ 2) × (identifiers ≡ ExpertSubset))
-    ⊎ ((3 ≤ offset) × StandsAt identifiers bytes offset glyphs)
+    ⊎ ((3 ≤ offset) × CharSetStandsAt identifiers bytes offset glyphs)
 
 -- the identifiers that a dictionary names, for so many glyphs
 abbrev pub AreNamedIn : Identifiers → List ℕ → Dictionary → (glyphs : ℕ) → Type 0
 AreNamedIn identifiers bytes map glyphs = (offset : ℕ) × (offset_of map operators.CharSet ≡ Some offset)
-    × IsNamedBy identifiers bytes offset glyphs
+    × IsCharSetAtOffset identifiers bytes offset glyphs
 
 -- the char set of a font of so many glyphs, whose dictionary names it
 pub record IsCharSetOf (set : CharSetView) (bytes : List ℕ) (map : Dictionary) (glyphs : ℕ) : Type 0 where

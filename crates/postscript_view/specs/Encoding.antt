@@ -29,7 +29,7 @@ coded ranges zero = 0
 coded ranges (suc r) = coded ranges r + (codes_left ranges r + 1)
 
 -- The codes of a range are those of sequential glyphs, and the ranges together begin with glyph 1.
-pub record IsInRanges (ranges : List ℕ) (code glyph : ℕ) : Type 0 where
+pub record IsInCodeRanges (ranges : List ℕ) (code glyph : ℕ) : Type 0 where
   pub range : ℕ
   pub there : range < length ranges / 2
   pub from : first_code ranges range ≤ code
@@ -60,7 +60,7 @@ abbrev pub GivesOwn : Codes → CharSetView → (code glyph : ℕ) → Type 0
 GivesOwn (Predefined encoding) set code glyph = (identifier : ℕ) × (identifier_of encoding code ≡ Some identifier) × (0 < identifier)
     × Names set glyph identifier
 GivesOwn (Listed codes) set code glyph = IsInList codes.now code glyph
-GivesOwn (Ranges ranges) set code glyph = IsInRanges ranges.now code glyph
+GivesOwn (Ranges ranges) set code glyph = IsInCodeRanges ranges.now code glyph
 
 -- An encoding, with a char set, gives a glyph a code: by the first supplement with the code, where there is one.
 abbrev pub Gives : EncodingView → CharSetView → (code glyph : ℕ) → Type 0

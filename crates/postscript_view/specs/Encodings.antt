@@ -31,18 +31,18 @@ AreSupplementsAt bytes format next supplements =
     ((format < 128) × (supplements ≡ []))
     ⊎ ((128 ≤ format) × (next + 1 ≤ length bytes) × IsHeld bytes (next + 1) (3 * number_at bytes next 1) supplements)
 
-abbrev pub StandsAt : EncodingView → List ℕ → (place : ℕ) → Type 0
-StandsAt encoding bytes place =
+abbrev pub EncodingStandsAt : EncodingView → List ℕ → (place : ℕ) → Type 0
+EncodingStandsAt encoding bytes place =
     (next : ℕ) × (place + 2 ≤ length bytes) × AreCodesAt encoding.codes bytes place next
     × AreSupplementsAt bytes (number_at bytes place 1) next encoding.supplements.now
 
 -- The offsets 0 and 1 name the predefined encodings; at another one stands the font's own.
-abbrev pub IsNamedBy : EncodingView → List ℕ → (offset : ℕ) → Type 0
-IsNamedBy encoding bytes offset =
+abbrev pub IsEncodingAtOffset : EncodingView → List ℕ → (offset : ℕ) → Type 0
+IsEncodingAtOffset encoding bytes offset =
     ((offset ≡ 0) × (encoding.codes ≡ Predefined Standard) × (encoding.supplements.now ≡ []))
     ⊎ ((offset ≡ 1) × (encoding.codes ≡ Predefined Expert) × (encoding.supplements.now ≡ []))
-    ⊎ ((2 ≤ offset) × StandsAt encoding bytes offset)
+    ⊎ ((2 ≤ offset) × EncodingStandsAt encoding bytes offset)
 
 -- the encoding that a dictionary names
 abbrev pub IsEncodingOf : EncodingView → List ℕ → Dictionary → Type 0
-IsEncodingOf encoding bytes map = (offset : ℕ) × (offset_of map operators.Encoding ≡ Some offset) × IsNamedBy encoding bytes offset
+IsEncodingOf encoding bytes map = (offset : ℕ) × (offset_of map operators.Encoding ≡ Some offset) × IsEncodingAtOffset encoding bytes offset

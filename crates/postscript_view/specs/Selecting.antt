@@ -8,25 +8,25 @@ use Rattle.postscript_view.specs.declared.select.Select.{Select}
 use Rattle.postscript_view.specs.declared.select.Select.TheVariants.{Listed, InRanges, Unknown}
 
 -- it stands at a place of bytes, for so many glyphs
-abbrev pub StandsAt : Select → List ℕ → (place glyphs : ℕ) → Type 0
-StandsAt (Listed list) bytes place glyphs = (list.bytes.now ≡ bytes) × (list.place ≡ place) × (list.glyphs ≡ glyphs)
-StandsAt (InRanges ranges) bytes place glyphs = (ranges.bytes.now ≡ bytes) × (ranges.place ≡ place)
-StandsAt Unknown bytes place glyphs = (glyph fd : ℕ) → Selects bytes place glyphs glyph fd → ⊥
+abbrev pub SelectStandsAt : Select → List ℕ → (place glyphs : ℕ) → Type 0
+SelectStandsAt (Listed list) bytes place glyphs = (list.bytes.now ≡ bytes) × (list.place ≡ place) × (list.glyphs ≡ glyphs)
+SelectStandsAt (InRanges ranges) bytes place glyphs = (ranges.bytes.now ≡ bytes) × (ranges.place ≡ place)
+SelectStandsAt Unknown bytes place glyphs = (glyph fd : ℕ) → Selects bytes place glyphs glyph fd → ⊥
 
 -- it is what a dictionary names
-abbrev pub IsOf : Select → List ℕ → Dictionary → (glyphs : ℕ) → Type 0
-IsOf (Listed list) bytes map glyphs = (list.bytes.now ≡ bytes) × (offset_of map operators.FDSelect ≡ Some list.place)
+abbrev pub IsSelectOf : Select → List ℕ → Dictionary → (glyphs : ℕ) → Type 0
+IsSelectOf (Listed list) bytes map glyphs = (list.bytes.now ≡ bytes) × (offset_of map operators.FDSelect ≡ Some list.place)
     × (list.glyphs ≡ glyphs)
-IsOf (InRanges ranges) bytes map glyphs = (ranges.bytes.now ≡ bytes) × (offset_of map operators.FDSelect ≡ Some ranges.place)
-IsOf Unknown bytes map glyphs = (glyph fd : ℕ) → IsSelected bytes map glyphs glyph fd → ⊥
+IsSelectOf (InRanges ranges) bytes map glyphs = (ranges.bytes.now ≡ bytes) × (offset_of map operators.FDSelect ≡ Some ranges.place)
+IsSelectOf Unknown bytes map glyphs = (glyph fd : ℕ) → IsSelected bytes map glyphs glyph fd → ⊥
 
 -- what was opened is said in one way
-pub of_prop : (s : Select) (bytes : List ℕ) (map : Dictionary) (glyphs : ℕ) → IsProp (IsOf s bytes map glyphs)
+pub of_prop : (s : Select) (bytes : List ℕ) (map : Dictionary) (glyphs : ℕ) → IsProp (IsSelectOf s bytes map glyphs)
 of_prop (Listed list) bytes map glyphs = Prim.hlevel props
 of_prop (InRanges ranges) bytes map glyphs = Prim.hlevel props
 of_prop Unknown bytes map glyphs = Prim.hlevel props
 
-pub stands_prop : (s : Select) (bytes : List ℕ) (place glyphs : ℕ) → IsProp (StandsAt s bytes place glyphs)
+pub stands_prop : (s : Select) (bytes : List ℕ) (place glyphs : ℕ) → IsProp (SelectStandsAt s bytes place glyphs)
 stands_prop (Listed list) bytes place glyphs = Prim.hlevel props
 stands_prop (InRanges ranges) bytes place glyphs = Prim.hlevel props
 stands_prop Unknown bytes place glyphs = Prim.hlevel props

@@ -1,7 +1,7 @@
 //! FDSelect by its place.
 ghost use Rattle.std.specs.Prelude.{◌≡◌, ℕ, IfSome, IfNone};
 ghost use Rattle.postscript_view.specs.Select.{Selects};
-ghost use Rattle.postscript_view.specs.Selecting.{StandsAt, stands_prop};
+ghost use Rattle.postscript_view.specs.Selecting.{SelectStandsAt, stands_prop};
 
 use crate::select::Select;
 
@@ -16,7 +16,7 @@ pub struct FdSelect<'l> {
     /// How many glyphs the font has.
     pub glyphs: usize,
     select: Select<'l>,
-    ghost stands: { StandsAt select bytes.now place glyphs } by { stands_prop select bytes.now place glyphs },
+    ghost stands: { SelectStandsAt select bytes.now place glyphs } by { stands_prop select bytes.now place glyphs },
 }
 
 impl<'l> FdSelect<'l> {

@@ -6,7 +6,7 @@ use Rattle.std.specs.declared.alloc.Global.{Global}
 use Rattle.postscript_base.specs.Compact1.Defaults.{look}
 use Rattle.postscript_base.specs.Compact1.Dictionary.{Dictionary}
 use Rattle.postscript_base.specs.declared.compact1.operator.Operator.TheVariants.{CharSet}
-use Rattle.postscript_view.specs.CharSets.{AreNamedIn, IsCharSetOf, IsNamedBy, StandsAt}
+use Rattle.postscript_view.specs.CharSets.{AreNamedIn, IsCharSetOf, IsCharSetAtOffset, CharSetStandsAt}
 use Rattle.postscript_view.proofs.Marking.{no_marks, unmarked}
 use Rattle.postscript_view.specs.Naming.{Names, NamesBehind, NamesFrom}
 use Rattle.postscript_view.specs.Select.{offset_of}
@@ -33,22 +33,22 @@ set_of own glyphs = record { identifiers = own; glyphs = glyphs; marks = no_mark
 
 -- what a dictionary names at an offset
 at_offset : (own : Identifiers) (bytes : List ℕ) (map : Dictionary) (glyphs offset : ℕ) → offset_of map CharSet ≡ Some offset →
-    AreNamedIn own bytes map glyphs → IsNamedBy own bytes offset glyphs
+    AreNamedIn own bytes map glyphs → IsCharSetAtOffset own bytes offset glyphs
 at_offset own bytes map glyphs offset e is =
     let other = is.1 in
     let same : is.0 ≡ offset = cc in
-    subst (λ o. IsNamedBy own bytes o glyphs) same is.2
+    subst (λ o. IsCharSetAtOffset own bytes o glyphs) same is.2
 
-predefined_stays : (own : Identifiers) (bytes out : List ℕ) (offset glyphs : ℕ) → offset < 3 → IsNamedBy own bytes offset glyphs →
-    IsNamedBy own out offset glyphs
+predefined_stays : (own : Identifiers) (bytes out : List ℕ) (offset glyphs : ℕ) → offset < 3 → IsCharSetAtOffset own bytes offset glyphs →
+    IsCharSetAtOffset own out offset glyphs
 predefined_stays own bytes out offset glyphs low (inl is) = inl is
 predefined_stays own bytes out offset glyphs low (inr (inl is)) = inr (inl is)
 predefined_stays own bytes out offset glyphs low (inr (inr (inl is))) = inr (inr (inl is))
 predefined_stays own bytes out offset glyphs low (inr (inr (inr is))) = absurd (omega (arith, is.0, low))
 
 -- a predefined set is named by its offset alone
-predefined_alike : (one other : Identifiers) (bytes out : List ℕ) (offset glyphs : ℕ) → offset < 3 → IsNamedBy one bytes offset glyphs →
-    IsNamedBy other out offset glyphs → other ≡ one
+predefined_alike : (one other : Identifiers) (bytes out : List ℕ) (offset glyphs : ℕ) → offset < 3 → IsCharSetAtOffset one bytes offset glyphs →
+    IsCharSetAtOffset other out offset glyphs → other ≡ one
 predefined_alike one other bytes out offset glyphs low (inl a) (inl b) = b.1 ∙ sym a.1
 predefined_alike one other bytes out offset glyphs low (inr (inl a)) (inr (inl b)) = b.1 ∙ sym a.1
 predefined_alike one other bytes out offset glyphs low (inr (inr (inl a))) (inr (inr (inl b))) = b.1 ∙ sym a.1
@@ -61,8 +61,8 @@ predefined_alike one other bytes out offset glyphs low (inr (inl a)) (inr (inr (
 predefined_alike one other bytes out offset glyphs low (inr (inr (inl a))) (inl b) = absurd (omega (arith, a.0, b.0))
 predefined_alike one other bytes out offset glyphs low (inr (inr (inl a))) (inr (inl b)) = absurd (omega (arith, a.0, b.0))
 
-own_stands : (own : Identifiers) (bytes : List ℕ) (offset glyphs : ℕ) → 3 ≤ offset → IsNamedBy own bytes offset glyphs →
-    StandsAt own bytes offset glyphs
+own_stands : (own : Identifiers) (bytes : List ℕ) (offset glyphs : ℕ) → 3 ≤ offset → IsCharSetAtOffset own bytes offset glyphs →
+    CharSetStandsAt own bytes offset glyphs
 own_stands own bytes offset glyphs high (inl is) = absurd (omega (arith, is.0, high))
 own_stands own bytes offset glyphs high (inr (inl is)) = absurd (omega (arith, is.0, high))
 own_stands own bytes offset glyphs high (inr (inr (inl is))) = absurd (omega (arith, is.0, high))
@@ -122,7 +122,7 @@ set_kept old bytes out map new glyphs None place is look_is held past stands las
     there : offset_of new CharSet ≡ Some own.0
     there = same_offset map new CharSet look_is ∙ own.1
 
-    named : IsNamedBy old.identifiers bytes own.0 glyphs
+    named : IsCharSetAtOffset old.identifiers bytes own.0 glyphs
     named = at_offset old.identifiers bytes map glyphs own.0 own.1 is.identifiers
 set_kept old bytes out map new glyphs (Some text) place is look_is held past stands last (offset, next, e, high, ends, cut) = record {
   some =
@@ -145,7 +145,7 @@ set_kept old bytes out map new glyphs (Some text) place is look_is held past sta
     all : CharSetEnds bytes glyphs offset (offset + length text.items)
     all = subst (λ n. CharSetEnds bytes glyphs offset n) long ends
 
-    own : StandsAt old.identifiers bytes offset glyphs
+    own : CharSetStandsAt old.identifiers bytes offset glyphs
     own = own_stands old.identifiers bytes offset glyphs high (at_offset old.identifiers bytes map glyphs offset e is.identifiers)
 
     there : offset_of new CharSet ≡ Some place

@@ -5,7 +5,7 @@ use Rattle.std.proofs.lemmas.Bool.{cases_lt}
 use Rattle.std.proofs.Math.Nat.{le-div_iff_mul-le}
 use Rattle.postscript_base.specs.Index.{number_at}
 use Rattle.postscript_view.specs.CharSet.{covered, first_of, identifier_at, more_of, IsNamed}
-use Rattle.postscript_view.specs.CharSets.{StandsAt}
+use Rattle.postscript_view.specs.CharSets.{CharSetStandsAt}
 use Rattle.postscript_view.specs.Naming.{NamesBehind}
 use Rattle.postscript_view.specs.declared.char_set.Identifiers.{Identifiers}
 use Rattle.postscript_view.specs.declared.char_set.Identifiers.TheVariants.{ISOAdobe, Expert, ExpertSubset, Listed, Ranges1, Ranges2}
@@ -184,7 +184,7 @@ module _ (text a b : List ℕ) (p q glyphs : ℕ) (sa : TextStands text a p) (sb
   room : q + length text ≤ length b
   room = stands_within text sb
 
-  pub stands_again : (old : Identifiers) → StandsAt old a p glyphs → (new : Identifiers) × StandsAt new b q glyphs
+  pub stands_again : (old : Identifiers) → CharSetStandsAt old a p glyphs → (new : Identifiers) × CharSetStandsAt new b q glyphs
   stands_again ISOAdobe is = absurd is
   stands_again Expert is = absurd is
   stands_again ExpertSubset is = absurd is
@@ -194,7 +194,7 @@ module _ (text a b : List ℕ) (p q glyphs : ℕ) (sa : TextStands text a p) (sb
   stands_again (Ranges2 xs) is =
       (Ranges2 (record { ref_ptr = xs.ref_ptr; now = drop (q + 1) b }), (format ∙ is.0, omega (arith, some, room), refl))
 
-  pub names_same : (old new : Identifiers) (glyph identifier : ℕ) → StandsAt old a p glyphs → StandsAt new b q glyphs →
+  pub names_same : (old new : Identifiers) (glyph identifier : ℕ) → CharSetStandsAt old a p glyphs → CharSetStandsAt new b q glyphs →
       glyph < glyphs - 1 → NamesBehind old glyph identifier ↔ NamesBehind new glyph identifier
   names_same ISOAdobe new glyph identifier is now less = absurd is
   names_same Expert new glyph identifier is now less = absurd is

@@ -2,7 +2,7 @@
 use Rattle.std.proofs.Common.{◌≡◌, sym, subst, ℕ, List, inl, inr}
 use Rattle.std.specs.Prelude.{Some, ◌↔◌}
 use Rattle.postscript_compact1.specs.Computed.Encodings.{identifier_of}
-use Rattle.postscript_view.specs.Encoding.{Gives, GivesOwn, IsFirstSupplement, IsInList, IsInRanges, IsSupplemented}
+use Rattle.postscript_view.specs.Encoding.{Gives, GivesOwn, IsFirstSupplement, IsInList, IsInCodeRanges, IsSupplemented}
 use Rattle.postscript_view.specs.Naming.{Names}
 use Rattle.postscript_view.specs.declared.char_set.CharSetView.{CharSetView}
 use Rattle.postscript_view.specs.declared.encoding.Codes.{Codes}
@@ -15,7 +15,7 @@ own : (a b : Codes) → SameCodes a b → (old new : CharSetView) (code glyph : 
 own (Predefined x) (Predefined y) e old new code glyph names h =
     (h.0, subst (λ z. identifier_of z code ≡ Some h.0) (sym e) h.1, h.2, names h.0 h.3)
 own (Listed x) (Listed y) e old new code glyph names h = subst (λ (bytes : List ℕ). IsInList bytes code glyph) (sym e) h
-own (Ranges x) (Ranges y) e old new code glyph names h = subst (λ (bytes : List ℕ). IsInRanges bytes code glyph) (sym e) h
+own (Ranges x) (Ranges y) e old new code glyph names h = subst (λ (bytes : List ℕ). IsInCodeRanges bytes code glyph) (sym e) h
 own (Predefined x) (Listed y) e old new code glyph names h = absurd e
 own (Predefined x) (Ranges y) e old new code glyph names h = absurd e
 own (Listed x) (Predefined y) e old new code glyph names h = absurd e

@@ -4,7 +4,7 @@ use Rattle.std.proofs.lemmas.Bool.Decides.{nat_tests}
 use Rattle.std.specs.Prelude.{flat_map}
 use Rattle.postscript_base.specs.Index.{number_at}
 use Rattle.postscript_view.specs.CharSet.{identifier_at}
-use Rattle.postscript_view.specs.CharSets.{StandsAt}
+use Rattle.postscript_view.specs.CharSets.{CharSetStandsAt}
 use Rattle.postscript_view.specs.Naming.{NamesBehind}
 use Rattle.postscript_view.specs.declared.char_set.Identifiers.{Identifiers}
 use Rattle.postscript_view.specs.declared.char_set.Identifiers.TheVariants.{ISOAdobe, Expert, ExpertSubset, Listed, Ranges1, Ranges2}
@@ -53,14 +53,14 @@ module _ (new : ℕ → ℕ) (identifiers : List ℕ) where
       count : 2 * (glyphs - 1) ≡ length rows
       count = omega (arith, many, long)
 
-      pub list_stands : Bor (List ℕ) → (own : Identifiers) × StandsAt own bytes place glyphs
+      pub list_stands : Bor (List ℕ) → (own : Identifiers) × CharSetStandsAt own bytes place glyphs
       list_stands lent = (
         Listed (record { ref_ptr = lent.ref_ptr; now = take (2 * (glyphs - 1)) (drop (place + 1) bytes) }),
         (format, omega (arith, many, within), refl),
       )
 
       -- whatever stands there names the glyphs so
-      pub list_names : (own : Identifiers) (i identifier : ℕ) → StandsAt own bytes place glyphs → i < length identifiers →
+      pub list_names : (own : Identifiers) (i identifier : ℕ) → CharSetStandsAt own bytes place glyphs → i < length identifiers →
           new (get_or identifiers i 0) < 65536 →
           NamesBehind own i identifier ↔ (new (get_or identifiers i 0) ≡ identifier)
       list_names ISOAdobe i identifier is less small = absurd is

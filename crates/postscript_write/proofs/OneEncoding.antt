@@ -4,7 +4,7 @@ use Rattle.std.proofs.lemmas.List.{drop-append-le, drop-drop, take-append-le}
 use Rattle.postscript_base.specs.Compact1.Dictionary.{Dictionary}
 use Rattle.postscript_base.specs.Index.{number_at}
 use Rattle.postscript_compact1.specs.declared.encoding.Encoding.TheVariants.{Standard, Expert}
-use Rattle.postscript_view.specs.Encodings.{AreCodesAt, AreSupplementsAt, IsEncodingOf, IsHeld, IsNamedBy, StandsAt}
+use Rattle.postscript_view.specs.Encodings.{AreCodesAt, AreSupplementsAt, IsEncodingOf, IsHeld, IsEncodingAtOffset, EncodingStandsAt}
 use Rattle.postscript_view.specs.declared.encoding.Codes.{Codes}
 use Rattle.postscript_view.specs.declared.encoding.Codes.TheVariants.{Predefined, Listed, Ranges}
 use Rattle.postscript_view.specs.declared.encoding.EncodingView.{EncodingView}
@@ -36,7 +36,7 @@ one_supplements bytes format next a b (inl (low, x)) (inr (high, within, y)) = a
 one_supplements bytes format next a b (inr (high, within, x)) (inl (low, y)) = absurd (omega (arith, low, high))
 one_supplements bytes format next a b (inr (high, within, x)) (inr (other, behind, y)) = y.bytes_are ∙ sym x.bytes_are
 
-one_standing : (bytes : List ℕ) (place : ℕ) (a b : EncodingView) → StandsAt a bytes place → StandsAt b bytes place → SameEncoding a b
+one_standing : (bytes : List ℕ) (place : ℕ) (a b : EncodingView) → EncodingStandsAt a bytes place → EncodingStandsAt b bytes place → SameEncoding a b
 one_standing bytes place a b x y =
     let both = one_codes a.codes b.codes bytes place x.0 y.0 x.2 y.2 in
     record {
@@ -45,7 +45,7 @@ one_standing bytes place a b x y =
           (subst (λ n. AreSupplementsAt bytes (number_at bytes place 1) n b.supplements.now) (sym both.1) y.3);
     }
 
-one_named : (bytes : List ℕ) (place : ℕ) (a b : EncodingView) → IsNamedBy a bytes place → IsNamedBy b bytes place → SameEncoding a b
+one_named : (bytes : List ℕ) (place : ℕ) (a b : EncodingView) → IsEncodingAtOffset a bytes place → IsEncodingAtOffset b bytes place → SameEncoding a b
 one_named bytes place a b (inl (x, codes, none)) (inl (y, other, nothing)) =
     record { codes = same_predefined a.codes b.codes (Predefined Standard) codes other refl; supplements = nothing ∙ sym none }
 one_named bytes place a b (inr (inl (x, codes, none))) (inr (inl (y, other, nothing))) =
@@ -63,7 +63,7 @@ pub one_encoding : (bytes : List ℕ) (map : Dictionary) (a b : EncodingView) �
     SameEncoding a b
 one_encoding bytes map a b x y =
     let same = one_some y.1 x.1 in
-    one_named bytes x.0 a b x.2 (subst (λ n. IsNamedBy b bytes n) same y.2)
+    one_named bytes x.0 a b x.2 (subst (λ n. IsEncodingAtOffset b bytes n) same y.2)
 
 module _ (text bytes out : List ℕ) (place at : ℕ) (was : TextStands text bytes place) (is : TextStands text out at) where
   same_number : (k size m n : ℕ) → k + size ≤ length text → m ≡ at + k → n ≡ place + k → number_at out m size ≡ number_at bytes n size
@@ -134,8 +134,8 @@ module _ (text bytes out : List ℕ) (place at : ℕ) (was : TextStands text byt
   past_first n (inr (format, y)) = omega (arith, y)
 
   -- an encoding that stands in other bytes stands where its text does
-  pub standing_kept : (encoding : EncodingView) → EncodingEnds bytes place (place + length text) → StandsAt encoding bytes place →
-      StandsAt encoding out at
+  pub standing_kept : (encoding : EncodingView) → EncodingEnds bytes place (place + length text) → EncodingStandsAt encoding bytes place →
+      EncodingStandsAt encoding out at
   standing_kept encoding ends x =
       let same = one_end encoding.codes x.0 ends.0 x.2 ends.1 in
       let past = past_first ends.0 ends.1 in

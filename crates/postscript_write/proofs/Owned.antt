@@ -3,7 +3,7 @@ use Rattle.std.proofs.Common.{◌≡◌, refl, subst, ℕ, ◌+◌, ◌*◌, ◌
 use Rattle.postscript_base.specs.Compact1.Dictionary.{Dictionary}
 use Rattle.postscript_base.specs.declared.compact1.operator.Operator.TheVariants as operators
 use Rattle.postscript_base.specs.Index.{number_at}
-use Rattle.postscript_view.specs.Encodings.{AreCodesAt, AreSupplementsAt, IsEncodingOf, IsNamedBy}
+use Rattle.postscript_view.specs.Encodings.{AreCodesAt, AreSupplementsAt, IsEncodingOf, IsEncodingAtOffset}
 use Rattle.postscript_view.specs.Select.{offset_of}
 use Rattle.postscript_view.specs.declared.encoding.Codes.{Codes}
 use Rattle.postscript_view.specs.declared.encoding.Codes.TheVariants.{Predefined, Listed, Ranges}
@@ -50,7 +50,7 @@ encoding_within bytes supplements place codes are (inr (high, there, held)) =
       within = omega (arith, within);
     }
 
-named_within : (encoding : EncodingView) (bytes : List ℕ) (offset : ℕ) → 2 ≤ offset → IsNamedBy encoding bytes offset →
+named_within : (encoding : EncodingView) (bytes : List ℕ) (offset : ℕ) → 2 ≤ offset → IsEncodingAtOffset encoding bytes offset →
     EndsWithin bytes offset
 named_within encoding bytes offset own (inl (is, codes, none)) = absurd (omega (arith, own, is))
 named_within encoding bytes offset own (inr (inl (is, codes, none))) = absurd (omega (arith, own, is))

@@ -12,7 +12,7 @@ use Rattle.postscript_type2.specs.Program.Routines.{lent}
 use Rattle.postscript_type2.specs.Program.Runs.{Run}
 use Rattle.postscript_view.proofs.Selecting.{one_named}
 use Rattle.postscript_view.specs.Advances.{HasRun}
-use Rattle.postscript_view.specs.CharSets.{IsCharSetOf, IsNamedBy, StandsAt}
+use Rattle.postscript_view.specs.CharSets.{IsCharSetOf, IsCharSetAtOffset, CharSetStandsAt}
 use Rattle.postscript_view.specs.Naming.{IsFirstNamed, Names, NamesFrom}
 use Rattle.postscript_view.specs.Select.{IsSelected}
 use Rattle.postscript_view.specs.declared.char_set.CharSetView.{CharSetView}
@@ -62,7 +62,7 @@ one-accent operands a b x y =
     )
 
 -- one char set names the glyphs
-same-stands : (a b : Identifiers) (bytes : List ℕ) (place glyphs : ℕ) → StandsAt a bytes place glyphs → StandsAt b bytes place glyphs →
+same-stands : (a b : Identifiers) (bytes : List ℕ) (place glyphs : ℕ) → CharSetStandsAt a bytes place glyphs → CharSetStandsAt b bytes place glyphs →
     (glyph identifier : ℕ) → NamesFrom a glyph identifier → NamesFrom b glyph identifier
 same-stands ISOAdobe b bytes place glyphs x y glyph identifier h = absurd x
 same-stands Expert b bytes place glyphs x y glyph identifier h = absurd x
@@ -92,8 +92,8 @@ same-stands (Ranges2 i) (Ranges1 j) bytes place glyphs x y glyph identifier h =
     let never : 2 ≡ 1 = sym x.0 ∙ y.0 in absurd (omega (arith, never))
 same-stands (Ranges2 i) (Ranges2 j) bytes place glyphs x y glyph identifier h = rw (y.2, sym x.2) h
 
-same-named : (a b : Identifiers) (bytes : List ℕ) (offset glyphs : ℕ) → IsNamedBy a bytes offset glyphs →
-    IsNamedBy b bytes offset glyphs → (glyph identifier : ℕ) → NamesFrom a glyph identifier → NamesFrom b glyph identifier
+same-named : (a b : Identifiers) (bytes : List ℕ) (offset glyphs : ℕ) → IsCharSetAtOffset a bytes offset glyphs →
+    IsCharSetAtOffset b bytes offset glyphs → (glyph identifier : ℕ) → NamesFrom a glyph identifier → NamesFrom b glyph identifier
 same-named a b bytes offset glyphs (inl x) (inl y) glyph identifier h = subst (λ set. NamesFrom set glyph identifier) (x.1 ∙ sym y.1) h
 same-named a b bytes offset glyphs (inl x) (inr (inl y)) glyph identifier h = let never = y.0 in absurd (omega (arith, x.0, never))
 same-named a b bytes offset glyphs (inl x) (inr (inr (inl y))) glyph identifier h = let never = y.0 in absurd (omega (arith, x.0, never))
@@ -131,7 +131,7 @@ same-set a b bytes map glyphs x y glyph identifier h =
       there =
           there;
       told = same-named a.identifiers b.identifiers bytes is.0 glyphs
-          (subst (λ o. IsNamedBy a.identifiers bytes o glyphs) same was.2) is.2 glyph identifier h.told;
+          (subst (λ o. IsCharSetAtOffset a.identifiers bytes o glyphs) same was.2) is.2 glyph identifier h.told;
     }
 
 pub one-first : (set : CharSetView) (identifier glyphs a b : ℕ) → IsFirstNamed set identifier glyphs a →

@@ -15,7 +15,7 @@ use Rattle.postscript_view.specs.declared.encoding.Codes.{Codes}
 use Rattle.postscript_view.specs.declared.encoding.Codes.TheVariants.{Predefined, Listed, Ranges}
 use Rattle.postscript_compact1.specs.declared.encoding.Encoding.{Encoding as Kind}
 use Rattle.postscript_compact1.specs.declared.encoding.Encoding.TheVariants.{Standard, Expert}
-use Rattle.postscript_view.specs.Encodings.{AreCodesAt, IsEncodingOf, IsNamedBy, StandsAt}
+use Rattle.postscript_view.specs.Encodings.{AreCodesAt, IsEncodingOf, IsEncodingAtOffset, EncodingStandsAt}
 use Rattle.postscript_view.specs.Layout.{AreParts, IsLaidOut}
 use Rattle.postscript_view.specs.Layout.AreParts.{OfFont, OfFontDictionaries}
 use Rattle.postscript_view.specs.Select.{IsSelected, offset_of}
@@ -57,15 +57,15 @@ one_part out map parts (OfFont part none is one) = inl (ap length one)
 one_part out map parts (OfFontDictionaries items keyed names are) = inr keyed
 
 -- an encoding of the font's own stands where the font says
-own_stands : (encoding : EncodingView) (bytes : List ℕ) (place : ℕ) → 2 ≤ place → IsNamedBy encoding bytes place →
-    StandsAt encoding bytes place
+own_stands : (encoding : EncodingView) (bytes : List ℕ) (place : ℕ) → 2 ≤ place → IsEncodingAtOffset encoding bytes place →
+    EncodingStandsAt encoding bytes place
 own_stands encoding bytes place past (inl (is, codes, none)) = absurd (omega (arith, past, is))
 own_stands encoding bytes place past (inr (inl (is, codes, none))) = absurd (omega (arith, past, is))
 own_stands encoding bytes place past (inr (inr (most, stands))) = stands
 
 -- a predefined one is named in any bytes
-predefined_kept : (encoding : EncodingView) (bytes out : List ℕ) (place : ℕ) → place < 2 → IsNamedBy encoding bytes place →
-    IsNamedBy encoding out place
+predefined_kept : (encoding : EncodingView) (bytes out : List ℕ) (place : ℕ) → place < 2 → IsEncodingAtOffset encoding bytes place →
+    IsEncodingAtOffset encoding out place
 predefined_kept encoding bytes out place low (inl x) = inl x
 predefined_kept encoding bytes out place low (inr (inl x)) = inr (inl x)
 predefined_kept encoding bytes out place low (inr (inr (most, stands))) = absurd (omega (arith, low, most))
@@ -79,7 +79,7 @@ encoding_kept : (old new : Dictionary) (bytes out : List ℕ) (text : Option (Ve
 encoding_kept old new bytes out (Some text) true start encoding is held past stands stays was = absurd stays
 encoding_kept old new bytes out None true start encoding is held past stands stays was = absurd stays
 encoding_kept old new bytes out (Some text) false start encoding is held past stands stays was =
-    let named = subst (λ n. IsNamedBy encoding bytes n) (one_some was.1 stays.named) was.2 in
+    let named = subst (λ n. IsEncodingAtOffset encoding bytes n) (one_some was.1 stays.named) was.2 in
     let kept = standing_kept text.items bytes out stays.place start stays.stands stands encoding stays.ends
     (own_stands encoding bytes stays.place stays.past named) in
     (start, offset_is new Encoding start (place_held Encoding start held) is, inr (inr (past, kept)))
@@ -103,7 +103,7 @@ record IsOther (encoding : EncodingView) (out : List ℕ) (map : Dictionary) : T
   codes : codes_for encoding.codes ≡ Predefined kind
 
 predefined_stays : (encoding : EncodingView) (bytes out : List ℕ) (place : ℕ) (map : Dictionary) → place < 2 →
-    offset_of map Encoding ≡ Some place → IsNamedBy encoding bytes place → IsOther encoding out map
+    offset_of map Encoding ≡ Some place → IsEncodingAtOffset encoding bytes place → IsOther encoding out map
 predefined_stays encoding bytes out place map low named (inl (is, codes, none)) =
     record { other = encoding; kind = Standard; is = (place, named, inl (is, codes, none)); named = codes; codes = ap codes_for codes }
 predefined_stays encoding bytes out place map low named (inr (inl (is, codes, none))) =
@@ -116,7 +116,7 @@ encoding_other : (old new : Dictionary) (bytes out : List ℕ) (text : Option (V
     GivesWayTo old text standard → IsEncodingOf encoding bytes old → IsOther encoding out new
 encoding_other old new bytes out (Some text) standard start encoding is gives was = absurd gives
 encoding_other old new bytes out None true start encoding is gives was =
-    let named = subst (λ n. IsNamedBy encoding bytes n) (one_some was.1 gives.1) was.2 in
+    let named = subst (λ n. IsEncodingAtOffset encoding bytes n) (one_some was.1 gives.1) was.2 in
     let stands = own_stands encoding bytes gives.0 gives.2 named in
     record {
       other = record { codes = Predefined Standard; supplements = record { ref_ptr = encoding.supplements.ref_ptr; now = [] } };

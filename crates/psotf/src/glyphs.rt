@@ -97,7 +97,7 @@ impl<'l> Glyphs for Face<'l> {
     }
 }
 
-/// Adds a glyph as a line: its number, its name or CID, its advance and its path; and tells whether it is drawn.
+/// Adds a glyph as a line: its number, its name or CID where it has one, its advance and its path; and tells whether it is drawn.
 fn put_line<G: Glyphs>(
     alloc: Global,
     line: &mut Text,

@@ -6,10 +6,12 @@ ghost use Rattle.postscript_type2.specs.Program.Endings.{next_refusals};
 ghost use Rattle.postscript_type2.specs.Program.Limit.{cost};
 ghost use Rattle.postscript_type2.specs.Program.Programs.{ended, ended_over, failed};
 ghost use Rattle.postscript_type2.specs.Program.Within.{LendsWithin, IsHeadWithin};
+ghost use Rattle.postscript_type2.specs.Refused.{with_error};
 
 use super::machine::Stop;
 use super::{Phase, Program};
 use crate::operation::{Operand, Operator};
+use crate::refused::Refused;
 use postscript_base::{Error, Result};
 
 /// How far a program comes within its limit.
@@ -58,27 +60,33 @@ impl<'l> Program<'l> {
         ensures failed { self.old ≡ failed self.old.width → result ≡ Err Error.AlreadyFailed }
         ensures suffices { cost self.old.trace < limit.old → result ≢ Ok Within.Paused }
     {
-        self.step_within_for::<()>(limit)
+        match self.step_within_for::<()>(limit) {
+            Ok(within) => Ok(within),
+            Err(e) => Err(Error::from(e)),
+        }
     }
 
     /// As `step_within`, compiled anew for each type `S`, of which nothing is used. A compiler puts a function that has one caller into
     /// that caller: so what draws into a sink of type `S` has the run in itself, with no call for each operation.
     ///
-    /// Refused: as `next` is.
+    /// Refused: as `next` is, by the name of its error.
     #[inline(always)]
-    pub fn step_within_for<S>(&mut self, limit: &mut u64) -> Result<Within<'_>>
-        ensures* steps { sem 𝓛 (LendsWithin self.entry limit.old result limit.new) }
-        ensures head { IsHeadWithin self.old result }
-        ensures listed { IsListed next_refusals result }
+    pub fn step_within_for<S>(
+        &mut self,
+        limit: &mut u64,
+    ) -> std::result::Result<Within<'_>, Refused>
+        ensures* steps { sem 𝓛 (LendsWithin self.entry limit.old (with_error result) limit.new) }
+        ensures head { IsHeadWithin self.old (with_error result) }
+        ensures listed { IsListed next_refusals (with_error result) }
         ensures ended { self.old ≡ ended self.old.width → result ≡ Ok Within.End }
         ensures over { (operands : List ℤ) → self.old ≡ ended_over operands self.old.width → result ≡ Ok Within.End }
-        ensures failed { self.old ≡ failed self.old.width → result ≡ Err Error.AlreadyFailed }
+        ensures failed { self.old ≡ failed self.old.width → result ≡ Err Refused.AlreadyFailed }
         ensures suffices { cost self.old.trace < limit.old → result ≢ Ok Within.Paused }
     {
         match self.phase {
             Phase::Running => self.machine.empty(),
             Phase::Paused => self.phase = Phase::Running,
-            over if over.has_failed() => return Err(Error::AlreadyFailed),
+            over if over.has_failed() => return Err(Refused::AlreadyFailed),
             _ => return Ok(Within::End),
         }
         match self.machine.stop_within::<S>(limit) {
@@ -96,7 +104,7 @@ impl<'l> Program<'l> {
             }
             Err(e) => {
                 self.phase = Phase::Failed;
-                Err(Error::from(e))
+                Err(e)
             }
         }
     }

@@ -10,6 +10,7 @@ use Rattle.postscript_drawing.proofs.Spending.{head-is, no-pause, on-operation, 
 use Rattle.postscript_drawing.proofs.program.draw_program.Goals as goal
 use Rattle.postscript_type2.specs.Program.Limit.{nothing}
 use Rattle.postscript_type2.specs.Program.Runs.{End, width_by}
+use Rattle.postscript_type2.specs.Refused.{error_of as cause_of, with_error}
 
 pub loop-operator-init : goal.loop-operator-init
 loop-operator-init g c = record { far = at_first; end = refl; width = refl; spends = nothing }
@@ -18,14 +19,14 @@ pub loop-operator-preserved : goal.loop-operator-preserved
 loop-operator-preserved g c =
     let rest = c.step_within_for.follows.lender-at-none in
     let left = (head-is c.loop-operator.program rest c.loop-operator.limit c.step_within_for.new.limit
-    (c.in_ok-operator.was ∙ ap Ok c.in-Operation.is) c.step_within_for.follows.holds-at-none).1 in
+    (ap with_error (c.in_ok-operator.was ∙ ap Ok c.in-Operation.is)) c.step_within_for.follows.holds-at-none).1 in
     record {
       far = so_more (strokes c.in-Operation.operator c.in-Operation.operands.now) (strokes_of rest.answers)
           (ap strokes_of left) c.loop-operator.invariant.far c.in_ok-draw_path-in-Operation.ensures;
       end = search rules;
       width = search rules;
       spends = on-operation c.loop-operator.program rest
-          (c.in_ok-operator.was ∙ ap Ok c.in-Operation.is) c.step_within_for.follows.holds-at-none c.loop-operator.invariant.spends;
+          (ap with_error (c.in_ok-operator.was ∙ ap Ok c.in-Operation.is)) c.step_within_for.follows.holds-at-none c.loop-operator.invariant.spends;
     }
 
 -- the program is refused
@@ -33,9 +34,9 @@ loop-operator-preserved g c =
 pub returns-in_err-operator-clause-why : goal.returns-in_err-operator-clause-why
 returns-in_err-operator-clause-why g c =
     let program = c.args.program.now in
-    if-err c.from_residual.result (errors.Font c.in_err-operator.field-0.0) _ c.from_residual.ensures.1
-    (step-refused program.answers program.end c.step_within_for.new.limit c.loop-operator.program c.in_err-operator.field-0.0
-    c.in_err-operator.was c.step_within_for.ensures.head c.loop-operator.invariant.end c.loop-operator.invariant.far)
+    if-err c.from_residual.result (errors.Font (cause_of c.in_err-operator.field-0.0)) _ c.from_residual.ensures.1
+    (step-refused program.answers program.end c.step_within_for.new.limit c.loop-operator.program (cause_of c.in_err-operator.field-0.0)
+    (ap with_error c.in_err-operator.was) c.step_within_for.ensures.head c.loop-operator.invariant.end c.loop-operator.invariant.far)
 
 pub returns-in_err-operator-clause-front : goal.returns-in_err-operator-clause-front
 returns-in_err-operator-clause-front g c =
@@ -44,7 +45,7 @@ returns-in_err-operator-clause-front g c =
 pub returns-in_err-operator-clause-spends : goal.returns-in_err-operator-clause-spends
 returns-in_err-operator-clause-spends g c =
     let error = err_from_is_err_and c.from_residual.result c.from_residual.ensures.1 in
-    rw error.1 (on-refusal c.loop-operator.program c.step_within_for.follows.lender-at-none c.in_err-operator.was
+    rw error.1 (on-refusal c.loop-operator.program c.step_within_for.follows.lender-at-none (ap with_error c.in_err-operator.was)
     c.step_within_for.follows.holds-at-none c.loop-operator.invariant.spends)
 
 -- an operation is not drawn
@@ -54,7 +55,7 @@ returns-in_err-draw_path-in-Operation-clause-why g c =
     let program = c.args.program.now in
     let rest = c.step_within_for.follows.lender-at-none in
     let left = (head-is c.loop-operator.program rest c.loop-operator.limit c.step_within_for.new.limit
-    (c.in_ok-operator.was ∙ ap Ok c.in-Operation.is) c.step_within_for.follows.holds-at-none).1 in
+    (ap with_error (c.in_ok-operator.was ∙ ap Ok c.in-Operation.is)) c.step_within_for.follows.holds-at-none).1 in
     let e = c.in_err-draw_path-in-Operation.field-0.0 in
     let back = c.from_residual-in_err-draw_path-in-Operation in
     if-err back.result (error_of e) _ back.ensures.1
@@ -66,7 +67,7 @@ pub returns-in_err-draw_path-in-Operation-clause-front : goal.returns-in_err-dra
 returns-in_err-draw_path-in-Operation-clause-front g c =
     let rest = c.step_within_for.follows.lender-at-none in
     let left = (head-is c.loop-operator.program rest c.loop-operator.limit c.step_within_for.new.limit
-    (c.in_ok-operator.was ∙ ap Ok c.in-Operation.is) c.step_within_for.follows.holds-at-none).1 in
+    (ap with_error (c.in_ok-operator.was ∙ ap Ok c.in-Operation.is)) c.step_within_for.follows.holds-at-none).1 in
     on-err c.from_residual-in_err-draw_path-in-Operation.result
     (front-refused c.args.program.now.answers
     (so_refused (strokes c.in-Operation.operator c.in-Operation.operands.now) (strokes_of rest.answers)
@@ -80,7 +81,7 @@ returns-in_err-draw_path-in-Operation-clause-spends g c =
     rw error.1 (
       rest.trace,
       on-operation c.loop-operator.program rest
-          (c.in_ok-operator.was ∙ ap Ok c.in-Operation.is) c.step_within_for.follows.holds-at-none c.loop-operator.invariant.spends,
+          (ap with_error (c.in_ok-operator.was ∙ ap Ok c.in-Operation.is)) c.step_within_for.follows.holds-at-none c.loop-operator.invariant.spends,
     )
 
 -- the program is at its end
@@ -96,7 +97,7 @@ returns-in_err-end-in-End-clause-spends g c =
     rw error.1 (
       [],
       on-end c.loop-operator.program c.step_within_for.follows.lender-at-none
-          (c.in_ok-operator.was ∙ ap Ok c.in-End.is) c.step_within_for.follows.holds-at-none c.loop-operator.invariant.spends,
+          (ap with_error (c.in_ok-operator.was ∙ ap Ok c.in-End.is)) c.step_within_for.follows.holds-at-none c.loop-operator.invariant.spends,
     )
 
 pub returns-in-End-clause-drawn : goal.returns-in-End-clause-drawn
@@ -104,7 +105,7 @@ returns-in-End-clause-drawn g c =
     let program = c.args.program.now in
     let left = c.loop-operator.program in
     let end = at-end left c.step_within_for.follows.lender-at-none _ _
-    (c.in_ok-operator.was ∙ ap Ok c.in-End.is) c.step_within_for.follows.holds-at-none in
+    (ap with_error (c.in_ok-operator.was ∙ ap Ok c.in-End.is)) c.step_within_for.follows.holds-at-none in
     let whole = drawn-whole c.loop-operator.pen program.answers left.answers left.end end.1 end.0 c.loop-operator.invariant.far
     c.in_ok-end-in-End.ensures.ended in
     let width : c.width.result ≡ width_by program.width program.answers program.end = search rules in
@@ -120,7 +121,7 @@ returns-in-End-clause-drawn g c =
 pub returns-in-End-clause-spends : goal.returns-in-End-clause-spends
 returns-in-End-clause-spends g c =
     on-end c.loop-operator.program c.step_within_for.follows.lender-at-none
-    (c.in_ok-operator.was ∙ ap Ok c.in-End.is) c.step_within_for.follows.holds-at-none c.loop-operator.invariant.spends
+    (ap with_error (c.in_ok-operator.was ∙ ap Ok c.in-End.is)) c.step_within_for.follows.holds-at-none c.loop-operator.invariant.spends
 
 -- the limit is used up
 
@@ -130,9 +131,9 @@ returns-in-Paused-clause-front g c = front-so-far c.args.program.now.answers c.l
 pub returns-in-Paused-clause-spends : goal.returns-in-Paused-clause-spends
 returns-in-Paused-clause-spends g c =
     on-pause c.loop-operator.program c.step_within_for.follows.lender-at-none
-    (c.in_ok-operator.was ∙ ap Ok c.in-Paused.is) c.step_within_for.follows.holds-at-none c.loop-operator.invariant.spends
+    (ap with_error (c.in_ok-operator.was ∙ ap Ok c.in-Paused.is)) c.step_within_for.follows.holds-at-none c.loop-operator.invariant.spends
 
 pub returns-in-Paused-clause-suffices : goal.returns-in-Paused-clause-suffices
 returns-in-Paused-clause-suffices g c = λ less _.
     no-pause c.loop-operator.program c.step_within_for.follows.lender-at-none c.step_within_for.new.limit
-    (c.in_ok-operator.was ∙ ap Ok c.in-Paused.is) c.step_within_for.follows.holds-at-none c.loop-operator.invariant.spends less
+    (ap with_error (c.in_ok-operator.was ∙ ap Ok c.in-Paused.is)) c.step_within_for.follows.holds-at-none c.loop-operator.invariant.spends less

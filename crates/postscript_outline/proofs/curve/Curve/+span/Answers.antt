@@ -1,5 +1,5 @@
 use Rattle.std.proofs.Common.{◌<◌, ◌-◌, ◌*◌, ◌^◌, arith, subst, sym}
-use Rattle.postscript_outline.specs.Halves.{IsWithin, IsBent, Spans}
+use Rattle.postscript_outline.specs.Halves.{IsCurveWithin, IsBent, Spans}
 use Rattle.postscript_outline.proofs.curve.Curve.+span.Goals as goal
 use Rattle.postscript_outline.proofs.Halving.{bent-back, bent-front, few-parts, joined-spans, more-parts, within-back, within-front}
 
@@ -12,7 +12,7 @@ span-front-requires t c =
       (
         more-parts unit h some c.requires.parts,
         (
-          subst (IsWithin (2 ^ 32 * (8 * unit))) (sym c.front.ensures) (within-front c.args.self unit c.requires.room),
+          subst (IsCurveWithin (2 ^ 32 * (8 * unit))) (sym c.front.ensures) (within-front c.args.self unit c.requires.room),
           subst (IsBent (2 ^ (h - 1)) (2 ^ 50)) (sym c.front.ensures) (bent-front c.args.self h (2 ^ 50) some c.requires.bent),
         ),
       ),
@@ -35,7 +35,7 @@ span-back-requires t c =
       (
         more-parts unit h some c.requires.parts,
         (
-          subst (IsWithin (2 ^ 32 * (8 * unit))) (sym c.back.ensures) (within-back c.args.self unit c.requires.room),
+          subst (IsCurveWithin (2 ^ 32 * (8 * unit))) (sym c.back.ensures) (within-back c.args.self unit c.requires.room),
           subst (IsBent (2 ^ (h - 1)) (2 ^ 50)) (sym c.back.ensures) (bent-back c.args.self h (2 ^ 50) some c.requires.bent),
         ),
       ),
