@@ -1,5 +1,5 @@
 //! Glyphs that are drawn into sinks, accented ones with their components.
-ghost use Rattle.std.specs.Prelude.{◌⊎◌, option_map, IfOk, IfErr, MatchOption, OnOk};
+ghost use Rattle.std.specs.Prelude.{◌⊎◌, Some, option_map, IfOk, IfErr, MatchOption, OnOk};
 ghost use Rattle.postscript_c.specs.Drawn.{ArePaid, DrawsWhole, HasNone, HasNoneIn, IsCodeRefused, IsDrawnIn, IsDrawnOver, IsNamedRefused, IsSpentOnNamed, IsUndrawnOver, IsWholeRefused, AreNamed};
 ghost use Rattle.postscript_drawing.specs.DrawnProgram.{IsWanting};
 ghost use Rattle.postscript_drawing.specs.Drawn.{Takes};
@@ -12,6 +12,25 @@ use postscript_outline::{Point, Sink};
 use postscript_type2::{Operand, Program};
 use postscript_view::FontView;
 use std::alloc::Global;
+
+/// Draws a base and an accent of the font that the bytes begin with. It stays a call, since few glyphs have them and a font in place takes
+/// much room.
+#[inline(never)]
+fn draw_both<S: Sink>(
+    alloc: Global,
+    bytes: &[u8],
+    accent: Accent,
+    limit: &mut u64,
+    sink: &mut S,
+) -> Result<()>
+    ensures drawn { OnOk result (Takes S.after (S.state sink.old) (S.state sink.new) (AreNamed bytes.now (Some accent))) }
+    ensures paid { OnOk result (ArePaid bytes.now (Some accent) limit.old limit.new) }
+    ensures why { IfErr result (λ e. (IsWanting limit.new e × IsSpentOnNamed bytes.now limit.old limit.new)
+        ⊎ IsNamedRefused bytes.now (Some accent) e) }
+{
+    let font = FontView::read_font(alloc, bytes, 0)?;
+    draw_components(alloc, &font, &accent, limit, sink)
+}
 
 /// Draws the base and the accent that a glyph names, if it names any, of the font that the bytes begin with.
 fn draw_named<S: Sink>(
@@ -26,11 +45,10 @@ fn draw_named<S: Sink>(
     ensures why { IfErr result (λ e. (IsWanting limit.new e × IsSpentOnNamed bytes.now limit.old limit.new)
         ⊎ IsNamedRefused bytes.now accent e) }
 {
-    let Some(accent) = accent else {
-        return Ok(());
-    };
-    let font = FontView::read_font(alloc, bytes, 0)?;
-    draw_components(alloc, &font, &accent, limit, sink)
+    match accent {
+        Some(accent) => draw_both(alloc, bytes, accent, limit, sink),
+        None => Ok(()),
+    }
 }
 
 /// Draws a program, and then what its glyph names, within a limit.
