@@ -77,6 +77,7 @@ fn item_part(alloc: Global, bytes: &[u8], item: &[u8]) -> Result<PsfPart>
 }
 
 /// The part of a glyph of a CID-keyed font. None where the glyph has no font dictionary.
+#[inline(never)]
 fn cid_part(alloc: Global, bytes: &[u8], font: &PsfFont, glyph: usize) -> Result<Option<PsfPart>>
     ensures { IsCidPart bytes.now font.now glyph result }
 {
