@@ -1,4 +1,5 @@
-//! Glyphs that are drawn into sinks, accented ones with their components.
+//! Glyphs that are drawn into sinks, accented ones with their components. What draws is put into its callers: what it answers has room for
+//! an error, which a call would clear and copy.
 ghost use Rattle.std.specs.Prelude.{◌⊎◌, Some, option_map, IfOk, IfErr, MatchOption, OnOk};
 ghost use Rattle.postscript_c.specs.Drawn.{ArePaid, DrawsWhole, HasNone, HasNoneIn, IsCodeRefused, IsDrawnIn, IsDrawnOver, IsNamedRefused, IsSpentOnNamed, IsUndrawnOver, IsWholeRefused, AreNamed};
 ghost use Rattle.postscript_drawing.specs.DrawnProgram.{IsWanting};
@@ -52,6 +53,7 @@ fn draw_named<S: Sink>(
 }
 
 /// Draws a program, and then what its glyph names, within a limit.
+#[inline(always)]
 fn draw_whole<S: Sink>(
     alloc: Global,
     bytes: &[u8],
@@ -73,6 +75,7 @@ fn draw_whole<S: Sink>(
 
 /// Draws a code over the subroutines at two places. None where there is no code.
 #[tactic(auto, unfolding(crate::specs::Glyphs::program_of))]
+#[inline(always)]
 fn draw_code<S: Sink>(
     alloc: Global,
     bytes: &[u8],
@@ -99,6 +102,7 @@ fn draw_code<S: Sink>(
 
 /// Draws a glyph of a font that is plain numbers, with this part. None where there is no such glyph.
 #[tactic(auto, unfolding(crate::specs::Glyphs::program_at))]
+#[inline(always)]
 pub(crate) fn draw_over<S: Sink>(
     alloc: Global,
     bytes: &[u8],

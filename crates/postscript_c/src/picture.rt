@@ -19,6 +19,7 @@ pub(crate) struct DrawnGlyph {
 }
 
 /// What a glyph draws by its part. None where there is no such glyph.
+#[inline(always)]
 pub(crate) fn found_glyph(
     alloc: Global,
     bytes: &[u8],
