@@ -1,5 +1,5 @@
-//! Glyphs that are drawn into sinks, accented ones with their components. What draws is put into its callers: what it answers has room for
-//! an error, which a call would clear and copy.
+//! Glyphs that are drawn into sinks, accented ones with their components. What draws is put into its callers: a call would clear the room
+//! of its program before that is made, and copy what it answers.
 ghost use Rattle.std.specs.Prelude.{◌⊎◌, Some, option_map, IfOk, IfErr, MatchOption, OnOk};
 ghost use Rattle.postscript_c.specs.Drawn.{ArePaid, DrawsWhole, HasNone, HasNoneIn, IsCodeRefused, IsDrawnIn, IsDrawnOver, IsNamedRefused, IsSpentOnNamed, IsUndrawnOver, IsWholeRefused, AreNamed};
 ghost use Rattle.postscript_drawing.specs.DrawnProgram.{IsWanting};
