@@ -34,6 +34,7 @@ fn draw_both<S: Sink>(
 }
 
 /// Draws the base and the accent that a glyph names, if it names any, of the font that the bytes begin with.
+#[inline(always)]
 fn draw_named<S: Sink>(
     alloc: Global,
     bytes: &[u8],

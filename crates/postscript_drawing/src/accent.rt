@@ -23,6 +23,7 @@ impl Accent {
     /// What the operands that `endchar` took name (`Program::operands_at_end`), where they are four; else None.
     ///
     /// Refused: `NoCode` where one of the last two is no whole number from 0 to 255.
+    #[inline(always)]
     pub fn named_by(operands: &[Operand]) -> Result<Option<Accent>>
         ensures told { IfOk result (λ found. MatchOption found (length operands.now ≢ 4) (λ accent. IsAccent operands.now accent)) }
         ensures why { IfErr result (λ e. (e ≡ errors.NoCode) × HasNoCodes operands.now) }

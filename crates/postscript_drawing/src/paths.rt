@@ -1,5 +1,6 @@
 //! Paths: what the operands of an operator spell is drawn as it is read, by one method for each pattern (Technical Note 5177,
 //! "Path Construction Operators"). Flexes are drawn by their strokes.
+ghost use Rattle.std.specs.Prelude.{◌≡◌};
 ghost use Rattle.postscript_drawing.specs.Outcome.{DrawsStrokes};
 ghost use Rattle.postscript_drawing.specs.Operators.{strokes as the_strokes};
 ghost use Rattle.postscript_drawing.specs.Strokes.{move as the_move, move_along as the_move_along, lines as the_lines, lines_in_turn as the_lines_in_turn, curves as the_curves, curves_along as the_curves_along, curves_level as the_curves_level, curves_in_turn as the_curves_in_turn, curves_then_line as the_curves_then_line, lines_then_curve as the_lines_then_curve};
@@ -11,6 +12,21 @@ use crate::stroke::{Axis, Strokes};
 use crate::undrawn::Stroked;
 use postscript_outline::Sink;
 use postscript_type2::{Operand, Operator};
+
+/// The axis along which the first line or curve begins of an operator that draws them in turn. One call then draws those of both: what has
+/// one caller is put into it.
+#[inline(always)]
+fn first_axis(operator: Operator) -> Axis
+    ensures hline { operator ≡ Operator.HLineTo → result ≡ Axis.Horizontal }
+    ensures vline { operator ≡ Operator.VLineTo → result ≡ Axis.Vertical }
+    ensures hvcurve { operator ≡ Operator.HVCurveTo → result ≡ Axis.Horizontal }
+    ensures vhcurve { operator ≡ Operator.VHCurveTo → result ≡ Axis.Vertical }
+{
+    match operator {
+        Operator::HLineTo | Operator::HVCurveTo => Axis::Horizontal,
+        _ => Axis::Vertical,
+    }
+}
 
 impl Pen {
     /// Draws what an operator with these operands draws, into a sink, from where the pen stands: each operation of a run so, and then
@@ -34,13 +50,19 @@ impl Pen {
             Operator::HMoveTo => self.go_along(Axis::Horizontal, operands, sink),
             Operator::VMoveTo => self.go_along(Axis::Vertical, operands, sink),
             Operator::RLineTo => self.lines(operands, sink),
-            Operator::HLineTo => self.lines_in_turn(Axis::Horizontal, operands, sink),
-            Operator::VLineTo => self.lines_in_turn(Axis::Vertical, operands, sink),
+            Operator::HLineTo | Operator::VLineTo => self.lines_in_turn(
+                first_axis(operator),
+                operands,
+                sink,
+            ),
             Operator::RRCurveTo => self.curves(operands, sink),
             Operator::HHCurveTo => self.curves_level(Axis::Horizontal, operands, sink),
             Operator::VVCurveTo => self.curves_level(Axis::Vertical, operands, sink),
-            Operator::HVCurveTo => self.curves_in_turn(Axis::Horizontal, operands, sink),
-            Operator::VHCurveTo => self.curves_in_turn(Axis::Vertical, operands, sink),
+            Operator::HVCurveTo | Operator::VHCurveTo => self.curves_in_turn(
+                first_axis(operator),
+                operands,
+                sink,
+            ),
             Operator::RCurveLine => self.curves_then_line(operands, sink),
             Operator::RLineCurve => self.lines_then_curve(operands, sink),
             Operator::Flex | Operator::HFlex | Operator::HFlex1 | Operator::Flex1 => self.flexes(

@@ -21,14 +21,24 @@ abbrev pub EndsAt : Parsed → (place : ℕ) → Result (Operator × ℕ) Refuse
 EndsAt ends place (Ok read) = (more : ℕ) × (ends ≡ Complete [] read.0 more) × (read.1 ≡ place + more)
 EndsAt ends place (Err e) = ends ≡ NoPhrase (reason e)
 
+-- Numbers at the front of the phrase at a place are put onto a stack; next: the place behind them.
+abbrev pub Puts : (code : List ℕ) (place : ℕ) → List ℤ → (next : ℕ) → List ℤ → Type 0
+Puts code place stack next stack' =
+    (count : ℕ) × (next ≡ place + count) × ((k : ℕ) → fronted stack' (k + count) (phrase (drop next code)) ≡ fronted stack k
+    (phrase (drop place code)))
+
+-- no phrase is at the front, or memory is refused
+abbrev pub IsPhraseRefused : List ℕ → Refused → Type 0
+IsPhraseRefused bytes e = (e ≡ Memory) ⊎ (phrase bytes ≡ NoPhrase (reason e))
+
 -- The phrase at the front is read, and its numbers are put onto a stack; place: where it stands.
 abbrev pub ReadsPhraseAt : List ℕ → (place : ℕ) → List ℤ → Result (Operator × ℕ) Refused → List ℤ → Type 0
 ReadsPhraseAt bytes place stack (Ok read) stack' =
     (more : ℕ) × (fronted stack 0 (phrase bytes) ≡ Complete stack' read.0 more) × (read.1 ≡ place + (more + 1))
-ReadsPhraseAt bytes place stack (Err e) stack' = (e ≡ Memory) ⊎ (phrase bytes ≡ NoPhrase (reason e))
+ReadsPhraseAt bytes place stack (Err e) stack' = IsPhraseRefused bytes e
 
 -- a phrase is read off the front, and its numbers are put onto a stack
 abbrev pub ReadsPhrase : List ℕ → List ℤ → Result Operator Refused → List ℕ → List ℤ → Type 0
 ReadsPhrase old stack (Ok operator) new stack' =
     (more : ℕ) × (fronted stack 0 (phrase old) ≡ Complete stack' operator more) × (new ≡ drop (more + 1) old)
-ReadsPhrase old stack (Err e) new stack' = (e ≡ Memory) ⊎ (phrase old ≡ NoPhrase (reason e))
+ReadsPhrase old stack (Err e) new stack' = IsPhraseRefused old e

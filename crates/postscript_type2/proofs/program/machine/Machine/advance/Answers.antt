@@ -140,8 +140,8 @@ returns-in_ok-enter-in-Calls-clause-advances g c =
     entry.routine front in
     (rw (entry.lists, entry.state) run.0, ap (λ (s : State). s.width) entry.state ∙ run.1)
 
-pub returns-in_default-leave-clause-advances : goal.returns-in_default-leave-clause-advances
-returns-in_default-leave-clause-advances g c =
+pub returns-then-not-go_back-clause-advances : goal.returns-then-not-go_back-clause-advances
+returns-then-not-go_back-clause-advances g c =
     let read : IsRead c.args.self.now.routine c.phrase.new.self
     (state_of c.args.self.now.state) c.phrase.new.stack.items c.in_ok-operator.operator c.in_ok-operator.ensures.0 =
     is-read c.rest-rest.ensures c.if-is_empty.ensures c.in_ok-operator.ensures.1 c.in_ok-operator.ensures.2 in
@@ -149,13 +149,13 @@ returns-in_default-leave-clause-advances g c =
     let moves = does.0 ∙ ap (λ done. move_of done (state_of c.act.new.self)) c.in-Returns.is in
     let refusal = no-caller (lists_of c.args.self.now.lists) c.args.self.now.left c.args.self.now.routine c.phrase.new.self
     (state_of c.args.self.now.state) c.phrase.new.stack.items c.in_ok-operator.operator c.in_ok-operator.ensures.0 read moves in (
-      inr (rw c.in_default-leave.ensures.0 refusal),
+      inr (rw (c.if-not-go_back.ensures.none refl) refusal),
       ap (λ (s : State). s.width)
           (does.1 ∙ ap (λ move. after_move move (stacked c.phrase.new.stack.items (state_of c.args.self.now.state))) moves),
     )
 
-pub returns-in-Some-leave-clause-advances : goal.returns-in-Some-leave-clause-advances
-returns-in-Some-leave-clause-advances g c =
+pub returns-else-not-go_back-clause-advances : goal.returns-else-not-go_back-clause-advances
+returns-else-not-go_back-clause-advances g c =
     let read : IsRead c.args.self.now.routine c.phrase.new.self
     (state_of c.args.self.now.state) c.phrase.new.stack.items c.in_ok-operator.operator c.in_ok-operator.ensures.0 =
     is-read c.rest-rest.ensures c.if-is_empty.ensures c.in_ok-operator.ensures.1 c.in_ok-operator.ensures.2 in
@@ -163,7 +163,7 @@ returns-in-Some-leave-clause-advances g c =
     (← c.rest-rest.ensures) c.passed-bytes.ensures in
     let does = c.in_ok-act.ensures.value c.phrase.new.self (sym c.len-behind.ensures) in
     returned _ read (does.0 ∙ ap (λ done. move_of done (state_of c.act.new.self)) c.in-Returns.is) does.1
-    (add-one c.args.self.now.left) c.in-Some-leave.ensures front
+    (add-one c.args.self.now.left) (c.if-not-go_back.ensures.back refl) front
 
 pub returns-then-not-are_used_up-clause-advances : goal.returns-then-not-are_used_up-clause-advances
 returns-then-not-are_used_up-clause-advances g c =

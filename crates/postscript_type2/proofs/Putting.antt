@@ -1,0 +1,55 @@
+-- Numbers that are put onto a stack, one after another.
+use Rattle.std.proofs.Common.{◌≡◌, refl, inl, inr, ap, sym, ◌∙◌, ℕ, suc, ◌+◌, ◌<◌, true, List, [], ◌∷◌, ◌++◌, length, drop, get_or, ℤ, length-drop, arith}
+use Rattle.std.proofs.lemmas.List.{drop-drop}
+use Rattle.std.proofs.Math.Seq.{drop-cons}
+use Rattle.postscript_base.specs.Tape.Outcome.{Got}
+use Rattle.postscript_type2.specs.declared.refused.Refused.{Refused}
+use Rattle.postscript_type2.specs.Refused.{reason}
+use Rattle.postscript_type2.specs.Number.{number}
+use Rattle.postscript_type2.specs.Private.Alone.{is_alone, alone}
+use Rattle.postscript_type2.specs.Private.Tokens.{IsPhraseRefused, Puts}
+use Rattle.postscript_type2.specs.Program.Parsing.{is_number, phrase}
+use Rattle.postscript_type2.proofs.Alone.{front-first}
+use Rattle.postscript_type2.proofs.Bytes.{number-there}
+use Rattle.postscript_type2.proofs.Pieces.{front-number, front-shorter, refused-behind}
+
+-- the byte at a place, and those behind it
+pub here : (code : List ℕ) (place : ℕ) → place < length code → drop place code ≡ get_or code place 0 ∷ drop (place + 1) code
+here code place there =
+    let on : suc place ≡ place + 1 = omega arith in drop-cons code place 0 there ∙ ap (λ n. get_or code place 0 ∷ drop n code) on
+
+-- the number at a place
+pub puts-number : (code : List ℕ) (place : ℕ) (stack : List ℤ) (first : ℕ) (rest : List ℕ) (x : ℤ) (next : ℕ) → drop place code ≡ first ∷ rest →
+    is_number first ≡ true → number code place ≡ Got x next → Puts code place stack next (stack ++ x ∷ []) × (place < next)
+puts-number code place stack first rest x next is begins got =
+    let read = number-there code place x next got in
+    let onward : drop next code ≡ drop read.0 (drop place code) = ap (λ k. drop k code) read.2 ∙ sym (drop-drop read.0 place code) in
+    let shorter = front-shorter (drop place code) rest first read.0 x is read.1 in (
+      (read.0, read.2, λ k. rw onward (front-number k read.0 stack (drop place code) rest first x is begins read.1)),
+      omega (arith, shorter, length-drop read.0 (drop place code), read.2),
+    )
+
+-- the number that the byte at a place is by itself
+pub puts-alone : (code : List ℕ) (place : ℕ) (stack : List ℤ) (first : ℕ) (rest : List ℕ) → drop place code ≡ first ∷ rest → is_alone first ≡ true →
+    Puts code place stack (place + 1) (stack ++ alone first ∷ [])
+puts-alone code place stack first rest is one = (
+  1,
+  refl,
+  λ k. rw (sym (drop-drop 1 place code)) (front-first k stack (drop place code) rest first is one),
+)
+
+-- numbers, and those behind them
+pub both-put : (code : List ℕ) (place : ℕ) (stack : List ℤ) (next : ℕ) (stack' : List ℤ) (last : ℕ) (stack'' : List ℤ) →
+    Puts code place stack next stack' → Puts code next stack' last stack'' → Puts code place stack last stack''
+both-put code place stack next stack' last stack'' some more = (
+  some.0 + more.0,
+  (let h = some.1 in let r = more.1 in omega (arith, h, r)),
+  λ k. let same : k + (some.0 + more.0) ≡ k + some.0 + more.0 = omega arith in rw same (more.2 (k + some.0) ∙ some.2 k),
+)
+
+-- a phrase is refused as what is left of it is
+pub refused-later : (code : List ℕ) (place : ℕ) (stack : List ℤ) (next : ℕ) (stack' : List ℤ) (e : Refused) → Puts code place stack next stack' →
+    IsPhraseRefused (drop next code) e → IsPhraseRefused (drop place code) e
+refused-later code place stack next stack' e some (inl memory) = inl memory
+refused-later code place stack next stack' e some (inr none) =
+    inr (refused-behind (0 + some.0) stack stack' (phrase (drop place code)) (phrase (drop next code)) (reason e) (some.2 0) none)
