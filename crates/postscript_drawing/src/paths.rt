@@ -13,17 +13,22 @@ use crate::undrawn::Stroked;
 use postscript_outline::Sink;
 use postscript_type2::{Operand, Operator};
 
-/// The axis along which the first line or curve begins of an operator that draws them in turn. One call then draws those of both: what has
+/// The axis along which an operator goes that goes along one, or along both in turn, first. One call then draws those of both axes: what has
 /// one caller is put into it.
 #[inline(always)]
 fn first_axis(operator: Operator) -> Axis
+    ensures hmove { operator ≡ Operator.HMoveTo → result ≡ Axis.Horizontal }
+    ensures vmove { operator ≡ Operator.VMoveTo → result ≡ Axis.Vertical }
     ensures hline { operator ≡ Operator.HLineTo → result ≡ Axis.Horizontal }
     ensures vline { operator ≡ Operator.VLineTo → result ≡ Axis.Vertical }
+    ensures hhcurve { operator ≡ Operator.HHCurveTo → result ≡ Axis.Horizontal }
+    ensures vvcurve { operator ≡ Operator.VVCurveTo → result ≡ Axis.Vertical }
     ensures hvcurve { operator ≡ Operator.HVCurveTo → result ≡ Axis.Horizontal }
     ensures vhcurve { operator ≡ Operator.VHCurveTo → result ≡ Axis.Vertical }
 {
     match operator {
-        Operator::HLineTo | Operator::HVCurveTo => Axis::Horizontal,
+        Operator::HMoveTo | Operator::HLineTo | Operator::HHCurveTo | Operator::HVCurveTo =>
+            Axis::Horizontal,
         _ => Axis::Vertical,
     }
 }
@@ -47,8 +52,11 @@ impl Pen {
     {
         match operator {
             Operator::RMoveTo => self.go(operands, sink),
-            Operator::HMoveTo => self.go_along(Axis::Horizontal, operands, sink),
-            Operator::VMoveTo => self.go_along(Axis::Vertical, operands, sink),
+            Operator::HMoveTo | Operator::VMoveTo => self.go_along(
+                first_axis(operator),
+                operands,
+                sink,
+            ),
             Operator::RLineTo => self.lines(operands, sink),
             Operator::HLineTo | Operator::VLineTo => self.lines_in_turn(
                 first_axis(operator),
@@ -56,8 +64,11 @@ impl Pen {
                 sink,
             ),
             Operator::RRCurveTo => self.curves(operands, sink),
-            Operator::HHCurveTo => self.curves_level(Axis::Horizontal, operands, sink),
-            Operator::VVCurveTo => self.curves_level(Axis::Vertical, operands, sink),
+            Operator::HHCurveTo | Operator::VVCurveTo => self.curves_level(
+                first_axis(operator),
+                operands,
+                sink,
+            ),
             Operator::HVCurveTo | Operator::VHCurveTo => self.curves_in_turn(
                 first_axis(operator),
                 operands,
@@ -65,9 +76,12 @@ impl Pen {
             ),
             Operator::RCurveLine => self.curves_then_line(operands, sink),
             Operator::RLineCurve => self.lines_then_curve(operands, sink),
-            Operator::Flex | Operator::HFlex | Operator::HFlex1 | Operator::Flex1 => self.flexes(
-                operator, operands, sink,
-            ),
+            Operator::Flex | Operator::HFlex | Operator::HFlex1 | Operator::Flex1 => {
+                let mut pen = *self;
+                let drawn = pen.flexes(operator, operands, sink);
+                *self = pen;
+                drawn
+            }
             // stems, masks and the operators of which no run tells
             _ => Ok(()),
         }
