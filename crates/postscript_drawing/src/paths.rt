@@ -13,8 +13,8 @@ use crate::undrawn::Stroked;
 use postscript_outline::Sink;
 use postscript_type2::{Operand, Operator};
 
-/// The axis along which an operator goes that goes along one, or along both in turn, first. One call then draws those of both axes: what has
-/// one caller is put into it.
+/// The axis along which an operator goes that goes along one, or along both in turn, first. One call then draws those of both axes: what
+/// has one caller is put into it.
 #[inline(always)]
 fn first_axis(operator: Operator) -> Axis
     ensures hmove { operator ≡ Operator.HMoveTo → result ≡ Axis.Horizontal }

@@ -19,8 +19,9 @@ here code place there =
     let on : suc place ≡ place + 1 = omega arith in drop-cons code place 0 there ∙ ap (λ n. get_or code place 0 ∷ drop n code) on
 
 -- the number at a place
-pub puts-number : (code : List ℕ) (place : ℕ) (stack : List ℤ) (first : ℕ) (rest : List ℕ) (x : ℤ) (next : ℕ) → drop place code ≡ first ∷ rest →
-    is_number first ≡ true → number code place ≡ Got x next → Puts code place stack next (stack ++ x ∷ []) × (place < next)
+pub puts-number : (code : List ℕ) (place : ℕ) (stack : List ℤ) (first : ℕ) (rest : List ℕ) (x : ℤ) (next : ℕ) →
+    drop place code ≡ first ∷ rest → is_number first ≡ true → number code place ≡ Got x next →
+    Puts code place stack next (stack ++ x ∷ []) × (place < next)
 puts-number code place stack first rest x next is begins got =
     let read = number-there code place x next got in
     let onward : drop next code ≡ drop read.0 (drop place code) = ap (λ k. drop k code) read.2 ∙ sym (drop-drop read.0 place code) in
@@ -30,8 +31,8 @@ puts-number code place stack first rest x next is begins got =
     )
 
 -- the number that the byte at a place is by itself
-pub puts-alone : (code : List ℕ) (place : ℕ) (stack : List ℤ) (first : ℕ) (rest : List ℕ) → drop place code ≡ first ∷ rest → is_alone first ≡ true →
-    Puts code place stack (place + 1) (stack ++ alone first ∷ [])
+pub puts-alone : (code : List ℕ) (place : ℕ) (stack : List ℤ) (first : ℕ) (rest : List ℕ) →
+    drop place code ≡ first ∷ rest → is_alone first ≡ true → Puts code place stack (place + 1) (stack ++ alone first ∷ [])
 puts-alone code place stack first rest is one = (
   1,
   refl,
@@ -48,8 +49,8 @@ both-put code place stack next stack' last stack'' some more = (
 )
 
 -- a phrase is refused as what is left of it is
-pub refused-later : (code : List ℕ) (place : ℕ) (stack : List ℤ) (next : ℕ) (stack' : List ℤ) (e : Refused) → Puts code place stack next stack' →
-    IsPhraseRefused (drop next code) e → IsPhraseRefused (drop place code) e
+pub refused-later : (code : List ℕ) (place : ℕ) (stack : List ℤ) (next : ℕ) (stack' : List ℤ) (e : Refused) →
+    Puts code place stack next stack' → IsPhraseRefused (drop next code) e → IsPhraseRefused (drop place code) e
 refused-later code place stack next stack' e some (inl memory) = inl memory
 refused-later code place stack next stack' e some (inr none) =
     inr (refused-behind (0 + some.0) stack stack' (phrase (drop place code)) (phrase (drop next code)) (reason e) (some.2 0) none)

@@ -77,7 +77,8 @@ fn with_short(stack: Vec<Operand>, at: (&[u8], usize)) -> (Vec<Operand>, usize)
     (stack, next)
 }
 
-/// Puts numbers of one and of two bytes onto the stack that stand at a place, as far as there is room for them. Answers the place behind them.
+/// Puts numbers of one and of two bytes onto the stack that stand at a place, as far as there is room for them. Answers the place behind
+/// them.
 #[inline(always)]
 pub(super) fn put_short(code: &[u8], place: usize, stack: &mut Vec<Operand>) -> Result<usize>
     requires { place ≤ length code.now }

@@ -18,7 +18,8 @@ loop-next-preserved-then-is_alone c =
       within = omega (arith, there);
       short = short;
       room = omega (arith, room, less, len, capacity);
-      passed = both-put code c.args.at.1 c.args.stack.items next c.loop-next.stack.items (next + 1) c.push_reserved.new.self.items inv.passed
+      passed = both-put code c.args.at.1 c.args.stack.items next c.loop-next.stack.items (next + 1) c.push_reserved.new.self.items
+          inv.passed
           (rw (c.push_reserved.ensures.items, c.alone.ensures) one);
     }
 
