@@ -48,6 +48,7 @@ impl<'l> IndexView<'l> {
     /// Refused: `UnexpectedEof` where the count, the size, an offset or the last item is cut; `MalformedOffset` for offsets
     /// of no byte or of more than four.
     #[tactic(auto, unfolding(crate::specs::Index::opened))]
+    #[inline(always)]
     pub fn open(bytes: &'l [u8], place: usize) -> Result<(IndexView<'l>, usize)>
         ensures reads { Opens result (opened bytes.now place) }
         ensures exact { MatchResult result
@@ -88,6 +89,7 @@ impl<'l> IndexView<'l> {
 
     /// The items that stand behind their count.
     #[tactic(auto, unfolding(crate::specs::Index::spread))]
+    #[inline(always)]
     fn filled(bytes: &'l [u8], place: usize, count: usize) -> Result<(IndexView<'l>, usize)>
         requires within { place + 2 ≤ length bytes.now }
         requires some { 0 < count }
@@ -178,6 +180,7 @@ impl<'l> IndexView<'l> {
 
     /// The bytes of the item at a place, counted from 0. None where there is no such item. Never refused.
     #[tactic(auto, using(crate::proofs::ItemsAt::item_at_place, crate::proofs::ItemsAt::item_past))]
+    #[inline(always)]
     pub fn get(&self, i: usize) -> Option<&'l [u8]>
         ensures { option_map (λ item. item.now) result ≡ slice_get (items_of self.now) i }
     {
