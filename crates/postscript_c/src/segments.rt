@@ -1,10 +1,11 @@
 //! What a glyph draws, as C holds it.
 ghost use Rattle.std.specs.Prelude.{◌≡◌, ◌∷◌, ◌++◌, [], None, IfErr, IfOk, OnErr, OnOk, fold, map};
-ghost use Rattle.std.specs.Coded.{Coded-set};
 ghost use Rattle.postscript_base.specs.declared.error.Error.TheVariants as errors;
+ghost use Rattle.postscript_c.specs.Corners.{AreCornersOf, AreCornersOf-prop};
 ghost use Rattle.postscript_c.specs.Segments.{AreShown, AreShown-prop, meant};
 ghost use Rattle.postscript_outline.specs.Bounds.{IsBoundsOf, points, taking};
 
+use crate::corners::Corners;
 use crate::fill::{PsfSegment, shown};
 use postscript_base::Result;
 use postscript_outline::laws::bounds_take_in_points;
@@ -18,9 +19,9 @@ const ROOM: usize = 128;
 #[derive(Drop)]
 pub(crate) struct Segments {
     pub(crate) segments: Vec<PsfSegment>,
-    bounds: Option<Bounds>,
+    corners: Corners,
     ghost shown: { AreShown segments.items } by { AreShown-prop segments.items },
-    ghost bounded: { bounds ≡ fold taking None (map meant segments.items) } by { Coded-set bounds-code bounds _ },
+    ghost bounded: { AreCornersOf (fold taking None (map meant segments.items)) corners } by { AreCornersOf-prop _ corners },
 }
 
 impl Segments {
@@ -31,7 +32,7 @@ impl Segments {
     {
         Ok(Segments {
             segments: Vec::with_capacity(alloc, ROOM)?,
-            bounds: None,
+            corners: Corners::new(),
         })
     }
 
@@ -40,7 +41,7 @@ impl Segments {
         ensures { IsBoundsOf result (points (map meant self.now.segments.items)) }
     {
         bounds_take_in_points();
-        self.bounds
+        self.corners.bounds()
     }
 }
 
@@ -60,7 +61,7 @@ impl Sink for Segments {
     #[inline(always)]
     fn add(&mut self, segment: Segment) -> Given {
         self.segments.push(shown(segment))?;
-        self.bounds = Bounds::taking(self.bounds, segment);
+        self.corners = self.corners.taking(segment);
         Ok(())
     }
 }
