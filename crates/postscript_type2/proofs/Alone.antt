@@ -1,5 +1,6 @@
 -- Numbers of one byte.
-use Rattle.std.proofs.Common.{◌≡◌, ℕ, ◌+◌, ℤ, Bool, true, ltb-true, List, [], ◌∷◌, ◌++◌, ◌&&◌, nat_lt, drop, arith}
+use Rattle.std.proofs.lemmas.Bool.Decides.{nat_tests}
+use Rattle.std.proofs.Common.{◌≡◌, ◌≤◌, ℕ, ◌+◌, ℤ, Bool, true, false, ltb-true, List, [], ◌∷◌, ◌++◌, ◌&&◌, nat_lt, drop, arith}
 use Rattle.postscript_type2.specs.Private.Alone.{is_alone, alone}
 use Rattle.postscript_type2.specs.Program.Parsing.{phrase, fronted}
 use Rattle.postscript_type2.proofs.Pieces.{front-small}
@@ -13,3 +14,7 @@ pub front-first : (k : ℕ) (stack : List ℤ) (bytes rest : List ℕ) (b : ℕ)
 front-first k stack bytes rest b is one =
     let tests = both (nat_lt 0x1f b) (nat_lt b 0xf7) one in
     front-small k stack bytes rest b is (omega (arith, ltb-true 0x1f b tests.0)) (omega (arith, ltb-true b 0xf7 tests.1))
+
+-- a number that is not of one byte
+pub of-more : (b : ℕ) → is_alone b ≡ false → 32 ≤ b → 247 ≤ b
+of-more b other low = grind (arith, nat_tests)

@@ -1,17 +1,22 @@
 -- Numbers that are put onto a stack, one after another.
-use Rattle.std.proofs.Common.{◌≡◌, refl, inl, inr, ap, sym, ◌∙◌, ℕ, suc, ◌+◌, ◌<◌, true, List, [], ◌∷◌, ◌++◌, length, drop, get_or, ℤ, length-drop, arith}
+use Rattle.std.proofs.Common.{◌≡◌, refl, inl, inr, ap, sym, ◌∙◌, ℕ, suc, ◌+◌, ◌<◌, ◌≤◌, Bool, true, false, ltb-true, nat_lt, if◌then◌else◌, List, [], ◌∷◌, ◌++◌, length, take, drop, get_or, ℤ, length-drop, arith}
+use Rattle.std.proofs.lemmas.Bool.{ltb-false}
 use Rattle.std.proofs.lemmas.List.{drop-drop}
 use Rattle.std.proofs.Math.Seq.{drop-cons}
 use Rattle.postscript_base.specs.Tape.Outcome.{Got}
 use Rattle.postscript_type2.specs.declared.refused.Refused.{Refused}
 use Rattle.postscript_type2.specs.Refused.{reason}
-use Rattle.postscript_type2.specs.Number.{number}
+use Rattle.postscript_base.specs.Numbers.{above, below}
+use Rattle.postscript_type2.specs.Number.{number, whole}
+use Rattle.postscript_type2.specs.Program.Phrases.{IsNumber}
+use Rattle.postscript_type2.specs.Program.Phrases.IsNumber.{positive, negative}
 use Rattle.postscript_type2.specs.Private.Alone.{is_alone, alone}
 use Rattle.postscript_type2.specs.Private.Tokens.{IsPhraseRefused, Puts}
 use Rattle.postscript_type2.specs.Program.Parsing.{is_number, phrase}
 use Rattle.postscript_type2.proofs.Alone.{front-first}
 use Rattle.postscript_type2.proofs.Bytes.{number-there}
-use Rattle.postscript_type2.proofs.Pieces.{front-number, front-shorter, refused-behind}
+use Rattle.postscript_type2.proofs.NumberLaws.{reads_numbers}
+use Rattle.postscript_type2.proofs.Pieces.{front-number, front-shorter, refused-behind, small-begins}
 
 -- the byte at a place, and those behind it
 pub here : (code : List ℕ) (place : ℕ) → place < length code → drop place code ≡ get_or code place 0 ∷ drop (place + 1) code
@@ -38,6 +43,32 @@ puts-alone code place stack first rest is one = (
   refl,
   λ k. rw (sym (drop-drop 1 place code)) (front-first k stack (drop place code) rest first is one),
 )
+
+-- the number of two bytes
+pair-there : (code : List ℕ) (place first second : ℕ) (rest : List ℕ) → drop place code ≡ first ∷ second ∷ rest → 247 ≤ first →
+    first < 255 → number code place ≡ Got (whole (if nat_lt first 251 then above first second else below first second)) (place + 2)
+pair-there code place first second rest is low high = by_sign (nat_lt first 251) refl
+  where
+    spelled-so : (x : ℤ) → IsNumber (first ∷ second ∷ []) x → number code place ≡ Got x (place + 2)
+    spelled-so x so =
+        reads_numbers.all code place x (place + 2)
+        (record { spelling = first ∷ second ∷ []; is = so; stands = ap (take 2) is; behind = refl })
+    by_sign : (b : Bool) → nat_lt first 251 ≡ b →
+        number code place ≡ Got (whole (if b then above first second else below first second)) (place + 2)
+    by_sign true less = spelled-so (whole (above first second)) (positive first second low (omega (arith, ltb-true first 251 less)))
+    by_sign false less = spelled-so (whole (below first second)) (negative first second (omega (arith, ltb-false first 251 less)) high)
+
+-- it is put onto a stack
+pub puts-pair : (code : List ℕ) (place : ℕ) (stack : List ℤ) → place + 1 < length code → 247 ≤ get_or code place 0 →
+    get_or code place 0 < 255 → Puts code place stack (place + 2)
+    (stack ++ whole (if nat_lt (get_or code place 0) 251 then above (get_or code place 0) (get_or code (place + 1) 0)
+    else below (get_or code place 0) (get_or code (place + 1) 0)) ∷ [])
+puts-pair code place stack there low high =
+    let first = get_or code place 0 in
+    let both : drop place code ≡ first ∷ get_or code (place + 1) 0 ∷ drop (place + 1 + 1) code = here code place (omega (arith, there))
+    ∙ ap (λ xs. first ∷ xs) (here code (place + 1) there) in
+    (puts-number code place stack first _ _ (place + 2) both (small-begins first (omega (arith, low)))
+    (pair-there code place first (get_or code (place + 1) 0) _ both low high)).0
 
 -- numbers, and those behind them
 pub both-put : (code : List ℕ) (place : ℕ) (stack : List ℤ) (next : ℕ) (stack' : List ℤ) (last : ℕ) (stack'' : List ℤ) →

@@ -38,7 +38,7 @@ ReadsPhraseAt bytes place stack (Ok read) stack' =
 ReadsPhraseAt bytes place stack (Err e) stack' = IsPhraseRefused bytes e
 
 -- a phrase is read off the front, and its numbers are put onto a stack
-abbrev pub ReadsPhrase : List ℕ → List ℤ → Result Operator Refused → List ℕ → List ℤ → Type 0
-ReadsPhrase old stack (Ok operator) new stack' =
-    (more : ℕ) × (fronted stack 0 (phrase old) ≡ Complete stack' operator more) × (new ≡ drop (more + 1) old)
+abbrev pub ReadsPhrase : {A : Type 0} → List ℕ → List ℤ → Result (Operator × A) Refused → List ℕ → List ℤ → Type 0
+ReadsPhrase old stack (Ok read) new stack' =
+    (more : ℕ) × (fronted stack 0 (phrase old) ≡ Complete stack' read.0 more) × (new ≡ drop (more + 1) old)
 ReadsPhrase old stack (Err e) new stack' = IsPhraseRefused old e

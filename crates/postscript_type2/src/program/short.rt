@@ -1,12 +1,13 @@
 //! Numbers of one and of two bytes, which are read in one loop up to the next operator.
-ghost use Rattle.std.specs.Prelude.{◌≡◌, ◌≤◌, ◌&&◌, nat_lt, true, length, IfOk, IfErr};
+ghost use Rattle.std.specs.Prelude.{◌≡◌, ◌≤◌, ◌<◌, ◌+◌, ◌&&◌, nat_lt, if◌then◌else◌, length, IfOk, IfErr};
 ghost use Rattle.postscript_type2.specs.declared.refused.Refused.TheVariants as cases;
+ghost use Rattle.postscript_base.specs.Numbers.{above, below};
+ghost use Rattle.postscript_type2.specs.Number.{whole};
 ghost use Rattle.postscript_type2.specs.Private.Alone.{alone as the_alone, is_alone as the_is_alone};
 ghost use Rattle.postscript_type2.specs.Private.Tokens.{Puts};
-ghost use Rattle.postscript_type2.specs.Program.Parsing.{is_number};
 
 use super::routine::make_room;
-use crate::number::read_at;
+use crate::number::paired;
 use crate::operation::Operand;
 use crate::refused::Result;
 use core::mem::replace_with;
@@ -34,12 +35,14 @@ fn alone(byte: u8) -> Operand
     Operand::from_int(i16::from(byte) - 139)
 }
 
-/// Whether a number of two bytes begins with this byte.
+/// The number of two bytes.
 #[inline(always)]
-fn is_paired(first: u8) -> bool
-    ensures { result ≡ true → is_number first ≡ true }
+fn pair(first: u8, second: u8) -> Operand
+    requires low { 247 ≤ first }
+    requires high { first < 255 }
+    ensures { result ≡ whole (if nat_lt first 251 then above first second else below first second) }
 {
-    247 <= first && first < 255
+    Operand::from_int(paired(first, second))
 }
 
 /// A stack with the numbers of one and of two bytes that stand at a place, as far as it has room for them, and the place behind them. It is
@@ -54,7 +57,8 @@ fn with_short(stack: Vec<Operand>, at: (&[u8], usize)) -> (Vec<Operand>, usize)
     let mut stack = stack;
     let mut next = place;
     let room = stack.capacity() - stack.len();
-    let limit = place + room.min(code.len() - place);
+    // one byte stands behind each that is read here
+    let limit = place + room.min((code.len() - place).saturating_sub(1));
     while next < limit {
         let first = code[next];
         // asked first, so that a byte is guessed wrong once
@@ -64,12 +68,9 @@ fn with_short(stack: Vec<Operand>, at: (&[u8], usize)) -> (Vec<Operand>, usize)
         if is_alone(first) {
             stack.push_reserved(alone(first));
             next += 1;
-        } else if is_paired(first) {
-            let Ok((operand, behind)) = read_at(code, next) else {
-                break;
-            };
-            stack.push_reserved(operand);
-            next = behind;
+        } else if first < 255 {
+            stack.push_reserved(pair(first, code[next + 1]));
+            next += 2;
         } else {
             break;
         }

@@ -1,5 +1,6 @@
-use Rattle.std.proofs.Common.{◌+◌, ◌<◌, ℕ, List, length, sym, arith}
-use Rattle.postscript_type2.proofs.Putting.{both-put, here, puts-alone, puts-number}
+use Rattle.std.proofs.Common.{◌+◌, ◌<◌, ℕ, List, length, get_or, sym, arith}
+use Rattle.postscript_type2.proofs.Alone.{of-more}
+use Rattle.postscript_type2.proofs.Putting.{both-put, here, puts-alone, puts-pair}
 use Rattle.postscript_type2.proofs.program.short.with_short.Goals as goal
 
 pub loop-next-preserved-then-is_alone : goal.loop-next-preserved-then-is_alone
@@ -10,7 +11,8 @@ loop-next-preserved-then-is_alone c =
     let short = inv.short in
     let room = inv.room in
     let less = c.loop-next-test.true in
-    let there : next < length code = omega (arith, short, less) in
+    let passed = inv.passed.1 in
+    let there : next < length code = omega (arith, short, less, passed) in
     let one = puts-alone code next c.loop-next.stack.items _ _ (here code next there) (sym c.if-is_alone.ensures) in
     let len = c.push_reserved.ensures.len in
     let capacity = c.push_reserved.ensures.capacity in
@@ -31,28 +33,18 @@ loop-next-preserved c =
     let short = inv.short in
     let room = inv.room in
     let less = c.loop-next-test.true in
-    let there : next < length code = omega (arith, short, less) in
-    let number = puts-number code next c.loop-next.stack.items _ _ _ _ (here code next there)
-    (c.is_paired.ensures c.if-is_paired.true) c.in-Ok.ensures.exact in
-    let on = number.1 in
-    let len = c.push_reserved-then-is_paired.ensures.len in
-    let capacity = c.push_reserved-then-is_paired.ensures.capacity in
+    let passed = inv.passed.1 in
+    let there : next + 1 < length code = omega (arith, short, less, passed) in
+    let word = c.if-first-lt32.false in
+    let two = puts-pair code next c.loop-next.stack.items there
+    (of-more (get_or code next 0) (sym c.if-is_alone.ensures) (omega (arith, word))) c.if-first-lt255.true in
+    let len = c.push_reserved-then-first-lt255.ensures.len in
+    let capacity = c.push_reserved-then-first-lt255.ensures.capacity in
     record {
-      within = c.in-Ok.ensures.room;
+      within = omega (arith, there);
       short = short;
-      room = omega (arith, room, less, on, len, capacity);
-      passed = both-put code c.args.at.1 c.args.stack.items next c.loop-next.stack.items _ c.push_reserved-then-is_paired.new.self.items
-          inv.passed (rw c.push_reserved-then-is_paired.ensures.items number.0);
+      room = omega (arith, room, less, len, capacity);
+      passed = both-put code c.args.at.1 c.args.stack.items next c.loop-next.stack.items (next + 2)
+          c.push_reserved-then-first-lt255.new.self.items
+          inv.passed (rw (c.push_reserved-then-first-lt255.ensures.items, c.pair.ensures) two);
     }
-
-pub loop-next-smaller : goal.loop-next-smaller
-loop-next-smaller c =
-    let code : List ℕ = c.args.at.0.now in
-    let next : ℕ = c.loop-next.next in
-    let short = c.loop-next.invariant.short in
-    let less = c.loop-next-test.true in
-    let there : next < length code = omega (arith, short, less) in
-    let number = puts-number code next c.loop-next.stack.items _ _ _ _ (here code next there)
-    (c.is_paired.ensures c.if-is_paired.true) c.in-Ok.ensures.exact in
-    let on = number.1 in
-    omega (arith, there, on)

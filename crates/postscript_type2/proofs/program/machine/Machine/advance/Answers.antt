@@ -24,7 +24,7 @@ returns-in_err-operator-clause-advances g c =
     rw (error.1, error.2) (
       unread-or-memory
           (lists_of c.args.self.now.lists) c.args.self.now.left c.args.self.now.callers c.args.self.now.routine
-          (state_of c.args.self.now.state) c.in_err-operator.field-0.0 some c.in_err-operator.ensures,
+          (state_of c.args.self.now.state) c.in_err-operator.field-0.0 some c.in_err-operator.ensures.reads,
       refl,
     )
 
@@ -35,13 +35,13 @@ returns-in_err-operator-clause-last g c =
     let error = err_from_is_err_and c.from_residual.result c.from_residual.ensures.1 in
     rw (error.1, error.2) (unread-is-last
     (lists_of c.args.self.now.lists) c.args.self.now.left c.args.self.now.callers c.args.self.now.routine
-    (state_of c.args.self.now.state) c.in_err-operator.field-0.0 some c.in_err-operator.ensures)
+    (state_of c.args.self.now.state) c.in_err-operator.field-0.0 some c.in_err-operator.ensures.reads)
 
 pub returns-in_err-act-clause-last : goal.returns-in_err-act-clause-last
 returns-in_err-act-clause-last g c =
     let read : IsRead c.args.self.now.routine c.phrase.new.self
-    (state_of c.args.self.now.state) c.phrase.new.stack.items c.in_ok-operator.operator c.in_ok-operator.ensures.0 =
-    is-read c.rest-rest.ensures c.if-is_empty.ensures c.in_ok-operator.ensures.1 c.in_ok-operator.ensures.2 in
+    (state_of c.args.self.now.state) c.phrase.new.stack.items c.in_ok-operator.operator c.in_ok-operator.ensures.reads.0 =
+    is-read c.rest-rest.ensures c.if-is_empty.ensures c.in_ok-operator.ensures.reads.1 c.in_ok-operator.ensures.reads.2 in
     let does = c.in_err-act.ensures.value c.phrase.new.self (sym c.len-behind.ensures) in
     let error = err_from_is_err_and c.from_residual-in_err-act.result c.from_residual-in_err-act.ensures.1 in
     rw (error.1, error.2) (refused-is-last _ c.args.self.now.left c.args.self.now.callers read does.0)
@@ -49,8 +49,8 @@ returns-in_err-act-clause-last g c =
 pub returns-then-self-eq0-clause-last : goal.returns-then-self-eq0-clause-last
 returns-then-self-eq0-clause-last g c =
     let read : IsRead c.args.self.now.routine c.phrase.new.self
-    (state_of c.args.self.now.state) c.phrase.new.stack.items c.in_ok-operator.operator c.in_ok-operator.ensures.0 =
-    is-read c.rest-rest.ensures c.if-is_empty.ensures c.in_ok-operator.ensures.1 c.in_ok-operator.ensures.2 in
+    (state_of c.args.self.now.state) c.phrase.new.stack.items c.in_ok-operator.operator c.in_ok-operator.ensures.reads.0 =
+    is-read c.rest-rest.ensures c.if-is_empty.ensures c.in_ok-operator.ensures.reads.1 c.in_ok-operator.ensures.reads.2 in
     let does = c.in_ok-act.ensures.value c.phrase.new.self (sym c.len-behind.ensures) in
     inr (rw c.if-self-eq0.true
     (too-deep-is-last _ c.args.self.now.callers read (does.0 ∙ ap (λ done. move_of done (state_of c.act.new.self)) c.in-Calls.is)))
@@ -58,8 +58,8 @@ returns-then-self-eq0-clause-last g c =
 pub returns-then-not-are_used_up-clause-last : goal.returns-then-not-are_used_up-clause-last
 returns-then-not-are_used_up-clause-last g c =
     let read : IsRead c.args.self.now.routine c.phrase.new.self
-    (state_of c.args.self.now.state) c.phrase.new.stack.items c.in_ok-operator.operator c.in_ok-operator.ensures.0 =
-    is-read c.rest-rest.ensures c.if-is_empty.ensures c.in_ok-operator.ensures.1 c.in_ok-operator.ensures.2 in
+    (state_of c.args.self.now.state) c.phrase.new.stack.items c.in_ok-operator.operator c.in_ok-operator.ensures.reads.0 =
+    is-read c.rest-rest.ensures c.if-is_empty.ensures c.in_ok-operator.ensures.reads.1 c.in_ok-operator.ensures.reads.2 in
     let does = c.in_ok-act.ensures.value c.phrase.new.self (sym c.len-behind.ensures) in
     inr (trailing-is-last _ c.args.self.now.left c.args.self.now.callers read
     (does.0 ∙ ap (λ done. move_of done (state_of c.act.new.self)) c.in-Ends.is) c.if-not-are_used_up.ensures)
@@ -67,8 +67,8 @@ returns-then-not-are_used_up-clause-last g c =
 pub returns-in_err-act-clause-advances : goal.returns-in_err-act-clause-advances
 returns-in_err-act-clause-advances g c =
     let read : IsRead c.args.self.now.routine c.phrase.new.self
-    (state_of c.args.self.now.state) c.phrase.new.stack.items c.in_ok-operator.operator c.in_ok-operator.ensures.0 =
-    is-read c.rest-rest.ensures c.if-is_empty.ensures c.in_ok-operator.ensures.1 c.in_ok-operator.ensures.2 in
+    (state_of c.args.self.now.state) c.phrase.new.stack.items c.in_ok-operator.operator c.in_ok-operator.ensures.reads.0 =
+    is-read c.rest-rest.ensures c.if-is_empty.ensures c.in_ok-operator.ensures.reads.1 c.in_ok-operator.ensures.reads.2 in
     let does = c.in_err-act.ensures.value c.phrase.new.self (sym c.len-behind.ensures) in
     let error = err_from_is_err_and c.from_residual-in_err-act.result c.from_residual-in_err-act.ensures.1 in
     rw (error.1, error.2) (refused-or-memory _ c.args.self.now.left c.args.self.now.callers read does.0, does.1)
@@ -76,10 +76,9 @@ returns-in_err-act-clause-advances g c =
 pub returns-in-Keeps-clause-advances : goal.returns-in-Keeps-clause-advances
 returns-in-Keeps-clause-advances g c =
     let read : IsRead c.args.self.now.routine c.phrase.new.self
-    (state_of c.args.self.now.state) c.phrase.new.stack.items c.in_ok-operator.operator c.in_ok-operator.ensures.0 =
-    is-read c.rest-rest.ensures c.if-is_empty.ensures c.in_ok-operator.ensures.1 c.in_ok-operator.ensures.2 in
-    let front : c.passed-bytes.result.now ≡ take (length c.args.self.now.routine - length c.phrase.new.self) c.args.self.now.routine = rw
-    (← c.rest-rest.ensures) c.passed-bytes.ensures in
+    (state_of c.args.self.now.state) c.phrase.new.stack.items c.in_ok-operator.operator c.in_ok-operator.ensures.reads.0 =
+    is-read c.rest-rest.ensures c.if-is_empty.ensures c.in_ok-operator.ensures.reads.1 c.in_ok-operator.ensures.reads.2 in
+    let front = c.in_ok-operator.ensures.front in
     let does = c.in_ok-act.ensures.value c.phrase.new.self (sym c.len-behind.ensures) in
     kept _ c.args.self.now.left c.args.self.now.callers read
     (does.0 ∙ ap (λ done. move_of done (state_of c.act.new.self)) c.in-Keeps.is) does.1 front
@@ -87,10 +86,9 @@ returns-in-Keeps-clause-advances g c =
 pub returns-in-Some-clause-advances : goal.returns-in-Some-clause-advances
 returns-in-Some-clause-advances g c =
     let read : IsRead c.args.self.now.routine c.phrase.new.self
-    (state_of c.args.self.now.state) c.phrase.new.stack.items c.in_ok-operator.operator c.in_ok-operator.ensures.0 =
-    is-read c.rest-rest.ensures c.if-is_empty.ensures c.in_ok-operator.ensures.1 c.in_ok-operator.ensures.2 in
-    let front : c.passed-bytes.result.now ≡ take (length c.args.self.now.routine - length c.phrase.new.self) c.args.self.now.routine = rw
-    (← c.rest-rest.ensures) c.passed-bytes.ensures in
+    (state_of c.args.self.now.state) c.phrase.new.stack.items c.in_ok-operator.operator c.in_ok-operator.ensures.reads.0 =
+    is-read c.rest-rest.ensures c.if-is_empty.ensures c.in_ok-operator.ensures.reads.1 c.in_ok-operator.ensures.reads.2 in
+    let front = c.in_ok-operator.ensures.front in
     let stack = c.phrase.new.stack.items in
     let none = drop_all (length stack - 0) stack (omega arith) in
     let moves = c.in-Some.ensures (lists_of c.args.self.now.lists) c.phrase.new.self
@@ -101,11 +99,11 @@ returns-in-Some-clause-advances g c =
 pub returns-in-Clears-clause-advances : goal.returns-in-Clears-clause-advances
 returns-in-Clears-clause-advances g c =
     let read : IsRead c.args.self.now.routine c.phrase.new.self
-    (state_of c.args.self.now.state) c.phrase.new.stack.items c.in_ok-operator.operator c.in_ok-operator.ensures.0 =
-    is-read c.rest-rest.ensures c.if-is_empty.ensures c.in_ok-operator.ensures.1 c.in_ok-operator.ensures.2 in
-    let front : c.passed-bytes-in-Clears.result.now ≡ take
+    (state_of c.args.self.now.state) c.phrase.new.stack.items c.in_ok-operator.operator c.in_ok-operator.ensures.reads.0 =
+    is-read c.rest-rest.ensures c.if-is_empty.ensures c.in_ok-operator.ensures.reads.1 c.in_ok-operator.ensures.reads.2 in
+    let front : c.passed-bytes.result.now ≡ take
     (length c.args.self.now.routine - length c.skip.new.self) c.args.self.now.routine = rw
-    (← c.rest-rest.ensures) c.passed-bytes-in-Clears.ensures in
+    (← c.rest-rest.ensures) c.passed-bytes.ensures in
     let does = c.in_ok-act.ensures.value c.phrase.new.self (sym c.len-behind.ensures) in
     let moves = does.0 ∙ ap (λ done. move_of done (state_of c.act.new.self)) c.in-Clears.is in
     let becomes = does.1 ∙ ap (λ move. after_move move (stacked c.phrase.new.stack.items (state_of c.args.self.now.state))) moves in
@@ -120,8 +118,8 @@ returns-in-Clears-clause-advances g c =
 pub returns-then-self-eq0-clause-advances : goal.returns-then-self-eq0-clause-advances
 returns-then-self-eq0-clause-advances g c =
     let read : IsRead c.args.self.now.routine c.phrase.new.self
-    (state_of c.args.self.now.state) c.phrase.new.stack.items c.in_ok-operator.operator c.in_ok-operator.ensures.0 =
-    is-read c.rest-rest.ensures c.if-is_empty.ensures c.in_ok-operator.ensures.1 c.in_ok-operator.ensures.2 in
+    (state_of c.args.self.now.state) c.phrase.new.stack.items c.in_ok-operator.operator c.in_ok-operator.ensures.reads.0 =
+    is-read c.rest-rest.ensures c.if-is_empty.ensures c.in_ok-operator.ensures.reads.1 c.in_ok-operator.ensures.reads.2 in
     let does = c.in_ok-act.ensures.value c.phrase.new.self (sym c.len-behind.ensures) in
     let refusal = too-deep-call _ c.args.self.now.callers read
     (does.0 ∙ ap (λ done. move_of done (state_of c.act.new.self)) c.in-Calls.is) does.1 in
@@ -130,10 +128,9 @@ returns-then-self-eq0-clause-advances g c =
 pub returns-in_ok-enter-in-Calls-clause-advances : goal.returns-in_ok-enter-in-Calls-clause-advances
 returns-in_ok-enter-in-Calls-clause-advances g c =
     let read : IsRead c.args.self.now.routine c.phrase.new.self
-    (state_of c.args.self.now.state) c.phrase.new.stack.items c.in_ok-operator.operator c.in_ok-operator.ensures.0 =
-    is-read c.rest-rest.ensures c.if-is_empty.ensures c.in_ok-operator.ensures.1 c.in_ok-operator.ensures.2 in
-    let front : c.passed-bytes.result.now ≡ take (length c.args.self.now.routine - length c.phrase.new.self) c.args.self.now.routine = rw
-    (← c.rest-rest.ensures) c.passed-bytes.ensures in
+    (state_of c.args.self.now.state) c.phrase.new.stack.items c.in_ok-operator.operator c.in_ok-operator.ensures.reads.0 =
+    is-read c.rest-rest.ensures c.if-is_empty.ensures c.in_ok-operator.ensures.reads.1 c.in_ok-operator.ensures.reads.2 in
+    let front = c.in_ok-operator.ensures.front in
     let does = c.in_ok-act.ensures.value c.phrase.new.self (sym c.len-behind.ensures) in
     let entry = c.in_ok-enter-in-Calls.ensures in
     let run = entered _ read (does.0 ∙ ap (λ done. move_of done (state_of c.act.new.self)) c.in-Calls.is) does.1 entry.left entry.callers
@@ -143,12 +140,12 @@ returns-in_ok-enter-in-Calls-clause-advances g c =
 pub returns-then-not-go_back-clause-advances : goal.returns-then-not-go_back-clause-advances
 returns-then-not-go_back-clause-advances g c =
     let read : IsRead c.args.self.now.routine c.phrase.new.self
-    (state_of c.args.self.now.state) c.phrase.new.stack.items c.in_ok-operator.operator c.in_ok-operator.ensures.0 =
-    is-read c.rest-rest.ensures c.if-is_empty.ensures c.in_ok-operator.ensures.1 c.in_ok-operator.ensures.2 in
+    (state_of c.args.self.now.state) c.phrase.new.stack.items c.in_ok-operator.operator c.in_ok-operator.ensures.reads.0 =
+    is-read c.rest-rest.ensures c.if-is_empty.ensures c.in_ok-operator.ensures.reads.1 c.in_ok-operator.ensures.reads.2 in
     let does = c.in_ok-act.ensures.value c.phrase.new.self (sym c.len-behind.ensures) in
     let moves = does.0 ∙ ap (λ done. move_of done (state_of c.act.new.self)) c.in-Returns.is in
     let refusal = no-caller (lists_of c.args.self.now.lists) c.args.self.now.left c.args.self.now.routine c.phrase.new.self
-    (state_of c.args.self.now.state) c.phrase.new.stack.items c.in_ok-operator.operator c.in_ok-operator.ensures.0 read moves in (
+    (state_of c.args.self.now.state) c.phrase.new.stack.items c.in_ok-operator.operator c.in_ok-operator.ensures.reads.0 read moves in (
       inr (rw (c.if-not-go_back.ensures.none refl) refusal),
       ap (λ (s : State). s.width)
           (does.1 ∙ ap (λ move. after_move move (stacked c.phrase.new.stack.items (state_of c.args.self.now.state))) moves),
@@ -157,10 +154,9 @@ returns-then-not-go_back-clause-advances g c =
 pub returns-else-not-go_back-clause-advances : goal.returns-else-not-go_back-clause-advances
 returns-else-not-go_back-clause-advances g c =
     let read : IsRead c.args.self.now.routine c.phrase.new.self
-    (state_of c.args.self.now.state) c.phrase.new.stack.items c.in_ok-operator.operator c.in_ok-operator.ensures.0 =
-    is-read c.rest-rest.ensures c.if-is_empty.ensures c.in_ok-operator.ensures.1 c.in_ok-operator.ensures.2 in
-    let front : c.passed-bytes.result.now ≡ take (length c.args.self.now.routine - length c.phrase.new.self) c.args.self.now.routine = rw
-    (← c.rest-rest.ensures) c.passed-bytes.ensures in
+    (state_of c.args.self.now.state) c.phrase.new.stack.items c.in_ok-operator.operator c.in_ok-operator.ensures.reads.0 =
+    is-read c.rest-rest.ensures c.if-is_empty.ensures c.in_ok-operator.ensures.reads.1 c.in_ok-operator.ensures.reads.2 in
+    let front = c.in_ok-operator.ensures.front in
     let does = c.in_ok-act.ensures.value c.phrase.new.self (sym c.len-behind.ensures) in
     returned _ read (does.0 ∙ ap (λ done. move_of done (state_of c.act.new.self)) c.in-Returns.is) does.1
     (add-one c.args.self.now.left) (c.if-not-go_back.ensures.back refl) front
@@ -168,8 +164,8 @@ returns-else-not-go_back-clause-advances g c =
 pub returns-then-not-are_used_up-clause-advances : goal.returns-then-not-are_used_up-clause-advances
 returns-then-not-are_used_up-clause-advances g c =
     let read : IsRead c.args.self.now.routine c.phrase.new.self
-    (state_of c.args.self.now.state) c.phrase.new.stack.items c.in_ok-operator.operator c.in_ok-operator.ensures.0 =
-    is-read c.rest-rest.ensures c.if-is_empty.ensures c.in_ok-operator.ensures.1 c.in_ok-operator.ensures.2 in
+    (state_of c.args.self.now.state) c.phrase.new.stack.items c.in_ok-operator.operator c.in_ok-operator.ensures.reads.0 =
+    is-read c.rest-rest.ensures c.if-is_empty.ensures c.in_ok-operator.ensures.reads.1 c.in_ok-operator.ensures.reads.2 in
     let does = c.in_ok-act.ensures.value c.phrase.new.self (sym c.len-behind.ensures) in
     let run = trailing _ c.args.self.now.left c.args.self.now.callers read
     (does.0 ∙ ap (λ done. move_of done (state_of c.act.new.self)) c.in-Ends.is) does.1 c.if-not-are_used_up.ensures in
@@ -178,17 +174,16 @@ returns-then-not-are_used_up-clause-advances g c =
 pub returns-else-not-are_used_up-clause-advances : goal.returns-else-not-are_used_up-clause-advances
 returns-else-not-are_used_up-clause-advances g c =
     let read : IsRead c.args.self.now.routine c.phrase.new.self
-    (state_of c.args.self.now.state) c.phrase.new.stack.items c.in_ok-operator.operator c.in_ok-operator.ensures.0 =
-    is-read c.rest-rest.ensures c.if-is_empty.ensures c.in_ok-operator.ensures.1 c.in_ok-operator.ensures.2 in
-    let front : c.passed-bytes.result.now ≡ take (length c.args.self.now.routine - length c.phrase.new.self) c.args.self.now.routine = rw
-    (← c.rest-rest.ensures) c.passed-bytes.ensures in
+    (state_of c.args.self.now.state) c.phrase.new.stack.items c.in_ok-operator.operator c.in_ok-operator.ensures.reads.0 =
+    is-read c.rest-rest.ensures c.if-is_empty.ensures c.in_ok-operator.ensures.reads.1 c.in_ok-operator.ensures.reads.2 in
+    let front = c.in_ok-operator.ensures.front in
     let does = c.in_ok-act.ensures.value c.phrase.new.self (sym c.len-behind.ensures) in
     let run = finished _ c.args.self.now.left c.args.self.now.callers read
     (does.0 ∙ ap (λ done. move_of done (state_of c.act.new.self)) c.in-Ends.is) c.if-not-are_used_up.ensures front in
     let stays : (state_of c.act.new.self).stack ≡ (state_of c.settle.new.self).stack = sym (ap (λ (s : State). s.stack) c.settle.ensures) in
     let width = settled (state_of c.act.new.self).width (state_of c.act.new.self).stack c.in-Ends.counted in (
       width,
-      run ∙ ap (λ stack. with_phrase (by c.in_ok-operator.operator c.passed-bytes.result.now)
+      run ∙ ap (λ stack. with_phrase (by c.in_ok-operator.operator c.in_ok-operator.bytes.now)
           (at_end (Finished (last_of stack c.in-Ends.counted) width))) stays,
       ap (λ (s : State). s.width) c.settle.ensures,
     )
