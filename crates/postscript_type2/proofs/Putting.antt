@@ -53,6 +53,7 @@ pair-there code place first second rest is low high = by_sign (nat_lt first 251)
     spelled-so x so =
         reads_numbers.all code place x (place + 2)
         (record { spelling = first ∷ second ∷ []; is = so; stands = ap (take 2) is; behind = refl })
+
     by_sign : (b : Bool) → nat_lt first 251 ≡ b →
         number code place ≡ Got (whole (if b then above first second else below first second)) (place + 2)
     by_sign true less = spelled-so (whole (above first second)) (positive first second low (omega (arith, ltb-true first 251 less)))
