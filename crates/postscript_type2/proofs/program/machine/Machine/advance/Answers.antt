@@ -78,7 +78,9 @@ returns-in-Keeps-clause-advances g c =
     let read : IsRead c.args.self.now.routine c.phrase.new.self
     (state_of c.args.self.now.state) c.phrase.new.stack.items c.in_ok-operator.operator c.in_ok-operator.ensures.reads.0 =
     is-read c.rest-rest.ensures c.if-is_empty.ensures c.in_ok-operator.ensures.reads.1 c.in_ok-operator.ensures.reads.2 in
-    let front = c.in_ok-operator.ensures.front in
+    let front : take c.in_ok-operator.count c.rest-rest.result.now ≡ take
+    (length c.args.self.now.routine - length c.phrase.new.self) c.args.self.now.routine = rw
+    (c.in_ok-operator.ensures.count, c.rest-rest.ensures) refl in
     let does = c.in_ok-act.ensures.value c.phrase.new.self (sym c.len-behind.ensures) in
     kept _ c.args.self.now.left c.args.self.now.callers read
     (does.0 ∙ ap (λ done. move_of done (state_of c.act.new.self)) c.in-Keeps.is) does.1 front
@@ -88,7 +90,9 @@ returns-in-Some-clause-advances g c =
     let read : IsRead c.args.self.now.routine c.phrase.new.self
     (state_of c.args.self.now.state) c.phrase.new.stack.items c.in_ok-operator.operator c.in_ok-operator.ensures.reads.0 =
     is-read c.rest-rest.ensures c.if-is_empty.ensures c.in_ok-operator.ensures.reads.1 c.in_ok-operator.ensures.reads.2 in
-    let front = c.in_ok-operator.ensures.front in
+    let front : take c.in_ok-operator.count c.rest-rest.result.now ≡ take
+    (length c.args.self.now.routine - length c.phrase.new.self) c.args.self.now.routine = rw
+    (c.in_ok-operator.ensures.count, c.rest-rest.ensures) refl in
     let stack = c.phrase.new.stack.items in
     let none = drop_all (length stack - 0) stack (omega arith) in
     let moves = c.in-Some.ensures (lists_of c.args.self.now.lists) c.phrase.new.self
@@ -130,7 +134,9 @@ returns-in_ok-enter-in-Calls-clause-advances g c =
     let read : IsRead c.args.self.now.routine c.phrase.new.self
     (state_of c.args.self.now.state) c.phrase.new.stack.items c.in_ok-operator.operator c.in_ok-operator.ensures.reads.0 =
     is-read c.rest-rest.ensures c.if-is_empty.ensures c.in_ok-operator.ensures.reads.1 c.in_ok-operator.ensures.reads.2 in
-    let front = c.in_ok-operator.ensures.front in
+    let front : take c.in_ok-operator.count c.rest-rest.result.now ≡ take
+    (length c.args.self.now.routine - length c.phrase.new.self) c.args.self.now.routine = rw
+    (c.in_ok-operator.ensures.count, c.rest-rest.ensures) refl in
     let does = c.in_ok-act.ensures.value c.phrase.new.self (sym c.len-behind.ensures) in
     let entry = c.in_ok-enter-in-Calls.ensures in
     let run = entered _ read (does.0 ∙ ap (λ done. move_of done (state_of c.act.new.self)) c.in-Calls.is) does.1 entry.left entry.callers
@@ -156,7 +162,9 @@ returns-else-not-go_back-clause-advances g c =
     let read : IsRead c.args.self.now.routine c.phrase.new.self
     (state_of c.args.self.now.state) c.phrase.new.stack.items c.in_ok-operator.operator c.in_ok-operator.ensures.reads.0 =
     is-read c.rest-rest.ensures c.if-is_empty.ensures c.in_ok-operator.ensures.reads.1 c.in_ok-operator.ensures.reads.2 in
-    let front = c.in_ok-operator.ensures.front in
+    let front : take c.in_ok-operator.count c.rest-rest.result.now ≡ take
+    (length c.args.self.now.routine - length c.phrase.new.self) c.args.self.now.routine = rw
+    (c.in_ok-operator.ensures.count, c.rest-rest.ensures) refl in
     let does = c.in_ok-act.ensures.value c.phrase.new.self (sym c.len-behind.ensures) in
     returned _ read (does.0 ∙ ap (λ done. move_of done (state_of c.act.new.self)) c.in-Returns.is) does.1
     (add-one c.args.self.now.left) (c.if-not-go_back.ensures.back refl) front
@@ -176,14 +184,16 @@ returns-else-not-are_used_up-clause-advances g c =
     let read : IsRead c.args.self.now.routine c.phrase.new.self
     (state_of c.args.self.now.state) c.phrase.new.stack.items c.in_ok-operator.operator c.in_ok-operator.ensures.reads.0 =
     is-read c.rest-rest.ensures c.if-is_empty.ensures c.in_ok-operator.ensures.reads.1 c.in_ok-operator.ensures.reads.2 in
-    let front = c.in_ok-operator.ensures.front in
+    let front : take c.in_ok-operator.count c.rest-rest.result.now ≡ take
+    (length c.args.self.now.routine - length c.phrase.new.self) c.args.self.now.routine = rw
+    (c.in_ok-operator.ensures.count, c.rest-rest.ensures) refl in
     let does = c.in_ok-act.ensures.value c.phrase.new.self (sym c.len-behind.ensures) in
     let run = finished _ c.args.self.now.left c.args.self.now.callers read
     (does.0 ∙ ap (λ done. move_of done (state_of c.act.new.self)) c.in-Ends.is) c.if-not-are_used_up.ensures front in
     let stays : (state_of c.act.new.self).stack ≡ (state_of c.settle.new.self).stack = sym (ap (λ (s : State). s.stack) c.settle.ensures) in
     let width = settled (state_of c.act.new.self).width (state_of c.act.new.self).stack c.in-Ends.counted in (
       width,
-      run ∙ ap (λ stack. with_phrase (by c.in_ok-operator.operator c.in_ok-operator.bytes.now)
+      run ∙ ap (λ stack. with_phrase (by c.in_ok-operator.operator (take c.in_ok-operator.count c.rest-rest.result.now))
           (at_end (Finished (last_of stack c.in-Ends.counted) width))) stays,
       ap (λ (s : State). s.width) c.settle.ensures,
     )
