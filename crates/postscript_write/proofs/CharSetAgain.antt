@@ -12,7 +12,7 @@ use Rattle.postscript_view.specs.Naming.{Names, NamesBehind, NamesFrom}
 use Rattle.postscript_view.specs.Select.{offset_of}
 use Rattle.postscript_view.specs.declared.char_set.CharSetView.{CharSetView}
 use Rattle.postscript_view.specs.declared.char_set.Identifiers.{Identifiers}
-use Rattle.postscript_write.specs.Arrangement.{place_if, text_of}
+use Rattle.postscript_write.specs.Pieces.{piece_if, place_of, text_of}
 use Rattle.postscript_write.specs.Dictionaries.{IsHeld}
 use Rattle.postscript_write.specs.NewStrings.{names_text}
 use Rattle.postscript_write.specs.Numbered.{items_if}
@@ -99,8 +99,8 @@ pub record IsKept (old : CharSetView) (out : List ℕ) (new : Dictionary) (glyph
 
 pub set_kept : (old : CharSetView) (bytes out : List ℕ) (map new : Dictionary) (glyphs : ℕ) (char_set : Option (Vec ℕ Global))
     (place : ℕ) → IsCharSetOf old bytes map glyphs →
-    look new CharSet ≡ option_or (named_by (place_if CharSet char_set place) CharSet) (look map CharSet) →
-    All IsHeld (place_if CharSet char_set place) → 3 ≤ place → TextStands
+    look new CharSet ≡ option_or (named_by (place_of (piece_if CharSet char_set) place) CharSet) (look map CharSet) →
+    All IsHeld (place_of (piece_if CharSet char_set) place) → 3 ≤ place → TextStands
     (text_of char_set) out place → drop place out ≡ text_of char_set → IsOwnCharSet bytes map glyphs
     (items_if char_set) → IsKept old out new glyphs
 set_kept old bytes out map new glyphs None place is look_is held past stands last own = record {
@@ -181,8 +181,8 @@ behind_first again i identifier value less both = (
 
 pub set_listed : (lent : Bor (List ℕ)) (strings : Strings) (identifiers : List ℕ) (out : List ℕ) (map new : Dictionary) (glyphs : ℕ)
     (char_set : Option (Vec ℕ Global)) (place : ℕ) →
-    look new CharSet ≡ option_or (named_by (place_if CharSet char_set place) CharSet) (look map CharSet) →
-    All IsHeld (place_if CharSet char_set place) → 3 ≤ place → TextStands (text_of char_set) out place → items_if char_set ≡ Some
+    look new CharSet ≡ option_or (named_by (place_of (piece_if CharSet char_set) place) CharSet) (look map CharSet) →
+    All IsHeld (place_of (piece_if CharSet char_set) place) → 3 ≤ place → TextStands (text_of char_set) out place → items_if char_set ≡ Some
     (names_text strings identifiers) → glyphs ≡ 1 + length identifiers →
     ((i : ℕ) → i < length identifiers → new_identifier strings (get_or identifiers i 0) < 65536) → AreListed strings identifiers out new
     glyphs

@@ -1,172 +1,147 @@
 -- The parts of a font that is written stand where its dictionary says.
-use Rattle.std.proofs.Common.{◌≡◌, refl, sym, ap, subst, ◌∙◌, ℕ, pos, ◌+◌, ◌-◌, ◌<◌, ◌≤◌, ◌^◌, List, [], ◌∷◌, ◌++◌, length, length-append, get_or, Option, Some, None, Vec, arith}
+use Rattle.std.proofs.Common.{◌≡◌, ◌≢◌, refl, sym, ap, subst, ◌∙◌, ℕ, pos, ◌<◌, ◌≤◌, ◌^◌, List, [], ◌∷◌, length, get_or, Option, Some, None, Vec, arith, rules}
 use Rattle.std.specs.Option.{option_or, unwrap_or}
 use Rattle.std.specs.Prelude.{All, IsSome, slice_get}
 use Rattle.std.specs.declared.alloc.Global.{Global}
-use Rattle.std.proofs.lemmas.List.{get_or-append_right}
-use Rattle.std.proofs.Math.ListN.{get_or-append}
+use Rattle.std.proofs.lemmas.List.{append-nil}
+use Rattle.postscript_base.specs.Compact1.Decimal.{Decimal}
 use Rattle.postscript_base.specs.Compact1.Defaults.{first_of, first_two_of, look}
-use Rattle.postscript_base.specs.Compact1.Dictionary.{Dictionary}
 use Rattle.postscript_base.specs.Compact1.Number.{whole}
 use Rattle.postscript_base.specs.Index.{number_at}
 use Rattle.postscript_base.specs.Index.Lent.{items_of}
 use Rattle.postscript_base.specs.Numbers.{big_endian}
-use Rattle.postscript_base.specs.declared.compact1.operator.Operator.TheVariants as operators
-use Rattle.postscript_base.specs.declared.compact1.operator.Operator.TheVariants.{CharStrings, Encoding, FDSelect, CharSet}
-use Rattle.postscript_compact1.specs.FontSet.Parts.{HasFirst}
+use Rattle.postscript_base.specs.declared.compact1.operator.Operator.{Operator}
+use Rattle.postscript_base.specs.declared.compact1.operator.Operator.TheVariants.{CharStringType, CharStrings, FDArray, Private, ROS}
 use Rattle.postscript_type2.specs.Program.Routines.{texts}
+use Rattle.postscript_view.specs.Cids.{IsCidKeyed}
 use Rattle.postscript_view.specs.Contents.{PrivateDict}
 use Rattle.postscript_view.specs.Layout.{AreCharStrings, AreParts, ArePartsOf, AreTables, NamesIndex}
 use Rattle.postscript_view.specs.Layout.AreParts.{OfFont, OfFontDictionaries}
+use Rattle.postscript_view.specs.Sizes.{IsKeyed}
 use Rattle.postscript_view.specs.Value.{parts_shown}
 use Rattle.postscript_view.specs.declared.font.FontView.{FontView}
-use Rattle.postscript_write.specs.Arrangement.{beginnings, dictionaries_place, place_at, place_if, places_of, standard_place}
 use Rattle.postscript_write.specs.Dictionaries.{IsHeld}
 use Rattle.postscript_write.specs.Fonts.{HasHeader}
 use Rattle.postscript_write.specs.LaidOut.{IsLaidOutOf, SelectsExactly}
-use Rattle.postscript_write.specs.Privates.{place_of_private, private_offset, private_text}
+use Rattle.postscript_write.specs.Pieces.{place_at, place_of}
+use Rattle.postscript_write.specs.Privates.{IsOwnPrivate, place_of_private, private_offset, private_text}
 use Rattle.postscript_write.specs.Renumbered.{all_renamed}
 use Rattle.postscript_write.specs.Room.{IsRead}
 use Rattle.postscript_write.specs.Texts.{TextStands}
-use Rattle.postscript_write.specs.Written.{IsPutTogether, TablesStand}
+use Rattle.postscript_write.specs.Written.{IsPutTogether}
 use Rattle.postscript_write.specs.declared.dictionaries.Place.{Place}
 use Rattle.postscript_write.specs.declared.layout.Glyphs.{Glyphs}
-use Rattle.postscript_write.specs.declared.layout.Parts.{Parts}
-use Rattle.postscript_write.specs.declared.layout.Private.{Private}
+use Rattle.postscript_write.specs.declared.layout.Private.{Private as OwnPrivate}
 use Rattle.postscript_write.proofs.Arranged.{all_dictionaries}
+use Rattle.postscript_write.proofs.NamedEnds.{own_look, place_held}
 use Rattle.postscript_write.proofs.PartsWritten.{HasPartsLike, keyed_parts, plain_parts}
-use Rattle.postscript_write.proofs.Says.{font_says}
-use Rattle.postscript_write.proofs.PlacesNamed.{array_other, named_by, none_named, not_private, of_char_strings, of_dictionaries, private_other, private_stays, ros_apart, ros_stays, stays, stays_renamed, type_apart, type_stays, whole_is}
-
-pub all_left : {X : Type 0} (P : X → Type 0) (xs ys : List X) → All P (xs ++ ys) → All P xs
-all_left P xs ys all k d less = subst P (get_or-append xs ys d k less) (all k d (omega (arith, less, length-append xs ys)))
-
-pub all_right : {X : Type 0} (P : X → Type 0) (xs ys : List X) → All P (xs ++ ys) → All P ys
-all_right P xs ys all k d less =
-    let back : length xs + k - length xs ≡ k = omega arith in
-    subst P (get_or-append_right xs ys (length xs) (length xs + k) d refl (omega arith) ∙ ap (λ n. get_or ys n d) back)
-    (all (length xs + k) d (omega (arith, less, length-append xs ys)))
-
--- the places behind those of encoding and FDSelect can be written, where all can
-pub behind_held : (start : ℕ) (parts : Parts) → All IsHeld (places_of start parts) →
-    All IsHeld (
-    place_at CharStrings (beginnings start parts).char_strings
-    ∷ (dictionaries_place parts.glyphs.now.select parts.privates.items (beginnings start parts).privates
-    (beginnings start parts).dictionaries ++ place_if CharSet parts.glyphs.now.char_set (beginnings start parts).char_set)
-    )
-behind_held start parts all =
-    let glyphs = parts.glyphs.now in
-    let at = beginnings start parts in
-    let a : List Place = place_if Encoding glyphs.encoding start in
-    let b : List Place = standard_place glyphs.standard in
-    let d : List Place = place_if FDSelect glyphs.select at.select in
-    let e : List Place = dictionaries_place glyphs.select parts.privates.items at.privates at.dictionaries in
-    let f : List Place = place_if CharSet glyphs.char_set at.char_set in
-    let rest : List Place = place_at CharStrings at.char_strings ∷ (e ++ f) in
-    all_right IsHeld d rest (all_right IsHeld b (d ++ rest) (all_right IsHeld a (b ++ (d ++ rest)) all))
-
--- those of dictionaries among them
-pub dictionaries_held : (start : ℕ) (parts : Parts) → All IsHeld (places_of start parts) →
-    All IsHeld (dictionaries_place parts.glyphs.now.select parts.privates.items (beginnings start parts).privates
-    (beginnings start parts).dictionaries)
-dictionaries_held start parts all =
-    let glyphs = parts.glyphs.now in
-    let at = beginnings start parts in
-    let one : List Place = place_at CharStrings at.char_strings ∷ [] in
-    let e : List Place = dictionaries_place glyphs.select parts.privates.items at.privates at.dictionaries in
-    let f : List Place = place_if CharSet glyphs.char_set at.char_set in
-    all_left IsHeld e f (all_right IsHeld one (e ++ f) (behind_held start parts all))
+use Rattle.postscript_write.proofs.PlacesNamed.{named_by, not_private, private_stays, ros_stays, stays_renamed, type_stays, whole_is}
+use Rattle.postscript_write.proofs.Put.{array_named, array_piece, char_strings_named, codes_stand, dictionaries_stand, each_held, named, none_by, pieces, place, private_named, private_piece, privates_stand, tables_stand}
+use Rattle.postscript_write.proofs.Says.{font_says, places_are}
+use Rattle.postscript_write.proofs.TablesStand.{TablesStand}
 
 -- FDArray names the place of the font dictionaries
-array_first : (select : Option (Vec ℕ Global)) (privates : List (Option Private)) (m n : ℕ) (old new : Dictionary) → IsSome select →
-    All IsHeld (dictionaries_place select privates m n) →
-    look new operators.FDArray ≡ option_or (named_by (dictionaries_place select privates m n) operators.FDArray)
-    (look old operators.FDArray) → HasFirst new operators.FDArray (pos n)
-array_first None privates m n old new some held is = absurd (cc)
-array_first (Some select) privates m n old new some held is =
-    let one : IsHeld (place_at operators.FDArray n) = held 0 (place_at operators.FDArray n) (omega arith) in
-    (whole (pos n), ap first_of is, whole_is n one.1.0)
+pub array_low : (select : Option (Vec ℕ Global)) (dictionaries : List (List ℕ)) (n : ℕ) →
+    All IsHeld (place_of (array_piece select dictionaries) n) → IsSome select →
+    (named_by (place_of (array_piece select dictionaries) n) FDArray ≡ Some (whole (pos n) ∷ [])) × (n < 2 ^ 31)
+array_low None dictionaries n held some = absurd (cc)
+array_low (Some select) dictionaries n held some = (refl, place_held FDArray n held)
 
 -- a font that is not CID-keyed names its only private dictionary
-pub only_one : (select : Option (Vec ℕ Global)) (privates : List (Option Private)) (m n : ℕ) → (IsSome select → ⊥) → length privates ≡ 1 →
-    dictionaries_place select privates m n ≡ place_of_private (get_or privates 0 None) m
-only_one (Some select) privates m n none many = absurd (none refl)
-only_one None [] m n none many = absurd (omega (arith, many))
-only_one None (p ∷ []) m n none many = refl
-only_one None (p ∷ q ∷ ps) m n none many = absurd (omega (arith, many))
+pub only_one : (select : Option (Vec ℕ Global)) (privates : List (Option OwnPrivate)) (n : ℕ) → (IsSome select → ⊥) →
+    length privates ≡ 1 → place_of (private_piece select privates) n ≡ place_of_private (get_or privates 0 None) n
+only_one (Some select) privates n none many = absurd (none refl)
+only_one None [] n none many = absurd (omega (arith, many))
+only_one None (None ∷ []) n none many = refl
+only_one None (Some private ∷ []) n none many =
+    ap (λ (xs : List ℕ). record { operator = Private; size = Some (length xs); offset = n } ∷ []) (append-nil private.text.items)
+only_one None (p ∷ q ∷ ps) n none many = absurd (omega (arith, many))
 
-module _ (font : FontView) (glyphs : Glyphs) (codes : List (List ℕ)) (out : List ℕ) (w : IsPutTogether font glyphs codes out)
-    (t : TablesStand font glyphs w.parts (length w.tables) out) where
-  pub ros_is : look t.new operators.ROS ≡ look font.dictionary operators.ROS
-  ros_is =
-      stays t.named t.new (places_of (length w.tables) w.parts) operators.ROS t.placed
-      (none_named (length w.tables) w.parts operators.ROS ros_apart)
-      ∙ stays_renamed font.dictionary t.named (all_renamed glyphs.strings font.dictionary) operators.ROS t.renamed
-      (λ _. not_private operators.ROS refl) (ros_stays glyphs.strings font.dictionary)
+module _ {font : FontView} {glyphs : Glyphs} {codes : List (List ℕ)} {out : List ℕ} (w : IsPutTogether font glyphs codes out)
+    (t : TablesStand font glyphs (named w) out) where
+  -- of the operators that are not renamed the dictionary says what the places do
+  pub look_named : {x : Option (List Decimal)} (operator : Operator) → named_by (named w) operator ≡ x →
+      (IsKeyed font.dictionary → operator ≢ Private) → named_by (all_renamed glyphs.strings font.dictionary) operator ≡ None →
+      look t.new operator ≡ option_or x (look font.dictionary operator)
+  look_named {x = x} operator is apart stays =
+      own_look (named w) t.named t.new operator t.placed is
+      ∙ ap (option_or x)
+      (stays_renamed font.dictionary t.named (all_renamed glyphs.strings font.dictionary) operator t.renamed apart stays)
 
-  plain : (part : PrivateDict) → IsRead font → (IsSome w.parts.glyphs.now.select → ⊥) → look font.dictionary operators.ROS ≡ None →
-      part.font ≡ None → parts_shown font.parts.items ≡ part ∷ [] → HasPartsLike out t.new (parts_shown font.parts.items)
-  plain part read none no_ros_there no_font one =
-      let privates : List (Option Private) = w.parts.privates.items in
-      let private : Option Private = get_or privates 0 None in
-      let at = beginnings (length w.tables) w.parts in
-      let own = w.privates read.laid.parts in
-      let many : length privates ≡ 1 = own.many ∙ ap length one in
+  pub ros_is : look t.new ROS ≡ look font.dictionary ROS
+  ros_is = look_named ROS (none_by w ROS refl) (λ _. not_private ROS refl) (ros_stays glyphs.strings font.dictionary)
+
+  pub keyed_is : SelectsExactly font glyphs → (IsSome glyphs.select → IsCidKeyed t.new) × (IsCidKeyed t.new → IsSome glyphs.select)
+  keyed_is exactly = (λ some. subst IsSome (sym ros_is) (exactly.0 some), λ keyed. exactly.1 (subst IsSome ros_is keyed))
+
+  -- the private dictionary of a font that is not CID-keyed
+  pub record HasOnly (part : PrivateDict) (private : Option OwnPrivate) : Type 0 where
+    pub is : look t.new Private ≡ option_or (named_by (place_of_private private (place w Private)) Private) (look font.dictionary Private)
+    pub held : All IsHeld (place_of_private private (place w Private))
+    pub own : IsOwnPrivate part private
+    pub many : length w.privates ≡ 1
+    pub none : private ≡ None → first_two_of (look font.dictionary Private) ≡ None
+
+  pub has_only : (part : PrivateDict) → IsRead font → (IsSome glyphs.select → ⊥) → look font.dictionary ROS ≡ None → part.font ≡ None →
+      parts_shown font.parts.items ≡ part ∷ [] → HasOnly part (get_or w.privates 0 None)
+  has_only part read unselected no_ros no_font one =
+      let own = w.are_own read.laid.parts in
+      let many : length w.privates ≡ 1 = own.many ∙ ap length one in
       let there : slice_get (parts_shown font.parts.items) 0 ≡ Some part = ap (λ ps. slice_get ps 0) one in
-      let places = only_one w.parts.glyphs.now.select privates at.privates at.dictionaries none many in
-      let named = of_dictionaries (length w.tables) w.parts operators.Private private_other
-      ∙ ap (λ ps. named_by ps operators.Private) places in
-      let is =
-      t.placed operators.Private
-      ∙ ap (λ x. option_or x (look t.named operators.Private)) named
-      ∙ ap (λ x. option_or (named_by (place_of_private private at.privates) operators.Private) x)
-      (stays_renamed font.dictionary t.named (all_renamed glyphs.strings font.dictionary) operators.Private t.renamed
-      (λ has. let never = subst IsSome no_ros_there has in absurd (cc)) (private_stays glyphs.strings font.dictionary)) in
-      let first : private_offset at.privates privates 0 ≡ at.privates = omega arith in
-      let stand = subst (λ n. TextStands (private_text private) out n) first (w.privates_stand 0 (omega (arith, many))) in
-      let unnamed = λ (e : private ≡ None). subst
-      (λ m. first_two_of (look (unwrap_or m font.dictionary) operators.Private) ≡ None) no_font (w.none_named 0 part there e) in
-      subst (HasPartsLike out t.new) (sym one)
-      (plain_parts out font.dictionary t.new part private at.privates no_font (ros_is ∙ no_ros_there) is
-      (subst (All IsHeld) places (dictionaries_held (length w.tables) w.parts w.held)) stand (own.each 0 part there) unnamed)
+      let same = only_one glyphs.select w.privates (place w Private) unselected many in
+      record {
+        is = look_named Private (private_named w ∙ ap (λ ps. named_by ps Private) same) (λ has. let never = subst IsSome no_ros has in absurd (cc))
+            (private_stays glyphs.strings font.dictionary);
+        held = subst (All IsHeld) same (each_held w).1.1.1.0;
+        own = own.each 0 part there;
+        many = many;
+        none = λ e. subst (λ m. first_two_of (look (unwrap_or m font.dictionary) Private) ≡ None) no_font (w.none_named 0 part there e);
+      }
 
-  keyed : (items : List (List ℕ)) → IsRead font → IsSome w.parts.glyphs.now.select → IsSome (look font.dictionary operators.ROS) →
-      NamesIndex font.bytes.now font.dictionary operators.FDArray items →
+  plain : (part : PrivateDict) → IsRead font → (IsSome glyphs.select → ⊥) → look font.dictionary ROS ≡ None →
+      part.font ≡ None → parts_shown font.parts.items ≡ part ∷ [] → HasPartsLike out t.new (parts_shown font.parts.items)
+  plain part read unselected no_ros no_font one =
+      let private : Option OwnPrivate = get_or w.privates 0 None in
+      let has = has_only part read unselected no_ros no_font one in
+      let many = has.many in
+      let first : private_offset (place w Private) w.privates 0 ≡ place w Private = omega arith in
+      let stand = subst (λ n. TextStands (private_text private) out n) first (privates_stand w 0 (omega (arith, many))) in
+      subst (HasPartsLike out t.new) (sym one)
+      (plain_parts out font.dictionary t.new part private (place w Private) no_font (ros_is ∙ no_ros) has.is has.held stand has.own has.none)
+
+  -- FDArray names the font dictionaries
+  pub array_there : IsSome glyphs.select → (look t.new FDArray ≡ Some (whole (pos (place w FDArray)) ∷ [])) × (place w FDArray < 2 ^ 31)
+  array_there some =
+      let low = array_low glyphs.select w.put.dictionaries (place w FDArray) (each_held w).1.1.1.1.0 some in
+      (own_look (named w) t.named t.new FDArray t.placed (array_named w ∙ low.0), low.1)
+
+  keyed : (items : List (List ℕ)) → IsRead font → IsSome glyphs.select → IsSome (look font.dictionary ROS) →
+      NamesIndex font.bytes.now font.dictionary FDArray items →
       ArePartsOf font.bytes.now items (parts_shown font.parts.items) → HasPartsLike out t.new (parts_shown font.parts.items)
   keyed items read some has_ros names are =
-      let privates : List (Option Private) = w.parts.privates.items in
-      let at = beginnings (length w.tables) w.parts in
       let parts = parts_shown font.parts.items in
-      let own = w.privates read.laid.parts in
-      let fonts = w.private_places some items names in
-      let is = t.placed operators.FDArray
-      ∙ ap (λ x. option_or x (look t.named operators.FDArray)) (of_dictionaries (length w.tables) w.parts operators.FDArray array_other) in
-      let first = array_first w.parts.glyphs.now.select privates at.privates at.dictionaries t.named t.new some
-      (dictionaries_held (length w.tables) w.parts w.held) is in
-      keyed_parts font.bytes.now out font.dictionary t.new items w.dictionaries parts privates at.privates
-      (subst IsSome (sym ros_is) has_ros) (at.dictionaries, first, w.dictionaries_stand some) are
-      (all_dictionaries font.bytes.now items parts are).1 fonts own w.none_named w.privates_stand
+      let is = array_there some in
+      keyed_parts font.bytes.now out font.dictionary t.new items w.put.dictionaries parts w.privates (place w Private)
+      (subst IsSome (sym ros_is) has_ros)
+      (place w FDArray, (whole (pos (place w FDArray)), ap first_of is.0, whole_is (place w FDArray) is.1), dictionaries_stand w some) are
+      (all_dictionaries font.bytes.now items parts are).1 (w.put.private_places some items names) (w.are_own read.laid.parts) w.none_named
+      (privates_stand w)
 
-  char_strings_held : (beginnings (length w.tables) w.parts).char_strings < 2 ^ 31
-  char_strings_held =
-      let at = beginnings (length w.tables) w.parts in
-      let one : IsHeld (place_at CharStrings at.char_strings) = behind_held (length w.tables) w.parts w.held 0
-      (place_at CharStrings at.char_strings) (omega arith) in
-      one.1.0
+  pub char_strings_there : (look t.new CharStrings ≡ Some (whole (pos (place w CharStrings)) ∷ [])) × (place w CharStrings < 2 ^ 31)
+  char_strings_there = (
+    own_look (named w) t.named t.new CharStrings t.placed (char_strings_named w),
+    place_held CharStrings (place w CharStrings) (each_held w).1.1.0,
+  )
 
   char_strings : IsRead font → AreCharStrings out t.new codes
   char_strings read =
-      let at = beginnings (length w.tables) w.parts in
-      let same =
-      stays t.named t.new (places_of (length w.tables) w.parts) operators.CharStringType t.placed
-      (none_named (length w.tables) w.parts operators.CharStringType type_apart)
-      ∙ stays_renamed font.dictionary t.named (all_renamed glyphs.strings font.dictionary) operators.CharStringType t.renamed
-      (λ _. not_private operators.CharStringType refl) (type_stays glyphs.strings font.dictionary) in
+      let same = look_named CharStringType (none_by w CharStringType refl) (λ _. not_private CharStringType refl)
+      (type_stays glyphs.strings font.dictionary) in
       let type = read.laid.char_strings.type in
-      let is = t.placed CharStrings ∙ ap (λ x. option_or x (look t.named CharStrings)) (of_char_strings (length w.tables) w.parts) in
+      let is = char_strings_there in
       record {
         type = (type.0, ap first_of same ∙ type.1, type.2);
-        named = (at.char_strings, (whole (pos at.char_strings), ap first_of is, whole_is at.char_strings char_strings_held), w.codes_stand);
+        named = (place w CharStrings, (whole (pos (place w CharStrings)), ap first_of is.0, whole_is (place w CharStrings) is.1), codes_stand w);
       }
 
 pub header_there : (out : List ℕ) → HasHeader out → (3 ≤ length out) × (number_at out 2 1 ≡ 4)
@@ -193,7 +168,7 @@ laid_out font glyphs codes out w read exactly = record {
     tables = subst (λ n. AreTables out n 0
         (record { names = items_of font.names; dictionary = t.new; strings = texts glyphs.strings.texts.items; subroutines = [] }))
         (sym header.1) t.are;
-    char_strings = char_strings font glyphs codes out w t read;
+    char_strings = char_strings w t read;
     parts = parts.are;
   };
   strings = refl;
@@ -201,27 +176,24 @@ laid_out font glyphs codes out w read exactly = record {
   repeats = record {
     names = refl;
     no_global = refl;
-    dictionary = font_says glyphs.strings font.dictionary t.named t.new (length w.tables) w.parts t.renamed t.placed;
+    dictionary = font_says glyphs.strings font.dictionary t.named t.new (named w) (places_are glyphs.standard w.put.start (pieces w)
+        (search rules, (search rules, (search rules, (search rules, (search rules, (search rules, tt)))))))
+        t.renamed t.placed;
     parts = parts.like;
   };
 }
   where
-    t : TablesStand font glyphs w.parts (length w.tables) out
-    t = w.tables_stand read.laid.tables
+    t : TablesStand font glyphs (named w) out
+    t = tables_stand w read.laid.tables
 
     header : (3 ≤ length out) × (number_at out 2 1 ≡ 4)
     header = header_there out t.header
 
-    selects : IsSome w.parts.glyphs.now.select → IsSome glyphs.select
-    selects some = subst (λ (g : Glyphs). IsSome g.select) w.of_glyphs some
-
     by : AreParts font.bytes.now font.dictionary (parts_shown font.parts.items) → HasPartsLike out t.new (parts_shown font.parts.items)
     by (OfFont part no_ros_there is one) =
-        plain font glyphs codes out w t part read
-        (λ some. let never = subst IsSome no_ros_there (exactly.0 (selects some)) in absurd (cc)) no_ros_there is.1 one
+        plain w t part read (λ some. let never = subst IsSome no_ros_there (exactly.0 some) in absurd (cc)) no_ros_there is.1 one
     by (OfFontDictionaries items has_ros names are) =
-        keyed font glyphs codes out w t items read
-        (subst (λ (g : Glyphs). IsSome g.select) (sym w.of_glyphs) (exactly.1 has_ros)) has_ros names are
+        keyed w t items read (exactly.1 has_ros) has_ros names are
 
     parts : HasPartsLike out t.new (parts_shown font.parts.items)
     parts = by read.laid.parts

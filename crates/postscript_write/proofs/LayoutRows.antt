@@ -1,16 +1,15 @@
 -- Known texts and places of what is written (Technical Note 5176, sections 5, 10, 13 and 19).
-use Rattle.std.proofs.Common.{◌≡◌, refl, ap, ℕ, List, [], ◌∷◌, length}
+use Rattle.std.proofs.Common.{◌≡◌, refl, ap, ℕ, List, [], ◌∷◌, length, true, false}
+use Rattle.postscript_write.proofs.Pieces.{behind_all}
 use Rattle.std.specs.Prelude.{Option, Some, None, slice_index_or}
 use Rattle.std.specs.Option.{unwrap_or}
-use Rattle.postscript_base.specs.declared.compact1.operator.Operator.TheVariants.{FullName}
-use Rattle.postscript_write.specs.Arrangement.{beginnings, place_at, text_of}
+use Rattle.postscript_base.specs.declared.compact1.operator.Operator.TheVariants.{CharSet, CharStrings, Encoding, FullName, Private}
+use Rattle.postscript_write.specs.Pieces.{Piece, place_at, places}
 use Rattle.postscript_write.specs.NewStrings.{left_of, names_text}
-use Rattle.postscript_write.specs.Privates.{privates_text}
 use Rattle.postscript_write.specs.Renumbered.{new_identifier, renamed}
 use Rattle.postscript_write.specs.Room.{index_room}
 use Rattle.postscript_write.specs.Selected.{listed_text, ranges_text}
 use Rattle.postscript_write.specs.Texts.{number_text}
-use Rattle.postscript_write.specs.declared.layout.Parts.{Parts}
 use Rattle.postscript_write.specs.declared.strings.Strings.{Strings}
 
 -- FDSelect of five glyphs, two of them with the font dictionary 0, by bytes and by ranges
@@ -54,15 +53,12 @@ room_of_two : index_room both ≡ 24
 room_of_two = refl
 
 -- An encoding of 4 bytes, char strings of 30, a private dictionary of 12, and a char set of 7, behind 100 bytes.
-one_behind_the_other : (parts : Parts) → length (text_of parts.glyphs.now.encoding) ≡ 4 → length (text_of parts.glyphs.now.select) ≡ 0 →
-    length parts.char_strings.items ≡ 30 → length (privates_text parts.privates.items) ≡ 12 → parts.dictionaries ≡ 0 →
-    length (text_of parts.glyphs.now.char_set) ≡ 7 → beginnings 100 parts ≡ record {
-      encoding = 100;
-      select = 104;
-      char_strings = 104;
-      privates = 134;
-      dictionaries = 146;
-      char_set = 146;
-      end = 153;
-    }
-one_behind_the_other parts a b c d e f = rw (a, b, c, d, e, f) refl
+one_behind_the_other : (e c p s : List ℕ) → length e ≡ 4 → length c ≡ 30 → length p ≡ 12 → length s ≡ 7 →
+    let pieces : List Piece =
+    record { operator = Encoding; named = true; counted = false; text = e }
+    ∷ record { operator = CharStrings; named = true; counted = false; text = c }
+    ∷ record { operator = Private; named = true; counted = true; text = p }
+    ∷ record { operator = CharSet; named = true; counted = false; text = s } ∷ [] in
+    (places 100 pieces ≡ place_at Encoding 100 ∷ place_at CharStrings 104
+    ∷ record { operator = Private; size = Some 12; offset = 134 } ∷ place_at CharSet 146 ∷ []) × (behind_all 100 pieces ≡ 153)
+one_behind_the_other e c p s is_e is_c is_p is_s = rw (is_e, is_c, is_p, is_s) (refl, refl)

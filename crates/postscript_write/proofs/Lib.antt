@@ -11,11 +11,13 @@ pub mod Unnamed
 pub mod Placing
 pub mod Privates
 pub mod Arranged
+pub mod PlacesNamed
+pub mod Pieces
+pub mod Put
 pub mod Lengths
 pub mod Room
 pub mod Few
 pub mod Within
-pub mod PlacesNamed
 pub mod PartsWritten
 pub mod LaidOut
 pub mod Says

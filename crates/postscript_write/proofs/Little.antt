@@ -13,7 +13,7 @@ use Rattle.postscript_base.specs.declared.compact1.operator.Operator.{Operator}
 use Rattle.postscript_base.specs.declared.compact1.operator.Operator.TheVariants as operators
 use Rattle.postscript_type2.specs.Program.Routines.{texts}
 use Rattle.postscript_view.specs.declared.font.FontView.{FontView}
-use Rattle.postscript_write.specs.Arrangement.{text_of}
+use Rattle.postscript_write.specs.Pieces.{text_of}
 use Rattle.postscript_write.specs.NewStrings.{names_text}
 use Rattle.postscript_write.specs.Numbered.{AreAll, AreCut, AreFew, AreGlyphsFor, AreStringsFor, IsCharSetFor, IsEncodingFor, IsSelectFor, items_if}
 use Rattle.postscript_write.specs.Own.{IsCutFrom, IsOwn}

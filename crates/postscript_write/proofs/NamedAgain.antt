@@ -1,5 +1,5 @@
 -- Operators of the dictionary that is written name strings by their new identifiers.
-use Rattle.std.proofs.Common.{◌≡◌, ◌⊎◌, refl, sym, ap, subst, ◌∙◌, inl, inr, ℕ, pos, ◌<◌, ◌==◌, nat_lt, List, [], ◌∷◌, map, Option, Some, None, Bool, true, false, if◌then◌else◌, arith}
+use Rattle.std.proofs.Common.{◌≡◌, ◌≢◌, ◌⊎◌, refl, sym, ap, ◌∙◌, inl, inr, ℕ, pos, ◌<◌, ◌==◌, nat_lt, List, [], ◌∷◌, map, Option, Some, None, Bool, true, false, if◌then◌else◌, arith}
 use Rattle.std.specs.Option.{option_and_then, option_or}
 use Rattle.std.specs.Ordering.{eq_by_cmp}
 use Rattle.std.specs.Prelude.{flat_map, option_map}
@@ -13,18 +13,19 @@ use Rattle.postscript_base.specs.Compact1.DictionaryLaw.{last_of}
 use Rattle.postscript_base.specs.Compact1.Number.{whole}
 use Rattle.postscript_base.specs.Compact1.Operators.{operator_cmp}
 use Rattle.postscript_base.specs.declared.compact1.operator.Operator.{Operator}
+use Rattle.postscript_base.specs.declared.compact1.operator.Operator.TheVariants.{Private}
 use Rattle.postscript_base.proofs.DictionaryMaps.{operators_total}
-use Rattle.postscript_write.specs.Arrangement.{place_at, places_of}
+use Rattle.postscript_write.specs.Pieces.{place_at}
 use Rattle.postscript_write.specs.Dictionaries.{IsPlaced, operation_of}
 use Rattle.postscript_write.specs.Parts.{IsAmong, naming}
 use Rattle.postscript_write.specs.Renumbered.{IsRenamed, all_renamed, new_identifier, renamed_if}
 use Rattle.postscript_write.specs.Strings.{identifier_from, identifier_in}
 use Rattle.postscript_write.specs.declared.dictionaries.Place.{Place}
-use Rattle.postscript_write.specs.declared.layout.Parts.{Parts}
 use Rattle.postscript_write.specs.declared.strings.Strings.{Strings}
 use Rattle.std.proofs.lemmas.List.{map-append}
+use Rattle.postscript_write.proofs.Operators.{each_is}
 use Rattle.postscript_write.proofs.Placing.{same_operator}
-use Rattle.postscript_write.proofs.PlacesNamed.{IsApart, last_append, look_renamed, named_by, none_named, not_private, one_renamed, stays, whole_is}
+use Rattle.postscript_write.proofs.PlacesNamed.{last_append, look_renamed, named_by, not_private, one_renamed, stays, whole_is}
 
 or_same : {A : Type 0} (x : Option A) → option_or x x ≡ x
 or_same None = refl
@@ -85,36 +86,18 @@ module _ (strings : Strings) (old : Dictionary) (operator : Operator) where
       by rest true e = joined others other named rest ∙ ap (option_or named) (this other e) ∙ or_same named
       by rest false e = joined others other named rest ∙ ap (option_or named) (none other e) ∙ or_none named
 
--- no part is named by an operator that names a string
-apart : (operator : Operator) → IsAmong operator naming → IsApart operator
-apart operator (inl is) =
-    subst IsApart (sym is) (record
-    { other = record { encoding = refl; select = refl; char_strings = refl; char_set = refl }; private = refl; array = refl })
-apart operator (inr (inl is)) =
-    subst IsApart (sym is) (record
-    { other = record { encoding = refl; select = refl; char_strings = refl; char_set = refl }; private = refl; array = refl })
-apart operator (inr (inr (inl is))) =
-    subst IsApart (sym is) (record
-    { other = record { encoding = refl; select = refl; char_strings = refl; char_set = refl }; private = refl; array = refl })
-apart operator (inr (inr (inr (inl is)))) =
-    subst IsApart (sym is) (record
-    { other = record { encoding = refl; select = refl; char_strings = refl; char_set = refl }; private = refl; array = refl })
-apart operator (inr (inr (inr (inr (inl is))))) =
-    subst IsApart (sym is) (record
-    { other = record { encoding = refl; select = refl; char_strings = refl; char_set = refl }; private = refl; array = refl })
-apart operator (inr (inr (inr (inr (inr (inl is)))))) =
-    subst IsApart (sym is) (record
-    { other = record { encoding = refl; select = refl; char_strings = refl; char_set = refl }; private = refl; array = refl })
-apart operator (inr (inr (inr (inr (inr (inr (inl is))))))) =
-    subst IsApart (sym is) (record
-    { other = record { encoding = refl; select = refl; char_strings = refl; char_set = refl }; private = refl; array = refl })
-apart operator (inr (inr (inr (inr (inr (inr (inr (inl is)))))))) =
-    subst IsApart (sym is) (record
-    { other = record { encoding = refl; select = refl; char_strings = refl; char_set = refl }; private = refl; array = refl })
-apart operator (inr (inr (inr (inr (inr (inr (inr (inr (inl is))))))))) =
-    subst IsApart (sym is) (record
-    { other = record { encoding = refl; select = refl; char_strings = refl; char_set = refl }; private = refl; array = refl })
-apart operator (inr (inr (inr (inr (inr (inr (inr (inr (inr never))))))))) = absurd never
+-- places are named by no operator that names a string
+abbrev pub AreApart : List Place → Type 0
+AreApart places = (operator : Operator) → IsAmong operator naming → named_by places operator ≡ None
+
+apart_private : (operator : Operator) → IsAmong operator naming → operator ≢ Private
+apart_private operator is =
+    not_private operator (is_false (eq_by_cmp operator_cmp operator Private)
+    (each_is (λ o. if eq_by_cmp operator_cmp o Private then false else true) naming refl operator is))
+  where
+    is_false : (b : Bool) → (if b then false else true) ≡ true → b ≡ false
+    is_false true e = absurd (cc)
+    is_false false e = refl
 
 same_number : (m n : ℕ) → m ≡ n → (m == n) ≡ true
 same_number m n is = grind (arith, nat_tests)
@@ -131,13 +114,13 @@ number_named n low = ap identifier_from (whole_is n (omega (arith, low))) ∙ ap
     below n less = grind (arith, nat_tests)
 
 -- Each operator that names a string names it by the new identifier.
-module _ (strings : Strings) (old named new : Dictionary) (start : ℕ) (parts : Parts)
-    (renamed : IsRenamed old (all_renamed strings old) named) (placed : IsPlaced named (places_of start parts) new) where
+module _ (strings : Strings) (old named new : Dictionary) (places : List Place) (apart : AreApart places)
+    (renamed : IsRenamed old (all_renamed strings old) named) (placed : IsPlaced named places new) where
   says : (operator : Operator) → IsAmong operator naming →
       look new operator ≡ option_or (named_by (renamed_if strings operator (identifier_in old operator)) operator) (look old operator)
   says operator is =
-      stays named new (places_of start parts) operator placed (none_named start parts operator (apart operator is))
-      ∙ look_renamed old named (all_renamed strings old) operator renamed (λ _. not_private operator (apart operator is).private)
+      stays named new places operator placed (apart operator is)
+      ∙ look_renamed old named (all_renamed strings old) operator renamed (λ _. apart_private operator is)
       ∙ ap (λ x. option_or x (look old operator)) (of_all strings old operator naming is)
 
   -- where the new identifier is the old one, the operands stay

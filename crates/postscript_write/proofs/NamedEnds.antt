@@ -1,28 +1,26 @@
 -- Parts that operators name end where their texts do.
-use Rattle.std.proofs.Common.{◌≡◌, refl, sym, ap, ◌∙◌, inl, inr, ℕ, pos, ◌+◌, ◌<◌, ◌≤◌, ◌^◌, List, [], ◌∷◌, ◌++◌, length, drop, Option, Some, None, Bool, true, false, Vec, arith}
+use Rattle.std.proofs.Common.{◌≡◌, refl, ap, ◌∙◌, inl, inr, ℕ, pos, ◌+◌, ◌<◌, ◌≤◌, ◌^◌, List, [], ◌∷◌, ◌++◌, length, drop, Option, Some, None, Bool, true, false, Vec, arith}
 use Rattle.std.specs.Option.{option_and_then, option_or}
 use Rattle.std.specs.Prelude.{All, IsSome}
 use Rattle.std.specs.declared.alloc.Global.{Global}
-use Rattle.std.proofs.lemmas.List.{append_assoc}
 use Rattle.postscript_base.specs.Compact1.Decimal.{Decimal, to_i32}
 use Rattle.postscript_base.specs.Compact1.Defaults.{first_of, look}
 use Rattle.postscript_base.specs.Compact1.Dictionary.{Dictionary}
 use Rattle.postscript_base.specs.Compact1.Number.{whole}
 use Rattle.postscript_base.specs.declared.compact1.operator.Operator.{Operator}
-use Rattle.postscript_base.specs.declared.compact1.operator.Operator.TheVariants.{CharSet, CharStrings, Encoding, FDArray, FDSelect}
+use Rattle.postscript_base.specs.declared.compact1.operator.Operator.TheVariants.{CharSet, Encoding, FDArray, FDSelect}
 use Rattle.postscript_view.specs.Cids.{IsCidKeyed}
 use Rattle.postscript_view.specs.Select.{offset_from, offset_of}
-use Rattle.postscript_write.specs.Arrangement.{beginnings, dictionaries_place, place_at, place_if, places_of, standard_place, text_of}
+use Rattle.postscript_write.specs.Pieces.{piece_if, place_at, place_of, standard_place, text_of}
 use Rattle.postscript_write.specs.ArrangedText.{dictionaries_text}
-use Rattle.postscript_write.specs.Dictionaries.{IsHeld}
+use Rattle.postscript_write.specs.Dictionaries.{IsHeld, IsPlaced}
 use Rattle.postscript_write.specs.Given.{GivesCharSet, GivesEncoding, GivesSelect}
 use Rattle.postscript_write.specs.Index.{FitsIndex}
 use Rattle.postscript_write.specs.Texts.{TextStands}
 use Rattle.postscript_write.specs.Whole.{CharSetEnds, EncodingEnds, IndexEnds, KeyedEnds, OwnEnds, SelectEnds}
 use Rattle.postscript_write.specs.declared.dictionaries.Place.{Place}
-use Rattle.postscript_write.specs.declared.layout.Parts.{Parts}
 use Rattle.postscript_write.proofs.IndexStands.{writes_indices}
-use Rattle.postscript_write.proofs.PlacesNamed.{before, behind, dictionaries_apart, if_other, named_by, standard_other, whole_is}
+use Rattle.postscript_write.proofs.PlacesNamed.{named_by, whole_is}
 use Rattle.postscript_write.proofs.TextsEnd.{char_set_there, encoding_there, select_there}
 
 -- the offset of an operator whose operand is a number of 31 bits
@@ -42,68 +40,14 @@ place_held operator n held =
     let one : IsHeld (place_at operator n) = held 0 (place_at operator n) (omega arith) in
     one.1.0
 
--- the encoding
-pub of_encoding : (start : ℕ) (parts : Parts) →
-    named_by (places_of start parts) Encoding ≡ named_by
-    (place_if Encoding parts.glyphs.now.encoding start ++ standard_place parts.glyphs.now.standard) Encoding
-of_encoding start parts =
-    let glyphs = parts.glyphs.now in
-    let at = beginnings start parts in
-    let a : List Place = place_if Encoding glyphs.encoding start in
-    let b : List Place = standard_place glyphs.standard in
-    let d : List Place = place_if FDSelect glyphs.select at.select in
-    let one : List Place = place_at CharStrings at.char_strings ∷ [] in
-    let e : List Place = dictionaries_place glyphs.select parts.privates.items at.privates at.dictionaries in
-    let f : List Place = place_if CharSet glyphs.char_set at.char_set in
-    ap (λ ps. named_by ps Encoding) (sym (append_assoc a b (d ++ (one ++ (e ++ f)))))
-    ∙ behind (a ++ b) (d ++ (one ++ (e ++ f))) Encoding
-    (before d (one ++ (e ++ f)) Encoding (if_other Encoding FDSelect glyphs.select at.select refl)
-    ∙ before one (e ++ f) Encoding refl
-    ∙ before e f Encoding (dictionaries_apart Encoding glyphs.select parts.privates.items at.privates at.dictionaries refl refl)
-    ∙ if_other Encoding CharSet glyphs.char_set at.char_set refl)
-
--- FDSelect
-pub of_select : (start : ℕ) (parts : Parts) →
-    named_by (places_of start parts) FDSelect ≡ named_by
-    (place_if FDSelect parts.glyphs.now.select (beginnings start parts).select) FDSelect
-of_select start parts =
-    let glyphs = parts.glyphs.now in
-    let at = beginnings start parts in
-    let a : List Place = place_if Encoding glyphs.encoding start in
-    let b : List Place = standard_place glyphs.standard in
-    let d : List Place = place_if FDSelect glyphs.select at.select in
-    let one : List Place = place_at CharStrings at.char_strings ∷ [] in
-    let e : List Place = dictionaries_place glyphs.select parts.privates.items at.privates at.dictionaries in
-    let f : List Place = place_if CharSet glyphs.char_set at.char_set in
-    before a (b ++ (d ++ (one ++ (e ++ f)))) FDSelect (if_other FDSelect Encoding glyphs.encoding start refl)
-    ∙ before b (d ++ (one ++ (e ++ f))) FDSelect (standard_other FDSelect glyphs.standard refl)
-    ∙ behind d (one ++ (e ++ f)) FDSelect
-    (before one (e ++ f) FDSelect refl
-    ∙ before e f FDSelect (dictionaries_apart FDSelect glyphs.select parts.privates.items at.privates at.dictionaries refl refl)
-    ∙ if_other FDSelect CharSet glyphs.char_set at.char_set refl)
-
--- the char set
-pub of_char_set : (start : ℕ) (parts : Parts) →
-    named_by (places_of start parts) CharSet ≡ named_by
-    (place_if CharSet parts.glyphs.now.char_set (beginnings start parts).char_set) CharSet
-of_char_set start parts =
-    let glyphs = parts.glyphs.now in
-    let at = beginnings start parts in
-    let a : List Place = place_if Encoding glyphs.encoding start in
-    let b : List Place = standard_place glyphs.standard in
-    let d : List Place = place_if FDSelect glyphs.select at.select in
-    let one : List Place = place_at CharStrings at.char_strings ∷ [] in
-    let e : List Place = dictionaries_place glyphs.select parts.privates.items at.privates at.dictionaries in
-    let f : List Place = place_if CharSet glyphs.char_set at.char_set in
-    before a (b ++ (d ++ (one ++ (e ++ f)))) CharSet (if_other CharSet Encoding glyphs.encoding start refl)
-    ∙ before b (d ++ (one ++ (e ++ f))) CharSet (standard_other CharSet glyphs.standard refl)
-    ∙ before d (one ++ (e ++ f)) CharSet (if_other CharSet FDSelect glyphs.select at.select refl)
-    ∙ before one (e ++ f) CharSet refl
-    ∙ before e f CharSet (dictionaries_apart CharSet glyphs.select parts.privates.items at.privates at.dictionaries refl refl)
+-- what the dictionary says of an operator by which places name something
+pub own_look : {x : Option (List Decimal)} (places : List Place) (old new : Dictionary) (operator : Operator) → IsPlaced old places new →
+    named_by places operator ≡ x → look new operator ≡ option_or x (look old operator)
+own_look places old new operator placed is = placed operator ∙ ap (λ x. option_or x (look old operator)) is
 
 pub encoding_ends : (old new : Dictionary) (out : List ℕ) (encoding : Option (Vec ℕ Global)) (standard : Bool) (start : ℕ) →
-    look new Encoding ≡ option_or (named_by (place_if Encoding encoding start ++ standard_place standard) Encoding) (look old Encoding) →
-    All IsHeld (place_if Encoding encoding start) → 2 ≤ start → TextStands (text_of encoding) out start → GivesEncoding old encoding standard →
+    look new Encoding ≡ option_or (named_by (standard_place standard ++ place_of (piece_if Encoding encoding) start) Encoding) (look old Encoding) →
+    All IsHeld (place_of (piece_if Encoding encoding) start) → 2 ≤ start → TextStands (text_of encoding) out start → GivesEncoding old encoding standard →
     OwnEnds new Encoding 2 (EncodingEnds out) start (start + length (text_of encoding))
 encoding_ends old new out (Some text) true start is held past stands gives = absurd gives
 encoding_ends old new out (Some text) false start is held past stands gives =
@@ -114,8 +58,8 @@ encoding_ends old new out None false start is held past stands gives =
     inl (gives.0, same_offset old new Encoding is ∙ gives.1, gives.2, omega arith)
 
 pub select_ends : (new : Dictionary) (out : List ℕ) (select : Option (Vec ℕ Global)) (glyphs place : ℕ) (other : Option (List Decimal)) →
-    look new FDSelect ≡ option_or (named_by (place_if FDSelect select place) FDSelect) other →
-    All IsHeld (place_if FDSelect select place) → (IsSome select → IsCidKeyed new) → (IsCidKeyed new → IsSome select) → TextStands
+    look new FDSelect ≡ option_or (named_by (place_of (piece_if FDSelect select) place) FDSelect) other →
+    All IsHeld (place_of (piece_if FDSelect select) place) → (IsSome select → IsCidKeyed new) → (IsCidKeyed new → IsSome select) → TextStands
     (text_of select) out place →
     GivesSelect glyphs select → KeyedEnds new FDSelect (SelectEnds out glyphs) place (place + length (text_of select))
 select_ends new out None glyphs place other is held keyed only stands gives =
@@ -127,25 +71,20 @@ select_ends new out (Some text) glyphs place other is held keyed only stands giv
       select_there text.items out place glyphs stands gives,
     )
 
-pub array_ends : (new : Dictionary) (out : List ℕ) (select : Option (Vec ℕ Global)) (dictionaries : List (List ℕ)) (place : ℕ)
-    (named other : Option (List Decimal)) →
-    look new FDArray ≡ option_or named other → (IsSome select → (named ≡ Some (whole (pos place) ∷ [])) × (place < 2 ^ 31)) →
+pub array_ends : (new : Dictionary) (out : List ℕ) (select : Option (Vec ℕ Global)) (dictionaries : List (List ℕ)) (place : ℕ) →
+    (IsSome select → (look new FDArray ≡ Some (whole (pos place) ∷ [])) × (place < 2 ^ 31)) →
     (IsSome select → IsCidKeyed new) → (IsCidKeyed new → IsSome select) → (IsSome select → FitsIndex dictionaries) → TextStands
     (dictionaries_text select dictionaries) out place →
     KeyedEnds new FDArray (IndexEnds out) place (place + length (dictionaries_text select dictionaries))
-array_ends new out None dictionaries place named other is names keyed only fits stands =
+array_ends new out None dictionaries place names keyed only fits stands =
     inl (λ some. let never = only some in absurd (cc), omega arith)
-array_ends new out (Some text) dictionaries place named other is names keyed only fits stands =
+array_ends new out (Some text) dictionaries place names keyed only fits stands =
     let own = names refl in
-    inr (
-      keyed refl,
-      offset_is new FDArray place own.1 (is ∙ ap (λ x. option_or x other) own.0),
-      (dictionaries, writes_indices dictionaries out place (fits refl) stands),
-    )
+    inr (keyed refl, offset_is new FDArray place own.1 own.0, (dictionaries, writes_indices dictionaries out place (fits refl) stands))
 
 pub char_set_ends : (old new : Dictionary) (out : List ℕ) (char_set : Option (Vec ℕ Global)) (glyphs place : ℕ) →
-    look new CharSet ≡ option_or (named_by (place_if CharSet char_set place) CharSet) (look old CharSet) →
-    All IsHeld (place_if CharSet char_set place) → 3 ≤ place → TextStands
+    look new CharSet ≡ option_or (named_by (place_of (piece_if CharSet char_set) place) CharSet) (look old CharSet) →
+    All IsHeld (place_of (piece_if CharSet char_set) place) → 3 ≤ place → TextStands
     (text_of char_set) out place → drop place out ≡ text_of char_set → GivesCharSet old glyphs char_set →
     OwnEnds new CharSet 3 (CharSetEnds out glyphs) place (place + length (text_of char_set))
 char_set_ends old new out None glyphs place is held past stands last gives =

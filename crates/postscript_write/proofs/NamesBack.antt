@@ -1,5 +1,5 @@
 -- A font that is written has the names that it was to have.
-use Rattle.std.proofs.Common.{◌≡◌, ◌⊎◌, ◌↔◌, refl, sym, ap, subst, ◌∙◌, inl, inr, ℕ, zero, suc, ◌+◌, ◌-◌, ◌≤◌, ◌<◌, List, [], length, get_or, drop, Option, Some, None, Bool, true, false, nat_lt, if◌then◌else◌, Vec, arith}
+use Rattle.std.proofs.Common.{◌≡◌, ◌⊎◌, ◌↔◌, refl, sym, ap, subst, ◌∙◌, inl, inr, ℕ, zero, suc, ◌+◌, ◌-◌, ◌≤◌, ◌<◌, List, [], length, get_or, Option, Some, None, Bool, true, false, nat_lt, if◌then◌else◌, Vec, arith}
 use Rattle.std.specs.Option.{is_some, unwrap_or}
 use Rattle.std.proofs.lemmas.List.{get_or_default}
 use Rattle.std.specs.Prelude.{All, Any, MatchBool}
@@ -7,7 +7,7 @@ use Rattle.std.specs.declared.alloc.Global.{Global}
 use Rattle.postscript_base.specs.Compact1.Defaults.{look}
 use Rattle.postscript_base.specs.Index.Lent.{items_of}
 use Rattle.postscript_base.specs.declared.compact1.operator.Operator.{Operator}
-use Rattle.postscript_base.specs.declared.compact1.operator.Operator.TheVariants.{ROS}
+use Rattle.postscript_base.specs.declared.compact1.operator.Operator.TheVariants.{CharSet, ROS}
 use Rattle.postscript_type2.specs.Program.Routines.{texts}
 use Rattle.postscript_view.specs.CharSets.{IsCharSetOf}
 use Rattle.postscript_view.specs.Contents.{View}
@@ -15,7 +15,6 @@ use Rattle.postscript_view.specs.Naming.{Names}
 use Rattle.postscript_view.specs.Value.{view_shown}
 use Rattle.postscript_view.specs.declared.char_set.CharSetView.{CharSetView}
 use Rattle.postscript_view.specs.declared.font.FontView.{FontView}
-use Rattle.postscript_write.specs.Arrangement.{beginnings, text_of}
 use Rattle.postscript_write.specs.Glyphs.{Sources}
 use Rattle.postscript_write.specs.Identified.{AreIdentified, AreNamesFor, AreSourcesFor, KeepNumbers}
 use Rattle.postscript_write.specs.LaidOut.{IsLaidOutOf, SelectsExactly}
@@ -28,7 +27,7 @@ use Rattle.postscript_write.specs.Parts.{IsAmong, SameAt, naming}
 use Rattle.postscript_write.specs.ReadBack.{HasNames, keeps_strings}
 use Rattle.postscript_write.specs.Renumbered.{new_identifier}
 use Rattle.postscript_write.specs.Strings.{AreNamedAs, IsNamedAs, IsNeeded, KeepsStrings, NamesSame, SameString, identifier_in}
-use Rattle.postscript_write.specs.Written.{IsPutTogether, TablesStand}
+use Rattle.postscript_write.specs.Written.{IsPutTogether}
 use Rattle.postscript_write.specs.declared.layout.Glyphs.{Glyphs}
 use Rattle.postscript_write.specs.declared.strings.Strings.{Strings}
 use Rattle.postscript_write.proofs.CharSetAgain.{AreListed, IsKept, IsListed, NameAlike, set_kept, set_listed}
@@ -37,7 +36,9 @@ use Rattle.postscript_write.proofs.LaidOut.{laid_out}
 use Rattle.postscript_write.proofs.NamedAgain.{same_operands}
 use Rattle.postscript_write.proofs.ReadAgain.{one_view}
 use Rattle.postscript_view.specs.Layout.{IsLaidOut}
-use Rattle.postscript_write.proofs.NoByteBeside.{dictionary_is, end_is, last_there, places_held, set_look, some_tables}
+use Rattle.postscript_write.proofs.NoByteBeside.{dictionary_is, set_last, set_look}
+use Rattle.postscript_write.proofs.Put.{each_held, name_apart, named, place, some_tables, stand, tables_stand}
+use Rattle.postscript_write.proofs.TablesStand.{TablesStand}
 use Rattle.postscript_write.proofs.Operators.{among}
 use Rattle.postscript_write.proofs.StringsAgain.{glyph_has, new_low, operator_same, string_again, string_needed}
 
@@ -113,44 +114,31 @@ all_naming : (P : Operator → Type 0) → ((operator : Operator) → IsAmong op
 all_naming P of k d less =
     of (get_or naming k d) (among naming (get_or naming k d) (k, less, get_or_default naming k (get_or naming k d) d less))
 
-module _ (font : FontView) (glyphs : Glyphs) (codes : List (List ℕ)) (out : List ℕ) (w : IsPutTogether font glyphs codes out)
-    (t : TablesStand font glyphs w.parts (length w.tables) out) (old : CharSetView) (sources : Sources)
+module _ {font : FontView} {glyphs : Glyphs} {codes : List (List ℕ)} {out : List ℕ} (w : IsPutTogether font glyphs codes out)
+    (t : TablesStand font glyphs (named w) out) (old : CharSetView) (sources : Sources)
     (is : IsCharSetOf old font.bytes.now font.dictionary (length (items_of font.char_strings))) where
-  abbrev start : ℕ
-  start = length w.tables
-
-  past : 3 ≤ (beginnings start w.parts).char_set
-  past = omega (arith, some_tables font glyphs codes out w t)
-
-  last : drop (beginnings start w.parts).char_set out ≡ text_of w.parts.glyphs.now.char_set
-  last =
-      last_there (text_of w.parts.glyphs.now.char_set) out (beginnings start w.parts).char_set w.stand.char_set
-      (end_is font glyphs codes out w t)
+  past : 3 ≤ place w CharSet
+  past = omega (arith, some_tables w)
 
   kept_set : IsOwnCharSet font.bytes.now font.dictionary (length (items_of font.char_strings)) (items_if glyphs.char_set) →
       IsKept old out t.new (length (items_of font.char_strings))
   kept_set own =
-      set_kept old font.bytes.now out font.dictionary t.new (length (items_of font.char_strings)) w.parts.glyphs.now.char_set
-      (beginnings start w.parts).char_set is
-      (set_look font glyphs codes out w t) (places_held font glyphs codes out w t).2 past w.stand.char_set last
-      (subst (λ (g : Glyphs). IsOwnCharSet font.bytes.now font.dictionary (length (items_of font.char_strings)) (items_if g.char_set))
-      (sym w.of_glyphs) own)
+      set_kept old font.bytes.now out font.dictionary t.new (length (items_of font.char_strings)) glyphs.char_set (place w CharSet) is
+      (set_look w t) (each_held w).1.1.1.1.1.0 past (stand w).1.1.1.1.1.0 (set_last w t) own
 
   listed_set : (identifiers : List ℕ) → items_if glyphs.char_set ≡ Some (names_text glyphs.strings identifiers) →
       length codes ≡ 1 + length identifiers →
       ((i : ℕ) → i < length identifiers → new_identifier glyphs.strings (get_or identifiers i 0) < 65536) → AreListed glyphs.strings
       identifiers out t.new (length codes)
   listed_set identifiers own many low =
-      set_listed font.bytes glyphs.strings identifiers out font.dictionary t.new (length codes) w.parts.glyphs.now.char_set
-      (beginnings start w.parts).char_set
-      (set_look font glyphs codes out w t) (places_held font glyphs codes out w t).2 past w.stand.char_set
-      (subst (λ (g : Glyphs). items_if g.char_set ≡ Some (names_text glyphs.strings identifiers)) (sym w.of_glyphs) own) many low
+      set_listed font.bytes glyphs.strings identifiers out font.dictionary t.new (length codes) glyphs.char_set (place w CharSet)
+      (set_look w t) (each_held w).1.1.1.1.1.0 past (stand w).1.1.1.1.1.0 own many low
 
   -- the operators keep their operands, where strings keep their identifiers
   operators_kept : glyphs.strings.renumbered.items ≡ [] → SameAt naming font.dictionary t.new
   operators_kept none =
       all_naming (λ operator. look t.new operator ≡ look font.dictionary operator) (λ operator among.
-      same_operands glyphs.strings font.dictionary t.named t.new start w.parts t.renamed t.placed operator among
+      same_operands glyphs.strings font.dictionary t.named t.new (named w) (name_apart w) t.renamed t.placed operator among
       (λ identifier e. stay glyphs.strings identifier none))
 
   module _ (view : View) (map_is : view.tables.dictionary ≡ t.new) (codes_are : view.char_strings ≡ codes)
@@ -223,7 +211,7 @@ module _ (font : FontView) (glyphs : Glyphs) (codes : List (List ℕ)) (out : Li
               let names = listed.names set (to_new set has) in
               record {
                 operators = all_naming (NamesSame (view_shown font).tables view.tables) (λ operator among.
-                    operator_same map identifiers was now glyphs.strings cut.renumbered cut.named of.low t.named t.new start w.parts
+                    operator_same map identifiers was now glyphs.strings cut.renumbered cut.named of.low t.named t.new (named w) (name_apart w)
                     t.renamed t.placed (view_shown font).tables view.tables operator refl refl map_is strings_are among);
                 glyphs = named_as old set sources identifiers glyphs.strings of names was view.tables.strings (λ identifier from.
                     subst (λ (ss : List (List ℕ)). SameString was identifier ss (new_identifier glyphs.strings identifier))
@@ -249,7 +237,7 @@ module _ (font : FontView) (glyphs : Glyphs) (codes : List (List ℕ)) (out : Li
             (number : ℕ) → number < length (texts glyphs.strings.texts.items) → IsNeeded view set number
         needed_by identifiers of many cut set names number less =
             elim (string_needed font.dictionary identifiers (items_of font.strings)
-            (texts glyphs.strings.texts.items) glyphs.strings cut.renumbered cut.named of.low t.named t.new start w.parts t.renamed
+            (texts glyphs.strings.texts.items) glyphs.strings cut.renumbered cut.named of.low t.named t.new (named w) (name_apart w) t.renamed
             t.placed number less) [
               | inl any ↦ inl (subst (λ m. Any (λ operator. identifier_in m operator ≡ Some (391 + number)) naming) (sym map_is) any)
               | inr one ↦ inr (
@@ -275,16 +263,16 @@ names_back font glyphs codes out w read exactly kept sources identifiers set is 
     own : IsLaidOutOf font glyphs codes out
     own = laid_out font glyphs codes out w read exactly
 
-    t : TablesStand font glyphs w.parts (length w.tables) out
-    t = w.tables_stand read.laid.tables
+    t : TablesStand font glyphs (named w) out
+    t = tables_stand w read.laid.tables
 
     by : (kept : Bool) (identifiers : Option (Vec ℕ Global)) →
         AreSourcesFor kept set (length (items_of font.char_strings)) sources identifiers → AreStringsFor font identifiers glyphs.strings →
         IsCharSetFor font identifiers glyphs →
         HasNames (keeps_strings kept font.dictionary) sources (view_shown font) set out own.view
     by true None keep strings own_set =
-        back_kept font glyphs codes out w t set sources is own.view
-        (sym (dictionary_is font glyphs codes out w t own.view own.laid)) own.char_strings own.strings keep many strings own_set
+        back_kept w t set sources is own.view
+        (sym (dictionary_is w t own.view own.laid)) own.char_strings own.strings keep many strings own_set
     by true (Some identifiers) never strings own_set = absurd never
     by false None never strings own_set = absurd never
     by false (Some identifiers) of strings own_set = cases (is_some (look font.dictionary ROS)) strings
@@ -292,10 +280,10 @@ names_back font glyphs codes out w read exactly kept sources identifiers set is 
         cases : (b : Bool) → MatchBool b (AreAll font glyphs.strings) (AreCut font identifiers.items glyphs.strings) →
             HasNames b sources (view_shown font) set out own.view
         cases true all =
-            back_listed font glyphs codes out w t set sources is own.view
-            (sym (dictionary_is font glyphs codes out w t own.view own.laid)) own.char_strings own.strings identifiers.items of many all
+            back_listed w t set sources is own.view
+            (sym (dictionary_is w t own.view own.laid)) own.char_strings own.strings identifiers.items of many all
             own_set
         cases false cut =
-            back_cut font glyphs codes out w t set sources is own.view
-            (sym (dictionary_is font glyphs codes out w t own.view own.laid)) own.char_strings own.strings identifiers.items of many cut
+            back_cut w t set sources is own.view
+            (sym (dictionary_is w t own.view own.laid)) own.char_strings own.strings identifiers.items of many cut
             own_set

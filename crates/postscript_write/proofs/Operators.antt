@@ -1,5 +1,5 @@
 -- Operators that are among others.
-use Rattle.std.proofs.Common.{◌≡◌, ◌<◌, ℕ, zero, suc, List, [], ◌∷◌, ◌++◌, length, inl, inr, slice_index_or, sym, arith}
+use Rattle.std.proofs.Common.{◌≡◌, ◌⊎◌, ◌∙◌, ◌<◌, ℕ, zero, suc, List, [], ◌∷◌, ◌++◌, length, inl, inr, slice_index_or, refl, sym, ap, Bool, true, false, if◌then◌else◌, arith}
 use Rattle.std.specs.List.{Contains}
 use Rattle.postscript_base.specs.declared.compact1.operator.Operator.{Operator}
 use Rattle.postscript_base.specs.declared.compact1.operator.Operator.TheVariants.{ROS}
@@ -40,3 +40,19 @@ ros-stays (inr (inr (inr (inr (inr (inr (inr (inr (inr (inr (inr (inr (inl e))))
 ros-stays (inr (inr (inr (inr (inr (inr (inr (inr (inr (inr (inr (inr (inr (inl e)))))))))))))) = cc
 ros-stays (inr (inr (inr (inr (inr (inr (inr (inr (inr (inr (inr (inr (inr (inr (inl e))))))))))))))) = cc
 ros-stays (inr (inr (inr (inr (inr (inr (inr (inr (inr (inr (inr (inr (inr (inr (inr none))))))))))))))) = none
+
+-- what is true of each operator of a list
+abbrev pub every : (Operator → Bool) → List Operator → Bool
+every f [] = true
+every f (other ∷ others) = if f other then every f others else false
+
+pub each_is : (f : Operator → Bool) (operators : List Operator) → every f operators ≡ true → (operator : Operator) →
+    IsAmong operator operators → f operator ≡ true
+each_is f [] all operator none = absurd none
+each_is f (other ∷ others) all operator is = by (f other) refl all is (λ rest later. each_is f others rest operator later)
+  where
+    by : (b : Bool) → f other ≡ b → (if b then every f others else false) ≡ true → (operator ≡ other) ⊎ IsAmong operator others →
+        (every f others ≡ true → IsAmong operator others → f operator ≡ true) → f operator ≡ true
+    by true e all (inl same) rest = ap f same ∙ e
+    by true e all (inr later) rest = rest all later
+    by false e never is rest = absurd (cc)

@@ -1,10 +1,9 @@
 -- What a dictionary with places says else.
-use Rattle.std.proofs.Common.{◌≡◌, ◌⊎◌, refl, sym, ap, subst, ◌∙◌, inl, inr, ℕ, suc, List, [], ◌∷◌, ◌++◌, get_or, Option, Some, None, Bool, true, false, Vec, if◌then◌else◌, arith, rules}
+use Rattle.std.proofs.Common.{◌≡◌, ◌⊎◌, refl, sym, ap, subst, ◌∙◌, inl, inr, ℕ, suc, List, [], ◌∷◌, ◌++◌, get_or, Option, Some, None, Bool, true, false, if◌then◌else◌, arith, rules}
 use Rattle.std.specs.List.{Contains}
 use Rattle.std.specs.Option.{option_or}
 use Rattle.std.specs.Ordering.{eq_by_cmp}
 use Rattle.std.specs.Prelude.{All, flat_map, ◌==◌}
-use Rattle.std.specs.declared.alloc.Global.{Global}
 use Rattle.std.proofs.lemmas.List.{get_or_default}
 use Rattle.std.proofs.lemmas.List.Elements.{All-append, All-cons, All-nil}
 use Rattle.postscript_base.specs.Compact1.Decimal.{Decimal}
@@ -12,8 +11,8 @@ use Rattle.postscript_base.specs.Compact1.Defaults.{default_of, look}
 use Rattle.postscript_base.specs.Compact1.Dictionary.{Dictionary}
 use Rattle.postscript_base.specs.Compact1.Operators.{operator_cmp}
 use Rattle.postscript_base.specs.declared.compact1.operator.Operator.{Operator}
-use Rattle.postscript_base.specs.declared.compact1.operator.Operator.TheVariants.{CharSet, CharStrings, Encoding, FDArray, FDSelect, Private, Subrs}
-use Rattle.postscript_write.specs.Arrangement.{beginnings, dictionaries_place, only_place, place_at, place_if, places_of, standard_place}
+use Rattle.postscript_base.specs.declared.compact1.operator.Operator.TheVariants.{Encoding, Private, Subrs}
+use Rattle.postscript_write.specs.Pieces.{Piece, named_places, place_at, places, standard_place}
 use Rattle.postscript_write.specs.Dictionaries.{IsPlaced, operation_of}
 use Rattle.postscript_write.specs.LeftOut.{IsLess}
 use Rattle.postscript_write.specs.Parts.{IsAmong, SameBut, naming, placing}
@@ -21,16 +20,12 @@ use Rattle.postscript_write.specs.Privates.{place_of_private}
 use Rattle.postscript_write.specs.Renumbered.{IsRenamed, all_renamed, new_identifier, renamed_if}
 use Rattle.postscript_write.specs.Strings.{identifier_in}
 use Rattle.postscript_write.specs.declared.dictionaries.Place.{Place}
-use Rattle.postscript_write.specs.declared.layout.Parts.{Parts}
 use Rattle.postscript_write.specs.declared.layout.Private.{Private as OwnPrivate}
 use Rattle.postscript_write.specs.declared.strings.Strings.{Strings}
 use Rattle.postscript_write.proofs.Operators.{among}
+use Rattle.postscript_write.proofs.Pieces.{AreAmong, AreOf, all_among}
 use Rattle.postscript_write.proofs.Placing.{same_operator}
 use Rattle.postscript_write.proofs.PlacesNamed.{named_by, not_private, stays}
-
--- places are named by these operators
-abbrev AreOf : List Operator → List Place → Type 0
-AreOf operators places = All (λ place. IsAmong place.operator operators) places
 
 some_among : (operators : List Operator) (places : List Place) (operator : Operator) (operands : List Decimal) → AreOf operators places →
     named_by places operator ≡ Some operands → IsAmong operator operators
@@ -61,11 +56,6 @@ says_else operators old new places placed of operator = by (named_by places oper
     by None e = inl (stays old new places operator placed e)
     by (Some operands) e = inr (some_among operators places operator operands of e)
 
-if_of : (operator : Operator) (text : Option (Vec ℕ Global)) (n : ℕ) → IsAmong operator placing → AreOf placing (place_if operator text n)
-if_of operator None n is = All-nil (λ place. IsAmong place.operator placing)
-if_of operator (Some text) n is =
-    All-cons (λ place. IsAmong place.operator placing) (place_at operator n) [] is (All-nil (λ place. IsAmong place.operator placing))
-
 standard_of : (standard : Bool) → AreOf placing (standard_place standard)
 standard_of true =
     All-cons (λ place. IsAmong place.operator placing) (place_at Encoding 0) [] (search rules)
@@ -78,29 +68,10 @@ private_of operators None n is = All-nil (λ place. IsAmong place.operator opera
 private_of operators (Some private) n is =
     All-cons (λ place. IsAmong place.operator operators) _ [] is (All-nil (λ place. IsAmong place.operator operators))
 
-only_of : (privates : List (Option OwnPrivate)) (n : ℕ) → AreOf placing (only_place privates n)
-only_of [] n = All-nil (λ place. IsAmong place.operator placing)
-only_of (private ∷ []) n = private_of placing private n (search rules)
-only_of (p ∷ q ∷ ps) n = All-nil (λ place. IsAmong place.operator placing)
-
-dictionaries_of : (select : Option (Vec ℕ Global)) (privates : List (Option OwnPrivate)) (m n : ℕ) →
-    AreOf placing (dictionaries_place select privates m n)
-dictionaries_of (Some select) privates m n =
-    All-cons (λ place. IsAmong place.operator placing) (place_at FDArray n) [] (search rules)
-    (All-nil (λ place. IsAmong place.operator placing))
-dictionaries_of None privates m n = only_of privates m
-
-places_are : (start : ℕ) (parts : Parts) → AreOf placing (places_of start parts)
-places_are start parts =
-    let P : Place → Type 0 = λ place. IsAmong place.operator placing in
-    let glyphs = parts.glyphs.now in
-    let at = beginnings start parts in
-    All-append P _ _ (if_of Encoding glyphs.encoding start (search rules))
-    (All-append P _ _ (standard_of glyphs.standard)
-    (All-append P _ _ (if_of FDSelect glyphs.select at.select (search rules))
-    (All-cons P (place_at CharStrings at.char_strings) _ (search rules)
-    (All-append P _ _ (dictionaries_of glyphs.select parts.privates.items at.privates at.dictionaries)
-    (if_of CharSet glyphs.char_set at.char_set (search rules))))))
+pub places_are : (standard : Bool) (start : ℕ) (ps : List Piece) → AreAmong placing ps → AreOf placing (named_places standard start ps)
+places_are standard start ps are =
+    All-append (λ place. IsAmong place.operator placing) (standard_place standard) (places start ps) (standard_of standard)
+    (all_among placing ps start are)
 
 -- the new identifiers of strings are named by the operators that name strings
 one_of : (strings : Strings) (operator : Operator) (old : Option ℕ) → IsAmong operator naming →
@@ -136,10 +107,10 @@ among_right operator [] ys is = is
 among_right operator (x ∷ xs) ys is = inr (among_right operator xs ys is)
 
 -- the dictionary of a font that is written says else what that of the font says
-pub font_says : (strings : Strings) (old named new : Dictionary) (start : ℕ) (parts : Parts) →
-    IsRenamed old (all_renamed strings old) named → IsPlaced named (places_of start parts) new → SameBut (placing ++ naming) old new
-font_says strings old named new start parts renamed placed operator =
-    elim (says_else placing named new (places_of start parts) placed (places_are start parts) operator) [
+pub font_says : (strings : Strings) (old named new : Dictionary) (places : List Place) → AreOf placing places →
+    IsRenamed old (all_renamed strings old) named → IsPlaced named places new → SameBut (placing ++ naming) old new
+font_says strings old named new places are renamed placed operator =
+    elim (says_else placing named new places placed are operator) [
       | inl same ↦ elim (says_else naming renamed.kept named (all_renamed strings old) renamed.placed (renamed_are strings old) operator) [
         | inl also ↦ kept (eq_by_cmp operator_cmp operator Private) refl (same ∙ also)
         | inr is ↦ inr (among_right operator placing naming is)

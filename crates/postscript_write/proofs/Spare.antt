@@ -13,7 +13,7 @@ use Rattle.postscript_base.specs.declared.compact1.operator.Operator.{Operator}
 use Rattle.postscript_type2.specs.Program.Routines.{texts}
 use Rattle.postscript_view.specs.Value.{view_shown}
 use Rattle.postscript_view.specs.declared.font.FontView.{FontView}
-use Rattle.postscript_write.specs.Arrangement.{place_at}
+use Rattle.postscript_write.specs.Pieces.{place_at}
 use Rattle.postscript_write.specs.Dictionaries.{IsHeld, IsWritable}
 use Rattle.postscript_write.specs.Parts.{naming}
 use Rattle.postscript_write.specs.Renumbered.{new_identifier, renamed, renamed_if}

@@ -15,13 +15,12 @@ use Rattle.postscript_compact1.specs.StandardStrings.{standard_string}
 use Rattle.postscript_view.specs.Strings.{string_of}
 use Rattle.postscript_write.specs.NewStrings.{left_of, AreNamed, IsNamedIn, AreRenumbered, HasNew, IsWrittenAs}
 use Rattle.postscript_write.specs.Parts.{IsAmong, naming}
-use Rattle.postscript_write.specs.Arrangement.{places_of}
 use Rattle.postscript_write.specs.Dictionaries.{IsPlaced}
 use Rattle.postscript_write.specs.Renumbered.{IsRenamed, all_renamed, new_identifier}
-use Rattle.postscript_write.specs.declared.layout.Parts.{Parts}
 use Rattle.postscript_write.specs.Strings.{NamesSame, SameString, identifier_from, identifier_in, own_named, own_string}
+use Rattle.postscript_write.specs.declared.dictionaries.Place.{Place}
 use Rattle.postscript_write.specs.declared.strings.Strings.{Strings}
-use Rattle.postscript_write.proofs.NamedAgain.{identifier_is, same_operands}
+use Rattle.postscript_write.proofs.NamedAgain.{AreApart, identifier_is, same_operands}
 
 -- an identifier below 391 names a standard string, and any other one the string of a number
 standard : (strings : List (List ℕ)) (identifier : ℕ) → identifier < 391 → own_string strings identifier ≡ None
@@ -241,12 +240,12 @@ module _ (map : Dictionary) (identifiers : List ℕ) (old texts : List (List ℕ
       HasNew strings.renumbered.items number
   glyph_has i less number at within = let many = are.many in names.all number (omega (arith, within, many)) (inr (i, less, at))
 
-  module _ (named new : Dictionary) (start : ℕ) (parts : Parts) (renamed : IsRenamed map (all_renamed strings map) named)
-      (placed : IsPlaced named (places_of start parts) new) where
+  module _ (named new : Dictionary) (places : List Place) (apart : AreApart places)
+      (renamed : IsRenamed map (all_renamed strings map) named) (placed : IsPlaced named places new) where
     new_is : (operator : Operator) → IsAmong operator naming → identifier_in new operator ≡ option_map (new_identifier strings)
         (identifier_in map operator)
     new_is operator is =
-        identifier_is strings map named new start parts renamed placed operator is
+        identifier_is strings map named new places apart renamed placed operator is
         (λ identifier e. new_low identifier (two_bytes map operator identifier e))
 
     abbrev names_in : List (List ℕ) → Dictionary → Operator → Option (List ℕ)
@@ -263,7 +262,7 @@ module _ (map : Dictionary) (identifiers : List ℕ) (old texts : List (List ℕ
     same_operands_where : (operator : Operator) → IsAmong operator naming → names_in old map operator ≡ None →
         look new operator ≡ look map operator
     same_operands_where operator is none =
-        same_operands strings map named new start parts renamed placed operator is (λ identifier e.
+        same_operands strings map named new places apart renamed placed operator is (λ identifier e.
         (string_again old texts strings are identifier (operator_has operator identifier is e)).identifier
         (ap (option_and_then (own_string old)) (sym e) ∙ none))
 

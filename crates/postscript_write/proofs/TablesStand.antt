@@ -5,11 +5,18 @@ use Rattle.std.specs.declared.alloc.Global.{Global}
 use Rattle.postscript_base.specs.Compact1.Dictionary.{Dictionary}
 use Rattle.postscript_base.specs.Compact1.DictionaryLaw.{IsDictionary}
 use Rattle.postscript_base.specs.Index.{IsIndex, IsOpened}
+use Rattle.postscript_base.specs.Index.Lent.{items_of}
+use Rattle.postscript_type2.specs.Program.Routines.{texts}
 use Rattle.postscript_view.specs.Layout.{AreTables, IsIndexAt}
+use Rattle.postscript_view.specs.declared.font.FontView.{FontView}
 use Rattle.postscript_write.specs.ArrangedText.{dictionaries_text, tables_text}
 use Rattle.postscript_write.specs.Fonts.{HasHeader}
 use Rattle.postscript_write.specs.Index.{FitsIndex, index_text}
 use Rattle.postscript_write.specs.Texts.{TextStands}
+use Rattle.postscript_write.specs.Dictionaries.{IsPlaced}
+use Rattle.postscript_write.specs.Renumbered.{IsRenamed, all_renamed}
+use Rattle.postscript_write.specs.declared.dictionaries.Place.{Place}
+use Rattle.postscript_write.specs.declared.layout.Glyphs.{Glyphs}
 use Rattle.postscript_write.proofs.IndexStands.{writes_indices}
 use Rattle.postscript_write.proofs.Rests.{none_fit}
 use Rattle.postscript_write.proofs.Standing.{stands_first, stands_second}
@@ -68,3 +75,18 @@ tables_are out behind names strings placed new is names_fit placed_fits strings_
       there = refl;
       is_dictionary = dictionary;
     }
+
+-- The tables stand behind the header, with the strings of glyphs and no subroutines. Their dictionary is that of the font, but with the new
+-- identifiers of strings, and with places.
+pub record TablesStand (font : FontView) (glyphs : Glyphs) (places : List Place) (out : List ℕ) : Type 0 where
+  pub header : HasHeader out
+  pub named : Dictionary
+  pub new : Dictionary
+  pub renamed : IsRenamed font.dictionary (all_renamed glyphs.strings font.dictionary) named
+  pub placed : IsPlaced named places new
+  pub are : AreTables out 4 0 (record {
+    names = items_of font.names;
+    dictionary = new;
+    strings = texts glyphs.strings.texts.items;
+    subroutines = [];
+  })

@@ -22,7 +22,7 @@ use Rattle.postscript_view.specs.Select.{IsSelected, offset_of}
 use Rattle.postscript_view.specs.Value.{part_shown, view_shown}
 use Rattle.postscript_view.specs.declared.encoding.EncodingView.{EncodingView}
 use Rattle.postscript_view.specs.declared.font.FontView.{FontView}
-use Rattle.postscript_write.specs.Arrangement.{beginnings, place_if, standard_place, text_of}
+use Rattle.postscript_write.specs.Pieces.{piece_if, place_of, standard_place, text_of}
 use Rattle.postscript_write.specs.Dictionaries.{IsHeld}
 use Rattle.postscript_write.specs.Given.{AreGiven}
 use Rattle.postscript_write.specs.GivenNumbers.{AreTheirNumbers, GivesNumbers, GivesWayTo, StaysEncoded}
@@ -32,20 +32,22 @@ use Rattle.postscript_write.specs.Naming.{SameCodes, codes_for}
 use Rattle.postscript_write.specs.ReadBack.{HasOtherCodes, HasSameCodes, IsAsWritten}
 use Rattle.postscript_write.specs.Room.{IsRead}
 use Rattle.postscript_write.specs.Texts.{TextStands}
-use Rattle.postscript_write.specs.Written.{IsPutTogether, TablesStand}
+use Rattle.postscript_write.specs.Written.{IsPutTogether}
 use Rattle.postscript_write.specs.declared.layout.Glyphs.{Glyphs}
 use Rattle.postscript_write.proofs.Endings.{one_some}
-use Rattle.postscript_write.proofs.LaidOut.{laid_out}
-use Rattle.postscript_write.proofs.NamedEnds.{of_select, offset_is, place_held, same_offset}
-use Rattle.postscript_write.proofs.NoByteBeside.{dictionary_is, encoding_look, keyed_is, none_beside_view, places_held, some_tables}
+use Rattle.postscript_write.proofs.LaidOut.{keyed_is, laid_out}
+use Rattle.postscript_write.proofs.NamedEnds.{offset_is, own_look, place_held, same_offset}
+use Rattle.postscript_write.proofs.NoByteBeside.{dictionary_is, encoding_look, none_beside_view}
 use Rattle.postscript_write.proofs.OneEncoding.{one_encoding, standing_kept}
 use Rattle.postscript_write.proofs.PlacesNamed.{named_by}
+use Rattle.postscript_write.proofs.Put.{each_held, named, place, select_named, some_tables, stand, tables_stand}
+use Rattle.postscript_write.proofs.TablesStand.{TablesStand}
 use Rattle.postscript_write.proofs.ReadAgain.{one_view}
 
 -- FDSelect gives a glyph its number where the dictionary names it
 selected : (new : Dictionary) (out : List ℕ) (select : Option (Vec ℕ Global)) (numbers : List ℕ) (place i : ℕ)
     (other : Option (List Decimal)) →
-    look new FDSelect ≡ option_or (named_by (place_if FDSelect select place) FDSelect) other → All IsHeld (place_if FDSelect select place) →
+    look new FDSelect ≡ option_or (named_by (place_of (piece_if FDSelect select) place) FDSelect) other → All IsHeld (place_of (piece_if FDSelect select) place) →
     TextStands (text_of select) out place → GivesNumbers numbers select → i < length numbers → IsSome select → IsSelected out new
     (length numbers) i (get_or numbers i 0)
 selected new out None numbers place i other is held stands gives less some = absurd (cc)
@@ -72,8 +74,8 @@ predefined_kept encoding bytes out place low (inr (inr (most, stands))) = absurd
 
 encoding_kept : (old new : Dictionary) (bytes out : List ℕ) (text : Option (Vec ℕ Global)) (standard : Bool) (start : ℕ)
     (encoding : EncodingView) →
-    look new Encoding ≡ option_or (named_by (place_if Encoding text start ++ standard_place standard) Encoding)
-    (look old Encoding) → All IsHeld (place_if Encoding text start) →
+    look new Encoding ≡ option_or (named_by (standard_place standard ++ place_of (piece_if Encoding text) start) Encoding)
+    (look old Encoding) → All IsHeld (place_of (piece_if Encoding text) start) →
     2 ≤ start → TextStands (text_of text) out start → StaysEncoded bytes old text standard → IsEncodingOf encoding bytes old → IsEncodingOf
     encoding out new
 encoding_kept old new bytes out (Some text) true start encoding is held past stands stays was = absurd stays
@@ -112,7 +114,7 @@ predefined_stays encoding bytes out place map low named (inr (inr (most, stands)
 
 encoding_other : (old new : Dictionary) (bytes out : List ℕ) (text : Option (Vec ℕ Global)) (standard : Bool) (start : ℕ)
     (encoding : EncodingView) →
-    look new Encoding ≡ option_or (named_by (place_if Encoding text start ++ standard_place standard) Encoding) (look old Encoding) →
+    look new Encoding ≡ option_or (named_by (standard_place standard ++ place_of (piece_if Encoding text) start) Encoding) (look old Encoding) →
     GivesWayTo old text standard → IsEncodingOf encoding bytes old → IsOther encoding out new
 encoding_other old new bytes out (Some text) standard start encoding is gives was = absurd gives
 encoding_other old new bytes out None true start encoding is gives was =
@@ -134,8 +136,8 @@ same_kind kind (Predefined encoding) same = ap (λ e. Predefined e) same
 same_kind kind (Listed codes) same = absurd same
 same_kind kind (Ranges ranges) same = absurd same
 
-module _ (font : FontView) (glyphs : Glyphs) (codes : List (List ℕ)) (out : List ℕ) (w : IsPutTogether font glyphs codes out)
-    (t : TablesStand font glyphs w.parts (length w.tables) out) where
+module _ {font : FontView} {glyphs : Glyphs} {codes : List (List ℕ)} {out : List ℕ} (w : IsPutTogether font glyphs codes out)
+    (t : TablesStand font glyphs (named w) out) where
   -- each glyph has the part of its number
   pub numbers_there : (view : View) → IsLaidOut out 0 view → view.char_strings ≡ codes → SelectsExactly font glyphs → (numbers : List ℕ) →
       length numbers ≡ length codes →
@@ -147,18 +149,15 @@ module _ (font : FontView) (glyphs : Glyphs) (codes : List (List ℕ)) (out : Li
       n : ℕ
       n = get_or numbers i 0
 
-      named : t.new ≡ view.tables.dictionary
-      named = dictionary_is font glyphs codes out w t view laid
+      dictionary : t.new ≡ view.tables.dictionary
+      dictionary = dictionary_is w t view laid
 
-      is_selected : IsSome w.parts.glyphs.now.select → IsSelected out view.tables.dictionary (length view.char_strings) i n
+      is_selected : IsSome glyphs.select → IsSelected out view.tables.dictionary (length view.char_strings) i n
       is_selected some =
-          let at = beginnings (length w.tables) w.parts in
-          let g = w.parts.glyphs.now in
-          let own : GivesNumbers numbers g.select = subst (λ (h : Glyphs). GivesNumbers numbers h.select) (sym w.of_glyphs) gives in
-          let held = places_held font glyphs codes out w t in
-          let is = t.placed FDSelect ∙ ap (λ x. option_or x (look t.named FDSelect)) (of_select (length w.tables) w.parts) in
-          let found = selected t.new out g.select numbers at.select i (look t.named FDSelect) is held.1 w.stand.select own less some in
-          subst (λ m. IsSelected out m (length view.char_strings) i n) named
+          let is = own_look (named w) t.named t.new FDSelect t.placed (select_named w) in
+          let found = selected t.new out glyphs.select numbers (place w FDSelect) i (look t.named FDSelect) is (each_held w).1.0 (stand w).1.0
+          gives less some in
+          subst (λ m. IsSelected out m (length view.char_strings) i n) dictionary
           (subst (λ k. IsSelected out t.new k i n) (many ∙ ap length (sym are)) found)
 
       by : (length view.parts < 2) ⊎ (2 ≤ length view.parts) →
@@ -169,7 +168,7 @@ module _ (font : FontView) (glyphs : Glyphs) (codes : List (List ℕ)) (out : Li
         | inl one ↦ absurd (omega (arith, several, one))
         | inr keyed ↦ inr (
           λ one. absurd (omega (arith, several, one)),
-          is_selected ((keyed_is font glyphs codes out w t exactly).1 (subst IsCidKeyed (sym named) keyed)),
+          is_selected ((keyed_is w t exactly).1 (subst IsCidKeyed (sym dictionary) keyed)),
         )
       ]
 
@@ -178,14 +177,10 @@ module _ (font : FontView) (glyphs : Glyphs) (codes : List (List ℕ)) (out : Li
       IsEncodingOf encoding font.bytes.now font.dictionary →
       StaysEncoded font.bytes.now font.dictionary glyphs.encoding glyphs.standard → HasSameCodes encoding out view.tables.dictionary
   codes_there view laid encoding was stays =
-      let g = w.parts.glyphs.now in
-      let own : StaysEncoded font.bytes.now font.dictionary g.encoding g.standard = subst
-      (λ (h : Glyphs). StaysEncoded font.bytes.now font.dictionary h.encoding h.standard) (sym w.of_glyphs) stays in
-      let start = some_tables font glyphs codes out w t in
-      let held = places_held font glyphs codes out w t in
-      let kept = encoding_kept font.dictionary t.new font.bytes.now out g.encoding g.standard (length w.tables) encoding
-      (encoding_look font glyphs codes out w t) held.0 (omega (arith, start)) w.stand.encoding own was in
-      let is = subst (λ m. IsEncodingOf encoding out m) (dictionary_is font glyphs codes out w t view laid) kept in
+      let start = some_tables w in
+      let kept = encoding_kept font.dictionary t.new font.bytes.now out glyphs.encoding glyphs.standard w.put.start encoding
+      (encoding_look w t) (each_held w).0 (omega (arith, start)) (stand w).0 stays was in
+      let is = subst (λ m. IsEncodingOf encoding out m) (dictionary_is w t view laid) kept in
       record { encoding = encoding; is = is; same = λ other there. one_encoding out view.tables.dictionary encoding other is there }
 
   -- and one that gives way is read as the one that takes its place
@@ -193,12 +188,9 @@ module _ (font : FontView) (glyphs : Glyphs) (codes : List (List ℕ)) (out : Li
       IsEncodingOf encoding font.bytes.now font.dictionary →
       GivesWayTo font.dictionary glyphs.encoding glyphs.standard → HasOtherCodes encoding out view.tables.dictionary
   other_codes_there view laid encoding was gives =
-      let g = w.parts.glyphs.now in
-      let own : GivesWayTo font.dictionary g.encoding g.standard = subst
-      (λ (h : Glyphs). GivesWayTo font.dictionary h.encoding h.standard) (sym w.of_glyphs) gives in
-      let o = encoding_other font.dictionary t.new font.bytes.now out g.encoding g.standard (length w.tables) encoding
-      (encoding_look font glyphs codes out w t) own was in
-      let is = subst (λ m. IsEncodingOf o.other out m) (dictionary_is font glyphs codes out w t view laid) o.is in
+      let o = encoding_other font.dictionary t.new font.bytes.now out glyphs.encoding glyphs.standard w.put.start encoding (encoding_look w t)
+      gives was in
+      let is = subst (λ m. IsEncodingOf o.other out m) (dictionary_is w t view laid) o.is in
       record {
         encoding = o.other;
         is = is;
@@ -218,14 +210,14 @@ as_written font glyphs codes out w read exactly given numbers their view laid =
       header = t.header;
       repeats = own.repeats;
       char_strings = own.char_strings;
-      parts = numbers_there font glyphs codes out w t own.view own.laid own.char_strings exactly numbers their.counted
+      parts = numbers_there w t own.view own.laid own.char_strings exactly numbers their.counted
           (λ i less. let few = their.below i less in omega (arith, few, own.repeats.parts.many, length-map font.parts.items part_shown))
           their.gives;
-      whole = none_beside_view font glyphs codes out w t own.view own.laid own.char_strings read exactly given;
+      whole = none_beside_view w t own.view own.laid own.char_strings read exactly given;
     })
   where
     own : IsLaidOutOf font glyphs codes out
     own = laid_out font glyphs codes out w read exactly
 
-    t : TablesStand font glyphs w.parts (length w.tables) out
-    t = w.tables_stand read.laid.tables
+    t : TablesStand font glyphs (named w) out
+    t = tables_stand w read.laid.tables

@@ -1,5 +1,5 @@
--- The bytes of the tables and of the parts of a font, as they are written (Technical Note 5176, "CFF Data Layout").
-use Rattle.std.specs.Prelude.{All, ◌≡◌, ℕ, ◌<◌, ◌^◌, List, [], ◌∷◌, ◌++◌, length, Option, Some, None, IsSome, Vec}
+-- The bytes of the tables and of the pieces of a font, as they are written (Technical Note 5176, "CFF Data Layout").
+use Rattle.std.specs.Prelude.{All, ◌≡◌, ℕ, ◌+◌, ◌<◌, ◌^◌, List, [], ◌∷◌, ◌++◌, length, Option, Some, None, Bool, true, false, IsSome, Vec}
 use Rattle.std.specs.declared.alloc.Global.{Global}
 use Rattle.postscript_base.specs.declared.compact1.operator.Operator.TheVariants.{FDArray}
 use Rattle.postscript_base.specs.Compact1.Dictionary.{Dictionary}
@@ -10,47 +10,38 @@ use Rattle.postscript_view.specs.declared.font.FontView.{FontView}
 use Rattle.postscript_write.specs.Dictionaries.{IsHeld, IsWithPlaces}
 use Rattle.postscript_write.specs.DictionarySizes.{HasSize}
 use Rattle.postscript_write.specs.Index.{FitsIndex, index_text}
-use Rattle.postscript_write.specs.Texts.{TextStands}
+use Rattle.postscript_write.specs.Pieces.{Piece, named_places, pieces_of, pieces_text}
 use Rattle.postscript_write.specs.Privates.{AreFontDictionaries, AreSized, privates_text}
-use Rattle.postscript_write.specs.declared.layout.Parts.{Parts}
+use Rattle.postscript_write.specs.declared.layout.Glyphs.{Glyphs}
 use Rattle.postscript_write.specs.declared.layout.Private.{Private}
-use Rattle.postscript_write.specs.Arrangement.{Beginnings, beginnings, places_of, text_of}
 
 -- a font with an FDSelect has an INDEX of font dictionaries
 abbrev pub dictionaries_text : (select : Option (Vec ℕ Global)) → (dictionaries : List (List ℕ)) → List ℕ
 dictionaries_text (Some select) dictionaries = index_text dictionaries
 dictionaries_text None dictionaries = []
 
--- The font dictionaries of a font with an FDSelect: those that FDArray names, but with the private dictionaries of the parts, the first of
--- which stands at a place.
-abbrev pub NameParts : (bytes : List ℕ) → Dictionary → Parts → (place : ℕ) → (dictionaries : List (List ℕ)) → Type 0
-NameParts bytes map parts place dictionaries =
-    IsSome parts.glyphs.now.select → (items : List (List ℕ)) → NamesIndex bytes map FDArray items →
-    AreFontDictionaries items parts.privates.items place dictionaries
+-- The font dictionaries of a font with an FDSelect: those that FDArray names, but with these private dictionaries, the first of which
+-- stands at a place.
+abbrev pub NamePrivates : (bytes : List ℕ) → Dictionary → (select : Option (Vec ℕ Global)) → List (Option Private) → (place : ℕ) →
+    (dictionaries : List (List ℕ)) → Type 0
+NamePrivates bytes map select privates place dictionaries =
+    IsSome select → (items : List (List ℕ)) → NamesIndex bytes map FDArray items → AreFontDictionaries items privates place dictionaries
 
 -- they have the sizes of those that FDArray names, with these private dictionaries
 abbrev pub AreSizedFor : (bytes : List ℕ) → Dictionary → List (Option Private) → (dictionaries : List (List ℕ)) → Type 0
 AreSizedFor bytes map privates dictionaries =
     (items : List (List ℕ)) × NamesIndex bytes map FDArray items × AreSized items privates dictionaries
 
--- the parts, with these font dictionaries
-abbrev pub parts_text : Parts → (dictionaries : List (List ℕ)) → List ℕ
-parts_text parts dictionaries =
-    text_of parts.glyphs.now.encoding
-    ++ (text_of parts.glyphs.now.select
-    ++ (parts.char_strings.items
-    ++ (privates_text parts.privates.items
-    ++ (dictionaries_text parts.glyphs.now.select dictionaries
-    ++ text_of parts.glyphs.now.char_set))))
+-- the dictionary of a font without FDSelect names its only private dictionary
+abbrev pub is_single : (select : Option (Vec ℕ Global)) → List (Option Private) → Bool
+is_single None (Some private ∷ []) = true
+is_single _ _ = false
 
--- each part stands where it begins
-pub record PartsStand (parts : Parts) (dictionaries : List (List ℕ)) (out : List ℕ) (at : Beginnings) : Type 0 where
-  pub encoding : TextStands (text_of parts.glyphs.now.encoding) out at.encoding
-  pub select : TextStands (text_of parts.glyphs.now.select) out at.select
-  pub char_strings : TextStands parts.char_strings.items out at.char_strings
-  pub privates : TextStands (privates_text parts.privates.items) out at.privates
-  pub font_dictionaries : TextStands (dictionaries_text parts.glyphs.now.select dictionaries) out at.dictionaries
-  pub char_set : TextStands (text_of parts.glyphs.now.char_set) out at.char_set
+-- the pieces of a font of these glyphs
+abbrev pub pieces_for : Glyphs → (char_strings : List ℕ) → List (Option Private) → (dictionaries : List (List ℕ)) → List Piece
+pieces_for glyphs char_strings privates dictionaries =
+    pieces_of glyphs char_strings (is_single glyphs.select privates) (privates_text privates)
+    (dictionaries_text glyphs.select dictionaries)
 
 -- The tables: the header, of version 1.0, with places of four bytes; names, the dictionary of the font, strings, and no subroutines.
 abbrev pub tables_text : (names : List (List ℕ)) (dictionary : List ℕ) (strings : List (List ℕ)) → List ℕ
@@ -61,14 +52,16 @@ tables_text names dictionary strings =
     ++ (index_text strings
     ++ index_text [])))
 
--- The tables of a font whose parts stand from a place on: their dictionary is another one with the places of these parts, where they end
+-- The tables of a font whose pieces stand from a place on: their dictionary is another one with the places of these pieces, where they end
 -- before 2^64. What is written has room.
-pub record AreTablesOf (font : FontView) (dictionary : List ℕ) (parts : Parts) (start : ℕ) (out : List ℕ) : Type 0 where
+pub record AreTablesOf (font : FontView) (dictionary : List ℕ) (glyphs : Glyphs) (pieces : List Piece) (start : ℕ) (out : List ℕ) :
+    Type 0 where
   pub placed : List ℕ
-  pub text : out ≡ tables_text (items_of font.names) placed (texts parts.glyphs.now.strings.texts.items)
-  pub places : (beginnings start parts).end < 2 ^ 64 → IsWithPlaces dictionary (places_of start parts) placed
-  pub sized : (beginnings start parts).end < 2 ^ 64 → HasSize dictionary (places_of start parts) (length placed)
-  pub held : (beginnings start parts).end < 2 ^ 64 → All IsHeld (places_of start parts)
+  pub text : out ≡ tables_text (items_of font.names) placed (texts glyphs.strings.texts.items)
+  pub places : start + length (pieces_text pieces) < 2 ^ 64 → IsWithPlaces dictionary (named_places glyphs.standard start pieces) placed
+  pub sized : start + length (pieces_text pieces) < 2 ^ 64 →
+      HasSize dictionary (named_places glyphs.standard start pieces) (length placed)
+  pub held : start + length (pieces_text pieces) < 2 ^ 64 → All IsHeld (named_places glyphs.standard start pieces)
   pub names_fit : FitsIndex (items_of font.names)
   pub dictionary_fits : FitsIndex (placed ∷ [])
-  pub strings_fit : FitsIndex (texts parts.glyphs.now.strings.texts.items)
+  pub strings_fit : FitsIndex (texts glyphs.strings.texts.items)

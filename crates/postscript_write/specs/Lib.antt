@@ -7,7 +7,7 @@ pub mod Dictionaries
 pub mod DictionarySizes
 pub mod LeftOut
 pub mod Privates
-pub mod Arrangement
+pub mod Pieces
 pub mod ArrangedText
 pub mod Naming
 pub mod Strings

@@ -7,7 +7,7 @@ use Rattle.postscript_base.specs.Compact1.Dictionary.{Dictionary}
 use Rattle.postscript_base.specs.declared.compact1.operator.Operator.{Operator}
 use Rattle.postscript_base.specs.declared.compact1.operator.Operator.TheVariants.{Private}
 use Rattle.postscript_view.specs.Sizes.{IsKeyed}
-use Rattle.postscript_write.specs.Arrangement.{place_at}
+use Rattle.postscript_write.specs.Pieces.{place_at}
 use Rattle.postscript_write.specs.Dictionaries.{IsPlaced}
 use Rattle.postscript_write.specs.Parts.{naming}
 use Rattle.postscript_write.specs.Strings.{identifier_in}

@@ -1,12 +1,12 @@
 -- How many bytes what is written of a font has, at most, and what it is written of.
-use Rattle.std.specs.Prelude.{All, ℕ, ◌+◌, ◌*◌, ◌^◌, ◌<◌, List, length, IsSome}
+use Rattle.std.specs.Prelude.{All, ℕ, ◌+◌, ◌*◌, ◌^◌, ◌<◌, ◌≤◌, List, length, IsSome}
 use Rattle.postscript_base.specs.Index.Lent.{items_of}
 use Rattle.postscript_type2.specs.Program.Routines.{texts}
 use Rattle.postscript_view.specs.Layout.{IsLaidOut}
 use Rattle.postscript_view.specs.Sizes.{HoldFew, IsKeyed}
 use Rattle.postscript_view.specs.Value.{view_shown}
 use Rattle.postscript_view.specs.declared.font.FontView.{FontView}
-use Rattle.postscript_write.specs.Arrangement.{text_of}
+use Rattle.postscript_write.specs.Pieces.{text_of}
 use Rattle.postscript_write.specs.Dictionaries.{IsHeld}
 use Rattle.postscript_write.specs.Renumbered.{all_renamed}
 use Rattle.postscript_write.specs.Sizes.{bytes_in}
@@ -43,3 +43,8 @@ pub record HasRoom (font : FontView) (glyphs : Glyphs) (codes : List (List ℕ))
   pub few_parts : length font.parts.items < 2 ^ 16
   pub renamed : All IsHeld (all_renamed glyphs.strings font.dictionary)
   pub all : room font glyphs codes < 2 ^ 31
+
+-- char strings and private dictionaries of a font of these codes have few bytes
+pub record HasFew (font : FontView) (codes : List (List ℕ)) (strings own : List ℕ) : Type 0 where
+  pub char_strings : length strings ≤ index_room codes
+  pub privates : length own ≤ length font.bytes.now + 20000000

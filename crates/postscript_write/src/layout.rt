@@ -1,5 +1,5 @@
 //! The parts of a font, and where they stand (Technical Note 5176, "CFF Data Layout").
-ghost use Rattle.std.specs.Prelude.{◌≡◌, ◌≢◌, Bool, Some, None, option_map, ◌≤◌, ◌<◌, ◌+◌, ◌^◌, ◌++◌, ℕ, pos, List, [], ◌∷◌, IsSome, length, All, Option, IfErr, IfOk, OnOk};
+ghost use Rattle.std.specs.Prelude.{◌≡◌, ◌≢◌, Some, None, map, option_map, ◌≤◌, ◌<◌, ◌+◌, ◌^◌, ◌++◌, ℕ, pos, List, [], ◌∷◌, IsSome, length, All, Option, IfErr, IfOk, OnOk};
 ghost use Rattle.std.specs.Option.{unwrap_or};
 ghost use Rattle.postscript_base.specs.Compact1.Defaults.{first_two_of, look};
 ghost use Rattle.postscript_base.specs.Compact1.Dictionary.{Dictionary};
@@ -10,35 +10,26 @@ ghost use Rattle.postscript_base.specs.Index.{number_at};
 ghost use Rattle.postscript_base.specs.Index.Lent.{items_of};
 ghost use Rattle.postscript_compact1.specs.FontSet.Parts.{HasFirst};
 ghost use Rattle.postscript_type2.specs.Program.Routines.{texts};
-ghost use Rattle.postscript_view.specs.Layout.{AreParts, AreTables, IsPart, NamesIndex, IsLaidOut};
-ghost use Rattle.postscript_view.specs.Contents.{PrivateDict as Part, Tables, View};
+ghost use Rattle.postscript_view.specs.Layout.{AreParts, AreTables, IsPart, NamesIndex};
+ghost use Rattle.postscript_view.specs.Contents.{PrivateDict as Part, Tables};
 ghost use Rattle.postscript_view.specs.CharSets.{IsCharSetOf};
 ghost use Rattle.postscript_view.specs.Encodings.{IsEncodingOf};
 ghost use Rattle.postscript_view.specs.Select.{offset_of};
 ghost use Rattle.postscript_view.specs.Sizes.{IsKeyed, size_named};
 ghost use Rattle.postscript_view.specs.Value.{parts_shown, view_shown};
-ghost use Rattle.postscript_view.specs.declared.encoding.EncodingView.{EncodingView};
-ghost use Rattle.postscript_write.specs.Arrangement.{beginnings, dictionaries_place, only_place, place_if, places_of, standard_place, text_of};
-ghost use Rattle.postscript_write.specs.ArrangedText.{AreSizedFor, AreTablesOf, NameParts, dictionaries_text, parts_text, tables_text};
-ghost use Rattle.postscript_write.specs.Dictionaries.{IsHeld, IsPlaced, IsWithPlaces};
+ghost use Rattle.postscript_write.specs.ArrangedText.{AreSizedFor, AreTablesOf, NamePrivates, dictionaries_text, is_single, tables_text};
+ghost use Rattle.postscript_write.specs.Dictionaries.{IsHeld, IsWithPlaces};
 ghost use Rattle.postscript_write.specs.DictionarySizes.{HasSize, places_size};
-ghost use Rattle.postscript_write.specs.Fonts.{NamesNoPrivateIfKeyed};
-ghost use Rattle.postscript_write.specs.Given.{AreGiven};
-ghost use Rattle.postscript_write.specs.GivenNumbers.{AreTheirNumbers, GivesWayTo, StaysEncoded};
 ghost use Rattle.postscript_write.specs.Index.{FitsIndex, index_text};
-ghost use Rattle.postscript_write.specs.LaidOut.{IsLaidOutOf, SelectsExactly};
 ghost use Rattle.postscript_view.specs.declared.char_set.CharSetView.{CharSetView as Set};
 ghost use Rattle.postscript_view.specs.declared.encoding.EncodingView.{EncodingView as Encodings};
 ghost use Rattle.postscript_write.specs.Own.{IsCutFrom, IsOwnCharSet, IsOwnEncoding};
+ghost use Rattle.postscript_write.specs.Pieces.{named_places, piece_shown, pieces_of as the_pieces, pieces_text, piece_if, place_of, standard_place, text_of};
 ghost use Rattle.postscript_write.specs.Privates.{AreFontDictionaries, AreSized, AreOwnPrivates, IsFontDictionary, IsOwnPrivate, IsSomeDictionary, NoneIsNamed, place_of_private, private_text, privates_text};
-ghost use Rattle.postscript_write.specs.Glyphs.{Sources};
-ghost use Rattle.postscript_write.specs.Identified.{AreNamesFor, Identifiers};
-ghost use Rattle.postscript_write.specs.ReadBack.{HasCharSetText, HasNames, HasOtherCodes, HasSameCodes, IsAsWritten, keeps_strings};
 ghost use Rattle.postscript_write.specs.Renumbered.{IsRenamed, IsUnnamed, all_renamed, renamed_if};
-ghost use Rattle.postscript_write.specs.Room.{HasRoom, IsRead, SelectsOnlyIfKeyed};
+ghost use Rattle.postscript_write.specs.Room.{HasFew, HasRoom, IsRead, SelectsOnlyIfKeyed};
 ghost use Rattle.postscript_write.specs.Strings.{identifier_in as the_identifier};
-ghost use Rattle.postscript_write.specs.Whole.{IsWholeFont};
-ghost use Rattle.postscript_write.specs.Written.{IsPutTogether};
+ghost use Rattle.postscript_write.specs.Written.{IsPut, IsPutTogether};
 
 use crate::dictionaries::{Place, with_places, without};
 use crate::indices::put_index;
@@ -213,25 +204,73 @@ pub(crate) struct Glyphs {
     pub(crate) strings: Strings,
 }
 
-/// The parts that are written behind the tables: encoding, FDSelect, char strings, private dictionaries, the font dictionaries of
-/// a CID-keyed font, and the char set. That one is the last, since ranges that name too few glyphs end where the font ends.
+/// A piece of a font that is written: its bytes, and the operator that names its place.
 #[derive(Drop)]
-struct Parts<'g> {
-    glyphs: &'g Glyphs,
-    char_strings: Vec<u8>,
-    privates: Vec<Option<Private>>,
-    /// How many bytes the font dictionaries have.
-    dictionaries: usize,
+struct Piece<'p> {
+    operator: Operator,
+    /// Whether the dictionary of the font names it.
+    named: bool,
+    /// Whether it is named with its size, which stands before its place.
+    counted: bool,
+    text: &'p [u8],
 }
 
-/// How many bytes there are, if any.
-fn len_of(bytes: &Option<Vec<u8>>) -> usize
-    ensures { result ≡ length (text_of bytes.now) }
+/// The bytes, if there are any.
+fn text_in(bytes: &Option<Vec<u8>>) -> &[u8]
+    ensures { result.now ≡ text_of bytes.now }
 {
     match bytes {
-        Some(bytes) => bytes.len(),
-        None => 0,
+        Some(bytes) => bytes,
+        None => &[],
     }
+}
+
+/// The piece of an operator, which is named where there are bytes.
+fn piece_of(operator: Operator, bytes: &Option<Vec<u8>>) -> Piece<'_>
+    ensures { piece_shown result ≡ piece_if operator bytes.now }
+{
+    Piece {
+        operator,
+        named: bytes.is_some(),
+        counted: false,
+        text: text_in(bytes),
+    }
+}
+
+/// The pieces behind the tables, one behind another: encoding, FDSelect, char strings, private dictionaries, the font dictionaries of
+/// a CID-keyed font, and the char set. That one is the last, since ranges that name too few glyphs end where the font ends.
+fn pieces_of<'p>(
+    glyphs: &'p Glyphs,
+    char_strings: &'p [u8],
+    single: bool,
+    privates: &'p [u8],
+    dictionaries: &'p [u8],
+) -> [Piece<'p>; 6]
+    ensures { map piece_shown result ≡ the_pieces glyphs.now char_strings.now single privates.now dictionaries.now }
+{
+    [
+        piece_of(Operator::Encoding, &glyphs.encoding),
+        piece_of(Operator::FDSelect, &glyphs.select),
+        Piece {
+            operator: Operator::CharStrings,
+            named: true,
+            counted: false,
+            text: char_strings,
+        },
+        Piece {
+            operator: Operator::Private,
+            named: single,
+            counted: true,
+            text: privates,
+        },
+        Piece {
+            operator: Operator::FDArray,
+            named: glyphs.select.is_some(),
+            counted: false,
+            text: dictionaries,
+        },
+        piece_of(Operator::CharSet, &glyphs.char_set),
+    ]
 }
 
 /// How many bytes a private dictionary has, if there is one.
@@ -244,47 +283,30 @@ fn private_len(private: &Option<Private>) -> usize
     }
 }
 
-/// How many bytes the private dictionaries have.
-fn privates_len(privates: &[Option<Private>]) -> usize
-    ensures { length (privates_text privates.now) < 2 ^ 64 → result ≡ length (privates_text privates.now) }
+/// Whether the dictionary of the font names the only private dictionary. In a CID-keyed font the font dictionaries do.
+fn names_private(select: &Option<Vec<u8>>, privates: &[Option<Private>]) -> bool
+    ensures { result ≡ is_single select.now privates.now }
 {
-    let mut len = 0usize;
-    for private in privates {
-        len = len.saturating_add(private_len(private));
+    match (select, privates) {
+        (None, [Some(_)]) => true,
+        _ => false,
     }
-    len
 }
 
-/// Adds a place to places, where something is written there, and answers the place behind it.
-fn placed(
-    places: &mut Vec<Place>,
-    offset: usize,
-    operator: Operator,
-    text: &Option<Vec<u8>>,
-) -> Result<usize>
-    ensures placed { OnOk result (places.new.items ≡ places.old.items ++ place_if operator text.now offset) }
-    ensures next { IfOk result (λ next. offset + length (text_of text.now) < 2 ^ 64 → next ≡ offset + length (text_of text.now)) }
+/// Adds the place of a piece, where it is named.
+fn place_piece(places: &mut Vec<Place>, piece: &Piece<'_>, offset: usize) -> Result<()>
+    ensures placed { OnOk result (places.new.items ≡ places.old.items ++ place_of (piece_shown piece.now) offset) }
     ensures memory { IfErr result (λ e. e ≡ errors.Memory) }
 {
-    if text.is_some() {
+    if piece.named {
+        let size = if piece.counted {
+            Some(piece.text.len())
+        } else {
+            None
+        };
         places.push(Place {
-            operator,
-            size: None,
-            offset,
-        })?;
-    }
-    Ok(offset.saturating_add(len_of(text)))
-}
-
-/// Adds the place of the only private dictionary, if there is one.
-fn place_only(places: &mut Vec<Place>, privates: &[Option<Private>], offset: usize) -> Result<()>
-    ensures placed { OnOk result (places.new.items ≡ places.old.items ++ only_place privates.now offset) }
-    ensures memory { IfErr result (λ e. e ≡ errors.Memory) }
-{
-    if let [Some(private)] = privates {
-        places.push(Place {
-            operator: Operator::Private,
-            size: Some(private.text.len()),
+            operator: piece.operator,
+            size,
             offset,
         })?;
     }
@@ -306,58 +328,36 @@ fn place_standard(places: &mut Vec<Place>, standard: bool) -> Result<()>
     Ok(())
 }
 
-/// Adds the place of the font dictionaries of a CID-keyed font, or else that of the only private dictionary.
-fn place_dictionaries(
-    places: &mut Vec<Place>,
-    parts: &Parts<'_>,
-    private: usize,
-    behind: usize,
-) -> Result<()>
-    ensures placed { OnOk result (places.new.items ≡ places.old.items
-        ++ dictionaries_place parts.now.glyphs.now.select parts.now.privates.items private behind) }
-    ensures memory { IfErr result (λ e. e ≡ errors.Memory) }
-{
-    if parts.glyphs.select.is_none() {
-        return place_only(places, &parts.privates, private);
-    }
-    places.push(Place {
-        operator: Operator::FDArray,
-        size: None,
-        offset: behind,
-    })?;
-    Ok(())
-}
-
-/// The places of the parts from a place on, which the dictionary of the font names.
-fn places_from(alloc: Global, start: usize, parts: &Parts<'_>) -> Result<Vec<Place>>
-    ensures places { IfOk result (λ places. (beginnings start parts.now).end < 2 ^ 64 → places.items ≡ places_of start parts.now) }
+/// The places that the dictionary of a font names, whose pieces stand from a place on.
+fn places_from(
+    alloc: Global,
+    standard: bool,
+    pieces: &[Piece<'_>],
+    start: usize,
+) -> Result<Vec<Place>>
+    ensures places { IfOk result (λ places. start + length (pieces_text (map piece_shown pieces.now)) < 2 ^ 64 →
+        places.items ≡ named_places standard start (map piece_shown pieces.now)) }
     ensures memory { IfErr result (λ e. e ≡ errors.Memory) }
 {
     let mut places = Vec::new(alloc);
-    let select = placed(
-        &mut places,
-        start,
-        Operator::Encoding,
-        &parts.glyphs.encoding,
-    )?;
-    place_standard(&mut places, parts.glyphs.standard)?;
-    let offset = placed(
-        &mut places,
-        select,
-        Operator::FDSelect,
-        &parts.glyphs.select,
-    )?;
-    places.push(Place {
-        operator: Operator::CharStrings,
-        size: None,
-        offset,
-    })?;
-    let private = offset.saturating_add(parts.char_strings.len());
-    let behind = private.saturating_add(privates_len(&parts.privates));
-    place_dictionaries(&mut places, parts, private, behind)?;
-    let end = behind.saturating_add(parts.dictionaries);
-    placed(&mut places, end, Operator::CharSet, &parts.glyphs.char_set)?;
+    place_standard(&mut places, standard)?;
+    let mut offset = start;
+    for piece in pieces {
+        place_piece(&mut places, piece, offset)?;
+        offset = offset.saturating_add(piece.text.len());
+    }
     Ok(places)
+}
+
+/// Where the private dictionaries begin, if the pieces begin at a place.
+fn private_place(glyphs: &Glyphs, char_strings: &[u8], start: usize) -> usize
+    ensures { start + length (text_of glyphs.now.encoding) + length (text_of glyphs.now.select) + length char_strings.now < 2 ^ 64 →
+        result ≡ start + length (text_of glyphs.now.encoding) + length (text_of glyphs.now.select) + length char_strings.now }
+{
+    start
+        .saturating_add(text_in(&glyphs.encoding).len())
+        .saturating_add(text_in(&glyphs.select).len())
+        .saturating_add(char_strings.len())
 }
 
 /// A font dictionary with its private dictionary at a place.
@@ -544,35 +544,27 @@ fn put_tables(
     put_index(out, &[])
 }
 
-/// The tables of a font whose parts stand from a place on, which the dictionary names.
+/// The tables of a font whose pieces stand from a place on, which the dictionary names.
 fn tables_of(
     alloc: Global,
     font: &FontView<'_>,
     dictionary: &[u8],
-    parts: &Parts<'_>,
+    glyphs: &Glyphs,
+    pieces: &[Piece<'_>],
     start: usize,
 ) -> Result<Vec<u8>>
-    ensures tables { IfOk result (λ out. AreTablesOf font.now dictionary.now parts.now start out.items) }
+    ensures tables { IfOk result (λ out. AreTablesOf font.now dictionary.now glyphs.now (map piece_shown pieces.now) start out.items) }
     ensures refused { IfErr result (λ e. e ≢ errors.Memory → IsSomeDictionary dictionary.now →
-        (beginnings start parts.now).end < 2 ^ 31 → length dictionary.now + places_size (places_of start parts.now) < 2 ^ 31 →
-        FitsIndex (items_of font.now.names) → FitsIndex (texts parts.now.glyphs.now.strings.texts.items) → ⊥) }
+        start + length (pieces_text (map piece_shown pieces.now)) < 2 ^ 64 →
+        All IsHeld (named_places glyphs.now.standard start (map piece_shown pieces.now)) →
+        length dictionary.now + places_size (named_places glyphs.now.standard start (map piece_shown pieces.now)) < 2 ^ 31 →
+        FitsIndex (items_of font.now.names) → FitsIndex (texts glyphs.now.strings.texts.items) → ⊥) }
 {
-    let places = places_from(alloc, start, parts)?;
+    let places = places_from(alloc, glyphs.standard, pieces, start)?;
     let mut out = Vec::new(alloc);
-    let strings = &parts.glyphs.strings.texts;
+    let strings = &glyphs.strings.texts;
     put_tables(alloc, &mut out, font, dictionary, strings, &places)?;
     Ok(out)
-}
-
-/// Appends bytes, if there are any.
-fn put_if(out: &mut Vec<u8>, bytes: &Option<Vec<u8>>) -> Result<()>
-    ensures text { OnOk result (out.new.items ≡ out.old.items ++ text_of bytes.now) }
-    ensures memory { IfErr result (λ e. e ≡ errors.Memory) }
-{
-    if let Some(bytes) = bytes {
-        out.extend_from_slice(bytes)?;
-    }
-    Ok(())
 }
 
 /// Appends a private dictionary, if there is one.
@@ -586,87 +578,89 @@ fn put_private(out: &mut Vec<u8>, private: &Option<Private>) -> Result<()>
     Ok(())
 }
 
-/// Appends private dictionaries.
-fn put_privates(out: &mut Vec<u8>, privates: &[Option<Private>]) -> Result<()>
-    ensures text { OnOk result (out.new.items ≡ out.old.items ++ privates_text privates.now) }
+/// Private dictionaries, one behind another.
+fn joined(alloc: Global, privates: &[Option<Private>]) -> Result<Vec<u8>>
+    ensures text { IfOk result (λ out. out.items ≡ privates_text privates.now) }
     ensures memory { IfErr result (λ e. e ≡ errors.Memory) }
 {
+    let mut out = Vec::new(alloc);
     for private in privates {
-        put_private(out, private)?;
+        put_private(&mut out, private)?;
     }
-    Ok(())
+    Ok(out)
 }
 
-/// Appends the font dictionaries of a CID-keyed font, whose private dictionaries stand behind the bytes of a length.
-fn put_dictionaries(
-    alloc: Global,
-    out: &mut Vec<u8>,
-    font: &FontView<'_>,
-    parts: &Parts<'_>,
-    start: usize,
-) -> Result<()>
-    ensures text { OnOk result ((dictionaries : List (List ℕ))
-        × (out.new.items ≡ out.old.items ++ dictionaries_text parts.now.glyphs.now.select dictionaries)
-        × (start + length (privates_text parts.now.privates.items) < 2 ^ 64 →
-        NameParts font.now.bytes.now font.now.dictionary parts.now start dictionaries)
-        × (IsSome parts.now.glyphs.now.select →
-        AreSizedFor font.now.bytes.now font.now.dictionary parts.now.privates.items dictionaries)
-        × (IsSome parts.now.glyphs.now.select → FitsIndex dictionaries)) }
-    ensures refused { IfErr result (λ e. e ≢ errors.Memory → IsRead font.now → SelectsOnlyIfKeyed font.now parts.now.glyphs.now →
-        length font.now.parts.items < 2 ^ 16 → AreOwnPrivates (parts_shown font.now.parts.items) parts.now.privates.items →
-        start + length (privates_text parts.now.privates.items) < 2 ^ 31 → ⊥) }
-{
-    if parts.glyphs.select.is_none() {
-        return Ok(());
-    }
-    let dictionaries = font_dictionaries(alloc, font, &parts.privates, start)?;
-    put_index(out, &dictionaries)?;
-    Ok(())
-}
-
-/// Appends the parts behind the tables.
-fn put_parts(alloc: Global, out: &mut Vec<u8>, font: &FontView<'_>, parts: &Parts<'_>) -> Result<()>
-    ensures text { OnOk result ((dictionaries : List (List ℕ)) × (out.new.items ≡ out.old.items ++ parts_text parts.now dictionaries)
-        × NameParts font.now.bytes.now font.now.dictionary parts.now (beginnings (length out.old.items) parts.now).privates dictionaries
-        × (IsSome parts.now.glyphs.now.select →
-        AreSizedFor font.now.bytes.now font.now.dictionary parts.now.privates.items dictionaries)
-        × (IsSome parts.now.glyphs.now.select → FitsIndex dictionaries)) }
-    ensures refused { IfErr result (λ e. e ≢ errors.Memory → IsRead font.now → SelectsOnlyIfKeyed font.now parts.now.glyphs.now →
-        length font.now.parts.items < 2 ^ 16 → AreOwnPrivates (parts_shown font.now.parts.items) parts.now.privates.items →
-        (beginnings (length out.old.items) parts.now).end < 2 ^ 31 → ⊥) }
-{
-    put_if(out, &parts.glyphs.encoding)?;
-    put_if(out, &parts.glyphs.select)?;
-    out.extend_from_slice(&parts.char_strings)?;
-    let start = out.len();
-    put_privates(out, &parts.privates)?;
-    put_dictionaries(alloc, out, font, parts, start)?;
-    put_if(out, &parts.glyphs.char_set)
-}
-
-/// How many bytes the font dictionaries of a CID-keyed font have: as many, wherever the private dictionaries stand. Those that are read
-/// have at most 20,000,000 (`HoldFew`), and each has at most 15 more as it is written: its offset, and the place of its private dictionary.
-fn dictionaries_len(
+/// The INDEX of the font dictionaries of a CID-keyed font, whose private dictionaries stand one behind another from a place on; no bytes
+/// in another font. It has as many bytes wherever they stand. The font dictionaries that are read have at most 20,000,000 (`HoldFew`),
+/// and each has at most 15 more as it is written: its offset, and the place of its private dictionary.
+fn font_array(
     alloc: Global,
     font: &FontView<'_>,
     glyphs: &Glyphs,
     privates: &[Option<Private>],
-) -> Result<usize>
-    ensures len { IfOk result (λ len. (dictionaries : List (List ℕ)) × (len ≡ length (dictionaries_text glyphs.now.select dictionaries))
-        × (IsSome glyphs.now.select → AreSizedFor font.now.bytes.now font.now.dictionary privates.now dictionaries)) }
-    ensures few { IfOk result (λ len. IsRead font.now → SelectsOnlyIfKeyed font.now glyphs.now → length font.now.parts.items < 2 ^ 16 →
-        len ≤ 21000000) }
+    start: usize,
+) -> Result<Vec<u8>>
+    ensures text { IfOk result (λ out. (dictionaries : List (List ℕ))
+        × (out.items ≡ dictionaries_text glyphs.now.select dictionaries)
+        × (start + length (privates_text privates.now) < 2 ^ 64 →
+        NamePrivates font.now.bytes.now font.now.dictionary glyphs.now.select privates.now start dictionaries)
+        × (IsSome glyphs.now.select → AreSizedFor font.now.bytes.now font.now.dictionary privates.now dictionaries)
+        × (IsSome glyphs.now.select → FitsIndex dictionaries)) }
+    ensures few { IfOk result (λ out. IsRead font.now → SelectsOnlyIfKeyed font.now glyphs.now → length font.now.parts.items < 2 ^ 16 →
+        length out.items ≤ 21000000) }
     ensures refused { IfErr result (λ e. e ≢ errors.Memory → IsRead font.now → SelectsOnlyIfKeyed font.now glyphs.now →
         length font.now.parts.items < 2 ^ 16 → AreOwnPrivates (parts_shown font.now.parts.items) privates.now →
-        length (privates_text privates.now) < 2 ^ 31 → ⊥) }
+        start + length (privates_text privates.now) < 2 ^ 31 → ⊥) }
 {
-    if glyphs.select.is_none() {
-        return Ok(0);
-    }
     let mut out = Vec::new(alloc);
-    let dictionaries = font_dictionaries(alloc, font, privates, 0)?;
+    if glyphs.select.is_none() {
+        return Ok(out);
+    }
+    let dictionaries = font_dictionaries(alloc, font, privates, start)?;
     put_index(&mut out, &dictionaries)?;
-    Ok(out.len())
+    Ok(out)
+}
+
+/// Appends pieces.
+fn put_pieces(out: &mut Vec<u8>, pieces: &[Piece<'_>]) -> Result<()>
+    ensures text { OnOk result (out.new.items ≡ out.old.items ++ pieces_text (map piece_shown pieces.now)) }
+    ensures memory { IfErr result (λ e. e ≡ errors.Memory) }
+{
+    for piece in pieces {
+        out.extend_from_slice(piece.text)?;
+    }
+    Ok(())
+}
+
+/// The tables and the pieces of a font with these char strings and private dictionaries, and with this dictionary, but for places. Tables
+/// have one length wherever the pieces stand, and font dictionaries wherever private dictionaries do: so a draft tells where they stand.
+fn put_together(
+    alloc: Global,
+    font: &FontView<'_>,
+    glyphs: &Glyphs,
+    char_strings: &[u8],
+    privates: &[Option<Private>],
+    dictionary: &[u8],
+) -> Result<Vec<u8>>
+    ensures put { IfOk result (λ out. IsPut font.now glyphs.now char_strings.now privates.now dictionary.now out.items) }
+    ensures refused { IfErr result (λ e. e ≢ errors.Memory → IsRead font.now → SelectsOnlyIfKeyed font.now glyphs.now →
+        (codes : List (List ℕ)) → HasRoom font.now glyphs.now codes →
+        HasFew font.now codes char_strings.now (privates_text privates.now) →
+        AreOwnPrivates (parts_shown font.now.parts.items) privates.now → IsSomeDictionary dictionary.now →
+        length dictionary.now ≤ length font.now.bytes.now + places_size (all_renamed glyphs.now.strings font.now.dictionary) → ⊥) }
+{
+    let single = names_private(&glyphs.select, privates);
+    let text = joined(alloc, privates)?;
+    let draft = font_array(alloc, font, glyphs, privates, 0)?;
+    let pieces = pieces_of(glyphs, char_strings, single, &text, &draft);
+    let tables = tables_of(alloc, font, dictionary, glyphs, &pieces, 0)?;
+    let start = tables.len();
+    let place = private_place(glyphs, char_strings, start);
+    let array = font_array(alloc, font, glyphs, privates, place)?;
+    let pieces = pieces_of(glyphs, char_strings, single, &text, &array);
+    let mut out = tables_of(alloc, font, dictionary, glyphs, &pieces, start)?;
+    put_pieces(&mut out, &pieces)?;
+    Ok(out)
 }
 
 /// A font with these codes in the place of its char strings, and without subroutines.
@@ -677,47 +671,12 @@ pub(crate) fn written(
     codes: &[Vec<u8>],
 ) -> Result<Vec<u8>>
     ensures written { IfOk result (λ out. IsPutTogether font.now glyphs.now (texts codes.now) out.items) }
-    ensures laid_out { IfOk result (λ out. IsRead font.now → SelectsExactly font.now glyphs.now →
-        IsLaidOutOf font.now glyphs.now (texts codes.now) out.items) }
-    ensures whole { IfOk result (λ out. IsRead font.now → SelectsExactly font.now glyphs.now →
-        AreGiven font.now glyphs.now (length (texts codes.now)) → IsWholeFont out.items) }
-    ensures back { IfOk result (λ out. IsRead font.now → SelectsExactly font.now glyphs.now →
-        AreGiven font.now glyphs.now (length (texts codes.now)) → (numbers : List ℕ) →
-        AreTheirNumbers font.now glyphs.now (length (texts codes.now)) numbers → (new : View) → IsLaidOut out.items 0 new →
-        IsAsWritten numbers (texts codes.now) (view_shown font.now) out.items new) }
-    ensures same_codes { IfOk result (λ out. IsRead font.now → (encoding : EncodingView) →
-        IsEncodingOf encoding font.now.bytes.now font.now.dictionary →
-        StaysEncoded font.now.bytes.now font.now.dictionary glyphs.now.encoding glyphs.now.standard → (new : View) →
-        IsLaidOut out.items 0 new → HasSameCodes encoding out.items new.tables.dictionary) }
-    ensures other_codes { IfOk result (λ out. IsRead font.now → (encoding : EncodingView) →
-        IsEncodingOf encoding font.now.bytes.now font.now.dictionary →
-        GivesWayTo font.now.dictionary glyphs.now.encoding glyphs.now.standard → (new : View) →
-        IsLaidOut out.items 0 new → HasOtherCodes encoding out.items new.tables.dictionary) }
-    ensures names { IfOk result (λ out. IsRead font.now → SelectsExactly font.now glyphs.now → (kept : Bool) (sources : Sources)
-        (identifiers : Identifiers) (set : Set) →
-        IsCharSetOf set font.now.bytes.now font.now.dictionary (length (items_of font.now.char_strings)) →
-        AreNamesFor kept font.now set sources identifiers glyphs.now → length (texts codes.now) ≡ length sources → (new : View) →
-        IsLaidOut out.items 0 new →
-        HasNames (keeps_strings kept font.now.dictionary) sources (view_shown font.now) set out.items new) }
-    ensures char_set { IfOk result (λ out. IsRead font.now → (new : View) → IsLaidOut out.items 0 new →
-        HasCharSetText font.now.dictionary glyphs.now.char_set out.items new.tables.dictionary) }
-    ensures unnamed { IfOk result (λ out. IsRead font.now → SelectsExactly font.now glyphs.now → (new : View) →
-        IsLaidOut out.items 0 new → NamesNoPrivateIfKeyed new.tables.dictionary) }
     ensures refused { IfErr result (λ e. e ≢ errors.Memory → IsRead font.now → SelectsOnlyIfKeyed font.now glyphs.now →
         HasRoom font.now glyphs.now (texts codes.now) → ⊥) }
 {
     let mut char_strings = Vec::new(alloc);
     put_index(&mut char_strings, codes)?;
     let privates = own_privates(alloc, font)?;
-    let parts = Parts {
-        glyphs,
-        char_strings,
-        dictionaries: dictionaries_len(alloc, font, glyphs, &privates)?,
-        privates,
-    };
     let dictionary = dictionary_with(alloc, font, &glyphs.strings)?;
-    let draft = tables_of(alloc, font, &dictionary, &parts, 0)?;
-    let mut out = tables_of(alloc, font, &dictionary, &parts, draft.len())?;
-    put_parts(alloc, &mut out, font, &parts)?;
-    Ok(out)
+    put_together(alloc, font, glyphs, &char_strings, &privates, &dictionary)
 }

@@ -5,13 +5,21 @@ use Rattle.postscript_view.specs.Value.{view_shown}
 use Rattle.postscript_write.proofs.Counts.{numbers_low}
 use Rattle.postscript_write.proofs.GivenBack.{codes_back, given, their_numbers}
 use Rattle.postscript_write.proofs.Identifying.{few_for}
+use Rattle.postscript_write.proofs.LaidOut.{laid_out}
 use Rattle.postscript_write.proofs.Little.{are_little}
+use Rattle.postscript_write.proofs.NamesBack.{names_back}
+use Rattle.postscript_write.proofs.NoByteBeside.{dictionary_is}
+use Rattle.postscript_write.proofs.Put.{tables_stand}
 use Rattle.postscript_write.proofs.ReadAgain.{font_as, one_view}
+use Rattle.postscript_write.proofs.SetStands.{set_there, unnamed_there}
 use Rattle.postscript_write.proofs.Spare.{has_room}
 use Rattle.postscript_write.proofs.WholeAgain.{stays_whole}
+use Rattle.postscript_write.proofs.WrittenBack.{as_written, codes_there, other_codes_there}
+use Rattle.postscript_write.specs.Fonts.{NamesNoPrivateIfKeyed}
 use Rattle.postscript_write.specs.Given.{AreGiven}
 use Rattle.postscript_write.specs.GivenNumbers.{AreTheirNumbers}
 use Rattle.postscript_write.specs.Numbered.{AreGlyphsFor}
+use Rattle.postscript_write.specs.ReadBack.{HasCharSetText}
 use Rattle.postscript_write.specs.Room.{HasRoom}
 use Rattle.postscript_write.proofs.whole.put_together.Goals as goal
 
@@ -51,19 +59,22 @@ returns-in-Ok-clause-made c =
     let their : AreTheirNumbers font glyphs (length codes) numbers =
     their_numbers font glyphs numbers from.retain_gids from.set.now sources identifiers
     (length codes) c.requires.sources c.requires.numbers many low less found.select in
-    let laid = c.in-Ok.ensures.laid_out c.requires.read found.selects in (
+    let w = c.in-Ok.ensures.written in
+    let t = tables_stand w c.requires.read.laid.tables in
+    let laid = laid_out font glyphs codes c.in-Ok.flat.items w c.requires.read found.selects in (
       laid.view,
       record {
         laid = laid.laid;
-        written = c.in-Ok.ensures.back c.requires.read found.selects all numbers their laid.view laid.laid;
-        names = c.in-Ok.ensures.names c.requires.read found.selects from.retain_gids sources identifiers from.set.now c.requires.set
+        written = as_written font glyphs codes c.in-Ok.flat.items w c.requires.read found.selects all numbers their laid.view laid.laid;
+        names = names_back font glyphs codes c.in-Ok.flat.items w c.requires.read found.selects from.retain_gids sources identifiers
+            from.set.now c.requires.set
             (record { sources_are = c.requires.sources; strings = found.strings; char_set = found.char_set }) many laid.view laid.laid;
         same_codes =
             codes_back font glyphs from.retain_gids from.set.now _ sources identifiers from.encoding.now c.in-Ok.flat.items
             laid.view.tables.dictionary c.requires.sources found.encoding
-            (λ stays. c.in-Ok.ensures.same_codes c.requires.read from.encoding.now c.requires.encoding stays laid.view laid.laid)
-            (λ gives. c.in-Ok.ensures.other_codes c.requires.read from.encoding.now c.requires.encoding gives laid.view laid.laid);
-        unnamed = c.in-Ok.ensures.unnamed c.requires.read found.selects laid.view laid.laid;
+            (codes_there w t laid.view laid.laid from.encoding.now c.requires.encoding)
+            (other_codes_there w t laid.view laid.laid from.encoding.now c.requires.encoding);
+        unnamed = subst NamesNoPrivateIfKeyed (dictionary_is w t laid.view laid.laid) (unnamed_there w t found.selects);
       },
     )
 
@@ -95,11 +106,15 @@ returns-in-Ok-clause-lenient c = λ was.
     let font = from.font.now in
     let found = c.in_ok-glyphs.ensures in
     let made = returns-in-Ok-clause-made c in
-    let laid = c.in-Ok.ensures.laid_out c.requires.read found.selects in
-    stays_whole font c.in_ok-glyphs.glyphs from.retain_gids from.set.now from.sources.now c.args.identifiers.now from.encoding.now
+    let glyphs = c.in_ok-glyphs.glyphs in
+    let w = c.in-Ok.ensures.written in
+    let t = tables_stand w c.requires.read.laid.tables in
+    let laid = laid_out font glyphs (texts from.codes.now) c.in-Ok.flat.items w c.requires.read found.selects in
+    stays_whole font glyphs from.retain_gids from.set.now from.sources.now c.args.identifiers.now from.encoding.now
     from.numbers.now (texts from.codes.now) c.in-Ok.flat.items laid.view
     c.requires.read c.requires.encoding c.requires.sources c.requires.codes found.strings found.char_set made.1 laid.strings
-    (c.in-Ok.ensures.char_set c.requires.read laid.view laid.laid) was
+    (subst (λ map. HasCharSetText font.dictionary glyphs.char_set c.in-Ok.flat.items map) (dictionary_is w t laid.view laid.laid)
+    (set_there w t)) was
 
 pub returns-clause-memory : goal.returns-clause-memory
 returns-clause-memory c =
