@@ -9,11 +9,9 @@ use Rattle.postscript_drawing.specs.Accents.{IsAccentOf, run_by}
 use Rattle.postscript_drawing.specs.Components.{IsComponent, glyphs_of}
 use Rattle.postscript_drawing.specs.Refused.{IsAccented}
 use Rattle.postscript_drawing.specs.declared.accent.Accent.{Accent}
-use Rattle.postscript_base.specs.Refusal.{Refusal}
 use Rattle.postscript_base.specs.Index.Lent.{items_of}
 use Rattle.postscript_type2.specs.Program.Evaluation.{run_of}
 use Rattle.postscript_type2.specs.Program.Routines.{lent}
-use Rattle.postscript_type2.specs.Program.Runs.{End, UsedUp, Returned, Finished, Fault, fault_of, taken_by}
 use Rattle.postscript_view.specs.Advances.{HasRun}
 use Rattle.postscript_view.specs.Glyphs.{HasGlyph}
 use Rattle.postscript_view.specs.declared.font.FontView.{FontView}
@@ -24,12 +22,6 @@ use Rattle.postscript_write.proofs.Marks.{apart}
 use Rattle.postscript_write.proofs.Uniqueness.{one-accent, one-component, one-run}
 
 -- nothing is named where a run is refused
-pub none-taken : (end : End) (refusal : Refusal) → fault_of end ≡ Some refusal → taken_by end ≡ []
-none-taken UsedUp refusal h = refl
-none-taken (Returned st) refusal h = refl
-none-taken (Finished taken width) refusal h = let never : None ≡ Some refusal = h in absurd (cc)
-none-taken (Fault e) refusal h = refl
-
 pub has-run : (font : FontView) (i : ℕ) (glyph : Glyph) → HasGlyph font i glyph.code.now glyph.part.now →
     items_of glyph.global_subroutines ≡ items_of font.global_subroutines → HasRun font i glyph.part.now (run_by glyph)
 has-run font i glyph has same = record {

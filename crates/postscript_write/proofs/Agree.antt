@@ -1,5 +1,5 @@
 -- Lists that agree at every place so far.
-use Rattle.std.proofs.Common.{◌≡◌, refl, sym, ap, subst, ◌∙◌, ℕ, zero, suc, ◌+◌, ◌<◌, List, [], ◌∷◌, ◌++◌, length, get_or, arith, below_more, Vec, Bool, true, false, not, eqb}
+use Rattle.std.proofs.Common.{◌≡◌, refl, sym, ap, subst, ◌∙◌, ℕ, ◌+◌, ◌<◌, List, [], ◌∷◌, ◌++◌, length, get_or, arith, below_more, Vec, Bool, true, false, not, eqb}
 use Rattle.std.proofs.lemmas.List.{get_or_default, get_or_push}
 use Rattle.std.proofs.lemmas.Slice.Eq.{bytes_eq-Decides}
 use Rattle.std.specs.Cmp.Lexicographic.{pointwise}
@@ -19,12 +19,6 @@ alike xs ys b e f = by (pointwise eqb xs ys) refl
     by : (p : Bool) → pointwise eqb xs ys ≡ p → xs ≡ ys
     by true p = (bytes_eq-Decides xs ys).0 p
     by false p = let g : true ≡ false = ap not (sym p) ∙ sym e ∙ f in absurd (cc)
-
-pub text_at : (codes : List (Vec ℕ Global)) (i : ℕ) (item : Vec ℕ Global) → item ≡ get_or codes i item → (text : List ℕ) →
-    text ≡ item.items → i < length codes → text ≡ get_or (texts codes) i text
-text_at [] i item e text is h = absurd (omega arith)
-text_at (code ∷ codes) zero item e text is h = is ∙ ap (λ (v : Vec ℕ Global). v.items) e
-text_at (code ∷ codes) (suc i) item e text is h = text_at codes i item e text is (omega arith)
 
 -- Lists of items differ where items in one place do.
 pub differ : (xs ys : List (List ℕ)) (i : ℕ) (x y : List ℕ) (b : Bool) → x ≡ get_or xs i x → y ≡ get_or ys i y → i < length xs →

@@ -1,6 +1,6 @@
 -- Known texts and places of what is written (Technical Note 5176, sections 5, 10, 13 and 19).
 use Rattle.std.proofs.Common.{◌≡◌, refl, ap, ℕ, List, [], ◌∷◌, length, true, false}
-use Rattle.postscript_write.proofs.Pieces.{behind_all}
+use Rattle.postscript_write.proofs.Pieces.{behind_all, texts_in}
 use Rattle.std.specs.Prelude.{Option, Some, None, slice_index_or}
 use Rattle.std.specs.Option.{unwrap_or}
 use Rattle.postscript_base.specs.declared.compact1.operator.Operator.TheVariants.{CharSet, CharStrings, Encoding, FullName, Private}
@@ -60,5 +60,5 @@ one_behind_the_other : (e c p s : List ℕ) → length e ≡ 4 → length c ≡ 
     ∷ record { operator = Private; named = true; counted = true; text = p }
     ∷ record { operator = CharSet; named = true; counted = false; text = s } ∷ [] in
     (places 100 pieces ≡ place_at Encoding 100 ∷ place_at CharStrings 104
-    ∷ record { operator = Private; size = Some 12; offset = 134 } ∷ place_at CharSet 146 ∷ []) × (behind_all 100 pieces ≡ 153)
+    ∷ record { operator = Private; size = Some 12; offset = 134 } ∷ place_at CharSet 146 ∷ []) × (behind_all 100 (texts_in pieces) ≡ 153)
 one_behind_the_other e c p s is_e is_c is_p is_s = rw (is_e, is_c, is_p, is_s) (refl, refl)

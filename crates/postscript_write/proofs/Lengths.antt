@@ -1,5 +1,5 @@
 -- What has the same length wherever the parts stand.
-use Rattle.std.proofs.Common.{◌≡◌, refl, sym, ap, ◌∙◌, ℕ, suc, ◌+◌, ◌*◌, ◌<◌, List, [], ◌∷◌, ◌++◌, length, length-append, map, get_or, Option, Some, None, Bool, true, false, Vec, arith}
+use Rattle.std.proofs.Common.{◌≡◌, refl, sym, ap, ◌∙◌, ℕ, suc, ◌+◌, ◌*◌, ◌<◌, List, [], ◌∷◌, length, length-append, map, get_or, Option, Some, None, Bool, true, false, Vec, arith}
 use Rattle.std.specs.List.{concat}
 use Rattle.std.specs.Prelude.{IsSome}
 use Rattle.std.specs.Option.{is_none}
@@ -16,6 +16,7 @@ use Rattle.postscript_write.specs.declared.layout.Private.{Private}
 use Rattle.postscript_write.proofs.Arranged.{named_opened}
 use Rattle.postscript_write.proofs.IndexStands.{behind_is, length-index_text}
 use Rattle.postscript_write.proofs.Pieces.{all_alike, bare, together}
+use Rattle.postscript_write.proofs.TablesStand.{tables_length}
 use Rattle.postscript_write.proofs.Without.{one_size}
 
 same_concat : (xs ys : List (List ℕ)) → length xs ≡ length ys →
@@ -85,12 +86,4 @@ same_tables names strings dictionary standard ps qs m n first second same a b =
     let alike = together front front (places m ps) (places n qs) (record { names = refl; sizes = refl }) (all_alike ps qs m n same) in
     let single = same_single first second (one_size dictionary (named_places standard m ps) (named_places standard n qs) (length first)
     (length second) a b alike.names alike.sizes) in
-    let rest : List ℕ = index_text strings ++ index_text [] in
-    omega (
-      arith,
-      length-append (index_text names) (index_text (first ∷ []) ++ rest),
-      length-append (index_text names) (index_text (second ∷ []) ++ rest),
-      length-append (index_text (first ∷ [])) rest,
-      length-append (index_text (second ∷ [])) rest,
-      single,
-    )
+    omega (arith, tables_length names strings first, tables_length names strings second, single)

@@ -177,54 +177,54 @@ module _ (flat : List ℕ) (old new : View) (laid : IsLaidOut flat 0 new) (heade
   abbrev t : view.AreTables flat (number_at flat 2 1) 0 new.tables
   t = laid.tables
 
-  abbrev ends : TablesEnd flat whole.tables
-  ends = whole.of_tables
+  abbrev ends : TablesEnd flat 0 whole.0
+  ends = whole.1
 
-  names : Strict flat 4 new.tables.names ends.names t.names_next
+  names : Strict flat 4 new.tables.names ends.0 t.names_next
   names =
       let start : 4 ≡ number_at flat 2 1 = sym (header_there flat header_is).1 in
-      strict_as flat 4 (number_at flat 2 1) ends.names t.names_next ends.of_names.0 new.tables.names start ends.of_names.1 t.are_names
+      strict_as flat 4 (number_at flat 2 1) ends.0 t.names_next ends.1.0 new.tables.names start ends.1.1 t.are_names
       names_some
 
   one_dictionary_there : t.dictionaries ≡ t.item ∷ []
   one_dictionary_there =
-      let single = ends.of_dictionary in
+      let single = ends.2.1 in
       let opened = subst (λ p. IsOpened flat p t.dictionaries t.dictionaries_next) (sym names.end) t.are_dictionaries in
-      let same = same_open flat ends.names single.0 t.dictionaries ends.dictionary t.dictionaries_next
-      (is_opened flat ends.names single.0 ends.dictionary single.1) opened in
+      let same = same_open flat ends.0 single.0 t.dictionaries ends.2.0 t.dictionaries_next
+      (is_opened flat ends.0 single.0 ends.2.0 single.1) opened in
       only t.dictionaries t.item (ap length (sym same.0) ∙ single.2) t.there
 
-  dictionaries : Strict flat ends.names t.dictionaries ends.dictionary t.dictionaries_next
+  dictionaries : Strict flat ends.0 t.dictionaries ends.2.0 t.dictionaries_next
   dictionaries =
       let named = laid.char_strings.named in
       let some = one_some t.item (map_some t.item own_map named.0 t.is_dictionary named.1) in
-      strict_as flat ends.names t.names_next ends.dictionary t.dictionaries_next ends.of_dictionary.0 t.dictionaries names.end
-      ends.of_dictionary.1 t.are_dictionaries (subst HaveBytes (sym one_dictionary_there) some)
+      strict_as flat ends.0 t.names_next ends.2.0 t.dictionaries_next ends.2.1.0 t.dictionaries names.end
+      ends.2.1.1 t.are_dictionaries (subst HaveBytes (sym one_dictionary_there) some)
 
-  strings : Strict flat ends.dictionary new.tables.strings ends.strings t.strings_next
+  strings : Strict flat ends.2.0 new.tables.strings ends.2.2.0 t.strings_next
   strings =
-      strict_as flat ends.dictionary t.dictionaries_next ends.strings t.strings_next ends.of_strings.0 new.tables.strings dictionaries.end
-      ends.of_strings.1 t.are_strings strings_some
+      strict_as flat ends.2.0 t.dictionaries_next ends.2.2.0 t.strings_next ends.2.2.1.0 new.tables.strings dictionaries.end
+      ends.2.2.1.1 t.are_strings strings_some
 
-  subroutines : IsIndex flat ends.strings empty t.next
+  subroutines : IsIndex flat ends.2.2.0 empty t.next
   subroutines =
       let none = subst (λ (xs : List (List ℕ)). IsOpened flat t.strings_next xs t.next) repeats.no_global t.are_subroutines in
-      none_opened flat ends.strings t.next (subst (λ p. IsOpened flat p [] t.next) (sym strings.end) none)
+      none_opened flat ends.2.2.0 t.next (subst (λ p. IsOpened flat p [] t.next) (sym strings.end) none)
 
-  codes_named : HasFirst own_map CharStrings (pos whole.select)
-  codes_named = offset_first own_map CharStrings whole.select whole.named
+  codes_named : HasFirst own_map CharStrings (pos whole.2.2.0)
+  codes_named = offset_first own_map CharStrings whole.2.2.0 whole.2.2.2.1.0
 
-  codes_at : whole.select ≡ laid.char_strings.named.0
-  codes_at = one_first own_map CharStrings whole.select laid.char_strings.named.0 codes_named laid.char_strings.named.1
+  codes_at : whole.2.2.0 ≡ laid.char_strings.named.0
+  codes_at = one_first own_map CharStrings whole.2.2.0 laid.char_strings.named.0 codes_named laid.char_strings.named.1
 
-  codes : Strict flat whole.select new.char_strings whole.char_strings laid.char_strings.named.2.0
+  codes : Strict flat whole.2.2.0 new.char_strings whole.2.2.2.0 laid.char_strings.named.2.0
   codes =
       let named = laid.char_strings.named in
-      strict_as flat whole.select named.0 whole.char_strings named.2.0 whole.of_char_strings.0 new.char_strings codes_at
-      whole.of_char_strings.1
+      strict_as flat whole.2.2.0 named.0 whole.2.2.2.0 named.2.0 whole.2.2.2.1.1.0 new.char_strings codes_at
+      whole.2.2.2.1.1.1
       named.2.2 codes_some
 
-  codes_place : IsPlace (0 + whole.select)
+  codes_place : IsPlace (0 + whole.2.2.0)
   codes_place = let at = codes_at in subst IsPlace (omega (arith, at)) laid.char_strings.named.2.1
 
   locals : (manner : _) → ((operands : Option Decimal) → operands ≡ None → IsLacking manner operands) →
@@ -271,10 +271,10 @@ module _ (flat : List ℕ) (old new : View) (laid : IsLaidOut flat 0 new) (heade
           place = omega arith;
           are_tables = record {
             names = names.index;
-            names_next = ends.names;
+            names_next = ends.0;
             dictionaries = dictionaries.index;
-            dictionaries_next = ends.dictionary;
-            strings_next = ends.strings;
+            dictionaries_next = ends.2.0;
+            strings_next = ends.2.2.0;
             are_names = names.is;
             texts = refl;
             are_items = dictionaries.is;
@@ -287,15 +287,15 @@ module _ (flat : List ℕ) (old new : View) (laid : IsLaidOut flat 0 new) (heade
           are_parts = (
             local.1,
             record {
-              char_strings_next = whole.char_strings;
+              char_strings_next = whole.2.2.2.0;
               encoding = is_encoding;
               char_strings = (
-                whole.select,
+                whole.2.2.0,
                 codes_named,
                 laid.char_strings.type,
                 codes_place,
                 subst
-                    (λ p. IsIndex flat p codes.index whole.char_strings) (on whole.select) codes.is,
+                    (λ p. IsIndex flat p codes.index whole.2.2.2.0) (on whole.2.2.0) codes.is,
               );
               char_set = subst (λ n. HasCharSet flat 0 n own_map set) (sym (ap length codes.items_are)) is_set;
               locals = local.2;

@@ -39,7 +39,6 @@ pub mod Places
 pub mod Reaching
 pub mod Drawings
 pub mod SameGlyphs
-pub mod Successive
 pub mod Sums
 pub mod Ranges
 pub mod Endings

@@ -77,17 +77,6 @@ refused_by font sources numbers flats i (MissingName glyph) less h before = absu
 refused_by font sources numbers flats i NoGlyphs less h before = absurd h
 refused_by font sources numbers flats i TooLarge less h before = absurd h
 
-pub font_refused : (bytes : List ℕ) (font : View) (sources : Sources) (numbers : List ℕ) (e : Error) →
-    AreNumbersOf bytes font sources numbers → RefusedBy font sources numbers e → FontRefusedBy bytes font sources e
-font_refused bytes font sources numbers (Glyph glyph cause) are h = (numbers, are, h)
-font_refused bytes font sources numbers (Refused cause) are h = λ n. absurd (n h)
-font_refused bytes font sources numbers SeveralFonts are h = absurd h
-font_refused bytes font sources numbers (MissingGlyph glyph) are h = absurd h
-font_refused bytes font sources numbers (MissingPart glyph) are h = absurd h
-font_refused bytes font sources numbers (MissingName glyph) are h = absurd h
-font_refused bytes font sources numbers NoGlyphs are h = absurd h
-font_refused bytes font sources numbers TooLarge are h = absurd h
-
 -- a glyph without a part
 pub partless : (font : FontView) (sources : Sources) (i : ℕ) (e : Error) → i < length sources →
     ((glyph : ℕ) × (slice_index_or sources i None ≡ Some glyph) × (e ≡ MissingPart glyph) × ((part : ℕ) → HasPartNumber font glyph

@@ -17,13 +17,13 @@ use Rattle.postscript_view.specs.Value.{parts_shown}
 use Rattle.postscript_view.specs.declared.font.FontView.{FontView}
 use Rattle.postscript_write.specs.ArrangedText.{tables_text}
 use Rattle.postscript_write.specs.Given.{AreGiven}
-use Rattle.postscript_write.specs.Index.{FitsIndex, index_text}
+use Rattle.postscript_write.specs.Index.{FitsIndex}
 use Rattle.postscript_write.specs.LaidOut.{SelectsExactly}
 use Rattle.postscript_write.specs.Pieces.{piece_if, pieces_text, place_of, standard_place, text_of}
 use Rattle.postscript_write.specs.Privates.{private_offset, private_text, privates_text}
 use Rattle.postscript_write.specs.Room.{IsRead}
 use Rattle.postscript_write.specs.Texts.{TextStands}
-use Rattle.postscript_write.specs.Whole.{CharSetEnds, HasNoByteBeside, OwnEnds, PrivatesEnd, TablesEnd}
+use Rattle.postscript_write.specs.Whole.{CharSetEnds, HasNoByteBeside, IndexEnds, NamedEnds, OwnEnds, PrivatesEnd, TablesEnd}
 use Rattle.postscript_write.specs.Written.{IsPutTogether}
 use Rattle.postscript_write.specs.declared.layout.Glyphs.{Glyphs}
 use Rattle.postscript_write.specs.declared.layout.Private.{Private as OwnPrivate}
@@ -33,38 +33,29 @@ use Rattle.postscript_write.proofs.IndexStands.{writes_indices}
 use Rattle.postscript_write.proofs.LaidOut.{array_there, char_strings_there, has_only, header_there, keyed_is, look_named, ros_is}
 use Rattle.postscript_write.proofs.NamedEnds.{array_ends, char_set_ends, encoding_ends, offset_is, own_look, select_ends}
 use Rattle.postscript_write.proofs.PartsWritten.{has_dictionary}
-use Rattle.postscript_write.proofs.Pieces.{all_end as pieces_end}
-use Rattle.postscript_write.proofs.PlacesNamed.{encoding_stays, named_by, not_private, set_stays, whole_is}
+use Rattle.postscript_write.proofs.Pieces.{all_end as texts_end, texts_in}
+use Rattle.postscript_write.proofs.PlacesNamed.{named_by, not_private, whole_is}
 use Rattle.postscript_write.proofs.PrivatesStand.{EndsBehind, all_end, one_dictionary, private_ends}
 use Rattle.postscript_write.proofs.Put.{dictionaries_stand, encoding_named, end_is, each_held, named, pieces, place, select_named, set_named, some_tables, stand}
 use Rattle.postscript_write.proofs.Rests.{none_fit}
-use Rattle.postscript_write.proofs.Standing.{stands_first, stands_second}
-use Rattle.postscript_write.proofs.TablesStand.{TablesStand}
+use Rattle.postscript_write.proofs.TablesStand.{TablesStand, tables_length, tables_there}
 
 tables_end : (out behind : List ℕ) (names strings : List (List ℕ)) (placed : List ℕ) → out ≡ tables_text names placed strings ++ behind →
-    FitsIndex names → FitsIndex (placed ∷ []) → FitsIndex strings →
-    TablesEnd out (length (tables_text names placed strings))
+    FitsIndex names → FitsIndex (placed ∷ []) → FitsIndex strings → TablesEnd out 0 (length (tables_text names placed strings))
 tables_end out behind names strings placed is names_fit placed_fits strings_fit =
-    let a : List ℕ = index_text names in
-    let b : List ℕ = index_text (placed ∷ []) in
-    let d : List ℕ = index_text strings in
-    let e : List ℕ = index_text [] in
-    let whole : TextStands (tables_text names placed strings) out 0 = record { within = omega arith; behind = behind; there = is } in
-    let first = stands_second (1 ∷ 0 ∷ 4 ∷ 4 ∷ []) (a ++ (b ++ (d ++ e))) whole in
-    let second = stands_second a (b ++ (d ++ e)) first in
-    let third = stands_second b (d ++ e) second in
-    let fourth = stands_second d e third in
-    let len : 4 + length a + length b + length d + length e ≡ length (tables_text names placed strings) =
-    omega (arith, length-append a (b ++ (d ++ e)), length-append b (d ++ e), length-append d e) in
-    subst (TablesEnd out) len (record {
-      names = 4 + length a;
-      dictionary = 4 + length a + length b;
-      strings = 4 + length a + length b + length d;
-      of_names = (names, writes_indices names out 4 names_fit (stands_first a (b ++ (d ++ e)) first));
-      of_dictionary = (placed ∷ [], writes_indices (placed ∷ []) out (4 + length a) placed_fits (stands_first b (d ++ e) second), refl);
-      of_strings = (strings, writes_indices strings out (4 + length a + length b) strings_fit (stands_first d e third));
-      of_subroutines = ([], writes_indices [] out (4 + length a + length b + length d) (none_fit [] refl) fourth);
-    })
+    let stand = tables_there out behind names strings placed is in (
+      _,
+      (names, writes_indices names out 4 names_fit stand.1.0),
+      (
+        _,
+        (placed ∷ [], writes_indices (placed ∷ []) out _ placed_fits stand.1.1.0, refl),
+        (
+          _,
+          (strings, writes_indices strings out _ strings_fit stand.1.1.1.0),
+          (_, ([], writes_indices [] out _ (none_fit [] refl) stand.1.1.1.1.0), sym (tables_length names strings placed)),
+        ),
+      ),
+    )
 
 -- a text that stands last ends with the bytes
 pub last_there : (text out : List ℕ) (place : ℕ) (stands : TextStands text out place) → place + length text ≡ length out → drop place out ≡ text
@@ -147,14 +138,14 @@ module _ {font : FontView} {glyphs : Glyphs} {codes : List (List ℕ)} {out : Li
   pub encoding_look : look t.new Encoding ≡ option_or
       (named_by (standard_place glyphs.standard ++ place_of (piece_if Encoding glyphs.encoding) w.put.start) Encoding)
       (look font.dictionary Encoding)
-  encoding_look = look_named w t Encoding (encoding_named w) (λ _. not_private Encoding refl) (encoding_stays glyphs.strings font.dictionary)
+  encoding_look = look_named w t Encoding (encoding_named w) (λ _. not_private Encoding refl) refl
 
   pub set_look : look t.new CharSet ≡ option_or (named_by (place_of (piece_if CharSet glyphs.char_set) (place w CharSet)) CharSet)
       (look font.dictionary CharSet)
-  set_look = look_named w t CharSet (set_named w) (λ _. not_private CharSet refl) (set_stays glyphs.strings font.dictionary)
+  set_look = look_named w t CharSet (set_named w) (λ _. not_private CharSet refl) refl
 
   set_end : place w CharSet + length (text_of glyphs.char_set) ≡ length out
-  set_end = pieces_end (pieces w) w.put.start ∙ end_is w
+  set_end = texts_end (texts_in (pieces w)) w.put.start ∙ end_is w
 
   pub set_last : drop (place w CharSet) out ≡ text_of glyphs.char_set
   set_last = last_there (text_of glyphs.char_set) out (place w CharSet) (stand w).1.1.1.1.1.0 set_end
@@ -173,29 +164,38 @@ module _ {font : FontView} {glyphs : Glyphs} {codes : List (List ℕ)} {out : Li
       let start = some_tables w in
       let char_strings = char_strings_there w t in
       let array = λ (some : IsSome glyphs.select). array_there w t some in
-      record {
-        tables = w.put.start;
-        encoding = place w FDSelect;
-        select = place w CharStrings;
-        char_strings = place w Private;
-        privates = place w FDArray;
-        dictionaries = place w CharSet;
-        of_tables = subst (TablesEnd out) w.put.begins
-            (tables_end out (pieces_text (pieces w)) (items_of font.names) (texts glyphs.strings.texts.items) w.put.placed w.put.text w.put.names_fit
-            w.put.dictionary_fits w.put.strings_fit);
-        of_encoding = encoding_ends font.dictionary t.new out glyphs.encoding glyphs.standard w.put.start encoding_look h.0
-            (omega (arith, start)) s.0 given.encoding;
-        of_select = select_ends t.new out glyphs.select (length codes) (place w FDSelect) (look t.named FDSelect)
-            (own_look (named w) t.named t.new FDSelect t.placed (select_named w)) h.1.0 keyed.0 keyed.1 s.1.0 given.select;
-        named = offset_is t.new CharStrings (place w CharStrings) char_strings.1 char_strings.0;
-        of_char_strings = (codes, writes_indices codes out (place w CharStrings) w.char_strings_fit s.1.1.0);
-        of_privates = privates_end parts read exactly are;
-        of_dictionaries = array_ends t.new out glyphs.select w.put.dictionaries (place w FDArray) array keyed.0 keyed.1 w.put.dictionaries_fit
-            s.1.1.1.1.0;
-        of_char_set = subst (λ n. OwnEnds t.new CharSet 3 (CharSetEnds out (length codes)) (place w CharSet) n) set_end
-            (char_set_ends font.dictionary t.new out glyphs.char_set (length codes) (place w CharSet) set_look h.1.1.1.1.1.0
-            (omega (arith, start)) s.1.1.1.1.1.0 set_last given.char_set);
-      }
+      let of_tables = subst (TablesEnd out 0) w.put.begins
+      (tables_end out (pieces_text (pieces w)) (items_of font.names) (texts glyphs.strings.texts.items) w.put.placed w.put.text
+      w.put.names_fit w.put.dictionary_fits w.put.strings_fit) in
+      let of_encoding = encoding_ends font.dictionary t.new out glyphs.encoding glyphs.standard w.put.start encoding_look h.0
+      (omega (arith, start)) s.0 given.encoding in
+      let of_select = select_ends t.new out glyphs.select (length codes) (place w FDSelect) (look t.named FDSelect)
+      (own_look (named w) t.named t.new FDSelect t.placed (select_named w)) h.1.0 keyed.0 keyed.1 s.1.0 given.select in
+      let of_codes : NamedEnds t.new CharStrings (IndexEnds out) (place w CharStrings) (place w Private) = (
+        offset_is t.new CharStrings (place w CharStrings) char_strings.1 char_strings.0,
+        (codes, writes_indices codes out (place w CharStrings) w.char_strings_fit s.1.1.0),
+      ) in
+      let of_array = array_ends t.new out glyphs.select w.put.dictionaries (place w FDArray) array keyed.0 keyed.1 w.put.dictionaries_fit
+      s.1.1.1.1.0 in
+      let of_set = subst (λ n. OwnEnds t.new CharSet 3 (CharSetEnds out (length codes)) (place w CharSet) n) set_end
+      (char_set_ends font.dictionary t.new out glyphs.char_set (length codes) (place w CharSet) set_look h.1.1.1.1.1.0
+      (omega (arith, start)) s.1.1.1.1.1.0 set_last given.char_set) in (
+        w.put.start,
+        of_tables,
+        (
+          place w FDSelect,
+          of_encoding,
+          (
+            place w CharStrings,
+            of_select,
+            (
+              place w Private,
+              of_codes,
+              (place w FDArray, privates_end parts read exactly are, (place w CharSet, of_array, (length out, of_set, refl))),
+            ),
+          ),
+        ),
+      )
 
   -- the dictionary that is read is the one that is written
   pub dictionary_is : (view : View) → IsLaidOut out 0 view → t.new ≡ view.tables.dictionary

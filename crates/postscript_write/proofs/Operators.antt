@@ -1,7 +1,11 @@
 -- Operators that are among others.
-use Rattle.std.proofs.Common.{◌≡◌, ◌⊎◌, ◌∙◌, ◌<◌, ℕ, zero, suc, List, [], ◌∷◌, ◌++◌, length, inl, inr, slice_index_or, refl, sym, ap, Bool, true, false, if◌then◌else◌, arith}
+use Rattle.std.proofs.Common.{◌≡◌, ◌⊎◌, ◌∙◌, ◌<◌, ℕ, zero, suc, List, [], ◌∷◌, ◌++◌, length, inl, inr, slice_index_or, refl, sym, ap, subst, Bool, true, false, if◌then◌else◌, arith}
 use Rattle.std.specs.List.{Contains}
+use Rattle.std.specs.Ordering.{eq_by_cmp}
+use Rattle.std.proofs.lemmas.Cmp.{eq_by_cmp_equiv}
+use Rattle.postscript_base.specs.Compact1.Operators.{operator_cmp}
 use Rattle.postscript_base.specs.declared.compact1.operator.Operator.{Operator}
+use Rattle.postscript_base.proofs.DictionaryMaps.{operators_total}
 use Rattle.postscript_base.specs.declared.compact1.operator.Operator.TheVariants.{ROS}
 use Rattle.postscript_write.specs.Parts.{IsAmong, naming, placing}
 
@@ -14,32 +18,28 @@ at (other ∷ others) (suc k) operator less is = inr (at others k operator (omeg
 pub among : (operators : List Operator) (operator : Operator) → Contains operators operator → IsAmong operator operators
 among operators operator has = at operators has.0 operator has.1 has.2
 
-pub contains : (operators : List Operator) (operator : Operator) → IsAmong operator operators → Contains operators operator
-contains [] operator none = absurd none
-contains (other ∷ others) operator (inl same) = (0, omega arith, sym same)
-contains (other ∷ others) operator (inr later) =
-    let at = contains others operator later in
-    let less = at.1 in
-    (suc at.0, omega (arith, less), at.2)
+-- an operator is none of these
+abbrev pub is_none_of : Operator → List Operator → Bool
+is_none_of operator [] = true
+is_none_of operator (other ∷ others) = if eq_by_cmp operator_cmp operator other then false else is_none_of operator others
+
+pub parted : (x y : Bool) → (if x then false else y) ≡ true → (x ≡ false) × (y ≡ true)
+parted true y e = absurd (cc)
+parted false y e = (refl, e)
+
+none_among : (operator : Operator) (others : List Operator) → is_none_of operator others ≡ true → IsAmong operator others → ⊥
+none_among operator [] none is = is
+none_among operator (other ∷ others) none (inl same) =
+    let differ = (parted (eq_by_cmp operator_cmp operator other) (is_none_of operator others) none).0 in
+    let itself = subst (λ o. eq_by_cmp operator_cmp operator o ≡ true) same ((eq_by_cmp_equiv operators_total).refl operator) in
+    let never : false ≡ true = sym differ ∙ itself in
+    absurd (cc)
+none_among operator (other ∷ others) none (inr later) =
+    none_among operator others (parted (eq_by_cmp operator_cmp operator other) (is_none_of operator others) none).1 later
 
 -- ROS names no place and no string of the font's dictionary
 pub ros-stays : IsAmong ROS (placing ++ naming) → ⊥
-ros-stays (inl e) = cc
-ros-stays (inr (inl e)) = cc
-ros-stays (inr (inr (inl e))) = cc
-ros-stays (inr (inr (inr (inl e)))) = cc
-ros-stays (inr (inr (inr (inr (inl e))))) = cc
-ros-stays (inr (inr (inr (inr (inr (inl e)))))) = cc
-ros-stays (inr (inr (inr (inr (inr (inr (inl e))))))) = cc
-ros-stays (inr (inr (inr (inr (inr (inr (inr (inl e)))))))) = cc
-ros-stays (inr (inr (inr (inr (inr (inr (inr (inr (inl e))))))))) = cc
-ros-stays (inr (inr (inr (inr (inr (inr (inr (inr (inr (inl e)))))))))) = cc
-ros-stays (inr (inr (inr (inr (inr (inr (inr (inr (inr (inr (inl e))))))))))) = cc
-ros-stays (inr (inr (inr (inr (inr (inr (inr (inr (inr (inr (inr (inl e)))))))))))) = cc
-ros-stays (inr (inr (inr (inr (inr (inr (inr (inr (inr (inr (inr (inr (inl e))))))))))))) = cc
-ros-stays (inr (inr (inr (inr (inr (inr (inr (inr (inr (inr (inr (inr (inr (inl e)))))))))))))) = cc
-ros-stays (inr (inr (inr (inr (inr (inr (inr (inr (inr (inr (inr (inr (inr (inr (inl e))))))))))))))) = cc
-ros-stays (inr (inr (inr (inr (inr (inr (inr (inr (inr (inr (inr (inr (inr (inr (inr none))))))))))))))) = none
+ros-stays among = none_among ROS (placing ++ naming) refl among
 
 -- what is true of each operator of a list
 abbrev pub every : (Operator → Bool) → List Operator → Bool

@@ -1,11 +1,11 @@
 -- Pieces stand one behind another, and operators name their places.
-use Rattle.std.proofs.Common.{◌≡◌, refl, sym, ap, subst, ◌∙◌, ℕ, ◌+◌, ◌-◌, ◌<◌, ◌≤◌, ◌^◌, List, [], ◌∷◌, ◌++◌, length, length-append, map, drop, suc, get_or, add-one, Some, None, Bool, true, false, if◌then◌else◌, arith}
+use Rattle.std.proofs.Common.{◌≡◌, refl, sym, ap, subst, ◌∙◌, ℕ, ◌+◌, ◌-◌, ◌<◌, ◌≤◌, ◌^◌, List, [], ◌∷◌, ◌++◌, length, length-append, map, get_or, Some, None, Bool, true, false, if◌then◌else◌, arith}
+use Rattle.std.specs.List.{concat}
 use Rattle.std.specs.Ordering.{eq_by_cmp}
 use Rattle.std.specs.Prelude.{All}
 use Rattle.std.proofs.lemmas.Cmp.{eq_by_cmp_equiv}
 use Rattle.std.proofs.lemmas.List.{get_or-append_right, map-append}
-use Rattle.std.proofs.Math.ListN.{drop_of_length-le, get_or-append}
-use Rattle.std.proofs.Math.Seq.{drop-cons}
+use Rattle.std.proofs.Math.ListN.{get_or-append}
 use Rattle.std.proofs.lemmas.List.Elements.{All-append, All-cons, All-nil}
 use Rattle.std.proofs.lemmas.List.Sums.{sum_by-append}
 use Rattle.postscript_base.specs.Compact1.Operators.{operator_cmp}
@@ -14,27 +14,38 @@ use Rattle.postscript_base.proofs.DictionaryMaps.{operators_total}
 use Rattle.postscript_write.specs.Dictionaries.{IsHeld, IsWritable, operation_of}
 use Rattle.postscript_write.specs.DictionarySizes.{operator_size, place_size, places_size}
 use Rattle.postscript_write.specs.Parts.{IsAmong}
-use Rattle.postscript_write.specs.Pieces.{Piece, piece_shown, pieces_text, place_of, places}
+use Rattle.postscript_write.specs.Pieces.{Piece, pieces_text, place_of, places}
 use Rattle.postscript_write.specs.Texts.{TextStands}
 use Rattle.postscript_write.specs.declared.dictionaries.Place.{Place}
-use Rattle.postscript_write.specs.declared.layout.Piece.{Piece as LentPiece}
+use Rattle.postscript_write.proofs.Operators.{is_none_of, parted}
 use Rattle.postscript_write.proofs.PlacesNamed.{before, behind, named_by}
 use Rattle.postscript_write.proofs.Standing.{stands_first, stands_second}
 
--- each stands where the one before it ends
-abbrev pub AllStand : List Piece → (bytes : List ℕ) → (place : ℕ) → Type 0
+-- each text stands where the one before it ends
+abbrev pub AllStand : List (List ℕ) → (bytes : List ℕ) → (place : ℕ) → Type 0
 AllStand [] bytes place = Unit {0}
-AllStand (p ∷ ps) bytes place = TextStands p.text bytes place × AllStand ps bytes (place + length p.text)
+AllStand (text ∷ texts) bytes place = TextStands text bytes place × AllStand texts bytes (place + length text)
 
-pub all_stand : (ps : List Piece) (bytes : List ℕ) (place : ℕ) → TextStands (pieces_text ps) bytes place → AllStand ps bytes place
+pub all_stand : (texts : List (List ℕ)) (bytes : List ℕ) (place : ℕ) → TextStands (concat texts) bytes place → AllStand texts bytes place
 all_stand [] bytes place s = tt
-all_stand (p ∷ ps) bytes place s =
-    (stands_first p.text (pieces_text ps) s, all_stand ps bytes (place + length p.text) (stands_second p.text (pieces_text ps) s))
+all_stand (text ∷ texts) bytes place s =
+    (stands_first text (concat texts) s, all_stand texts bytes (place + length text) (stands_second text (concat texts) s))
+
+-- where the last one ends
+abbrev pub behind_all : (start : ℕ) → List (List ℕ) → ℕ
+behind_all start [] = start
+behind_all start (text ∷ texts) = behind_all (start + length text) texts
+
+pub all_end : (texts : List (List ℕ)) (start : ℕ) → behind_all start texts ≡ start + length (concat texts)
+all_end [] start = omega arith
+all_end (text ∷ texts) start = omega (arith, all_end texts (start + length text), length-append text (concat texts))
+
+abbrev pub texts_in : List Piece → List (List ℕ)
+texts_in pieces = map (λ piece. piece.text) pieces
 
 -- no piece has an operator
 abbrev pub is_other : Operator → List Piece → Bool
-is_other operator [] = true
-is_other operator (p ∷ ps) = if eq_by_cmp operator_cmp operator p.operator then false else is_other operator ps
+is_other operator pieces = is_none_of operator (map (λ piece. piece.operator) pieces)
 
 abbrev pub are_distinct : List Piece → Bool
 are_distinct [] = true
@@ -50,10 +61,6 @@ one_other p offset operator other = by p.named
     by : (b : Bool) → named_by (if b then place ∷ [] else []) operator ≡ None
     by true = ap (λ b. if b then Some (operation_of place).1 else None) other
     by false = refl
-
-pub parted : (x y : Bool) → (if x then false else y) ≡ true → (x ≡ false) × (y ≡ true)
-parted true y e = absurd (cc)
-parted false y e = (refl, e)
 
 each : (x y : Bool) → (if x then y else false) ≡ true → (x ≡ true) × (y ≡ true)
 each true y e = (refl, e)
@@ -213,23 +220,3 @@ all_alike ps qs m n same =
       names = a.names ∙ ap (λ xs. map (λ place. place.operator) (places 0 xs)) same ∙ sym b.names;
       sizes = a.sizes ∙ ap (λ xs. places_size (places 0 xs)) same ∙ sym b.sizes;
     }
-
--- the pieces from one on
-pub next_piece : (xs : List LentPiece) (i : ℕ) (x : LentPiece) → i < length xs → x ≡ get_or xs i x →
-    map piece_shown (drop i xs) ≡ piece_shown x ∷ map piece_shown (drop (i + 1) xs)
-next_piece xs i x less is =
-    ap (map piece_shown) (drop-cons xs i x less)
-    ∙ ap (λ y. piece_shown y ∷ map piece_shown (drop (suc i) xs)) (sym is)
-    ∙ ap (λ n. piece_shown x ∷ map piece_shown (drop n xs)) (sym (add-one i))
-
-pub no_piece : (xs : List LentPiece) (i : ℕ) → length xs ≤ i → map piece_shown (drop i xs) ≡ []
-no_piece xs i past = ap (map piece_shown) (drop_of_length-le xs past)
-
--- where the last piece ends
-abbrev pub behind_all : (start : ℕ) → List Piece → ℕ
-behind_all start [] = start
-behind_all start (p ∷ ps) = behind_all (start + length p.text) ps
-
-pub all_end : (ps : List Piece) (start : ℕ) → behind_all start ps ≡ start + length (pieces_text ps)
-all_end [] start = omega arith
-all_end (p ∷ ps) start = omega (arith, all_end ps (start + length p.text), length-append p.text (pieces_text ps))

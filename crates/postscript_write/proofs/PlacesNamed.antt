@@ -24,6 +24,7 @@ use Rattle.postscript_write.specs.Renumbered.{IsRenamed, all_renamed, new_identi
 use Rattle.postscript_write.specs.Strings.{identifier_in}
 use Rattle.postscript_write.specs.declared.dictionaries.Place.{Place}
 use Rattle.postscript_write.specs.declared.strings.Strings.{Strings}
+use Rattle.postscript_write.proofs.Operators.{is_none_of, parted}
 
 same_units : (v w : ℤ) → IsSameValue v (pos 0) w (pos 0) → v ≡ w
 same_units v w h = grind (arith, ints, clamps)
@@ -84,10 +85,6 @@ behind xs ys operator none =
     ∙ ap (λ x. option_or x (named_by xs operator)) none
 
 -- the new identifiers of strings are named by the operators that name strings
-DifferFrom : Operator → List Operator → Type 0
-DifferFrom operator [] = Unit {0}
-DifferFrom operator (other ∷ others) = (eq_by_cmp operator_cmp operator other ≡ false) × DifferFrom operator others
-
 pub one_renamed : (strings : Strings) (operator other : Operator) (old : Option ℕ) → eq_by_cmp operator_cmp operator other ≡ false →
     named_by (renamed_if strings other old) operator ≡ None
 one_renamed strings operator other None different = refl
@@ -97,39 +94,19 @@ one_renamed strings operator other (Some old) different = by (new_identifier str
     by true = refl
     by false = ap (λ b. if b then Some (operation_of (place_at other (new_identifier strings old))).1 else None) different
 
-none_renamed : (strings : Strings) (names : Dictionary) (operator : Operator) (others : List Operator) → DifferFrom operator others →
+none_renamed : (strings : Strings) (names : Dictionary) (operator : Operator) (others : List Operator) → is_none_of operator others ≡ true →
     named_by (flat_map (λ other. renamed_if strings other (identifier_in names other)) others) operator ≡ None
-unfolding DifferFrom
-none_renamed strings names operator [] differ = refl
-none_renamed strings names operator (other ∷ others) differ =
+none_renamed strings names operator [] none = refl
+none_renamed strings names operator (other ∷ others) none =
+    let differ = parted (eq_by_cmp operator_cmp operator other) (is_none_of operator others) none in
     before (renamed_if strings other (identifier_in names other))
     (flat_map (λ other. renamed_if strings other (identifier_in names other)) others) operator
     (one_renamed strings operator other (identifier_in names other) differ.0)
     ∙ none_renamed strings names operator others differ.1
 
-pub private_stays : (strings : Strings) (names : Dictionary) → named_by (all_renamed strings names) Private ≡ None
-unfolding DifferFrom
-private_stays strings names =
-    none_renamed strings names Private naming (refl, (refl, (refl, (refl, (refl, (refl, (refl, (refl, (refl, tt)))))))))
-
-pub ros_stays : (strings : Strings) (names : Dictionary) → named_by (all_renamed strings names) ROS ≡ None
-unfolding DifferFrom
-ros_stays strings names = none_renamed strings names ROS naming (refl, (refl, (refl, (refl, (refl, (refl, (refl, (refl, (refl, tt)))))))))
-
-pub type_stays : (strings : Strings) (names : Dictionary) → named_by (all_renamed strings names) CharStringType ≡ None
-unfolding DifferFrom
-type_stays strings names =
-    none_renamed strings names CharStringType naming (refl, (refl, (refl, (refl, (refl, (refl, (refl, (refl, (refl, tt)))))))))
-
-pub encoding_stays : (strings : Strings) (names : Dictionary) → named_by (all_renamed strings names) Encoding ≡ None
-unfolding DifferFrom
-encoding_stays strings names =
-    none_renamed strings names Encoding naming (refl, (refl, (refl, (refl, (refl, (refl, (refl, (refl, (refl, tt)))))))))
-
-pub set_stays : (strings : Strings) (names : Dictionary) → named_by (all_renamed strings names) CharSet ≡ None
-unfolding DifferFrom
-set_stays strings names =
-    none_renamed strings names CharSet naming (refl, (refl, (refl, (refl, (refl, (refl, (refl, (refl, (refl, tt)))))))))
+pub not_renamed : (strings : Strings) (names : Dictionary) (operator : Operator) → is_none_of operator naming ≡ true →
+    named_by (all_renamed strings names) operator ≡ None
+not_renamed strings names operator none = none_renamed strings names operator naming none
 
 -- a dictionary with places says of an operator that none of them names what it said
 pub stays : (old new : Dictionary) (places : List Place) (operator : Operator) → IsPlaced old places new →

@@ -30,8 +30,8 @@ use Rattle.postscript_write.specs.declared.layout.Glyphs.{Glyphs}
 use Rattle.postscript_write.specs.declared.layout.Private.{Private as OwnPrivate}
 use Rattle.postscript_write.proofs.Arranged.{private_there}
 use Rattle.postscript_write.proofs.NamedAgain.{AreApart}
-use Rattle.postscript_write.proofs.Operators.{each_is}
-use Rattle.postscript_write.proofs.Pieces.{AllHeld, AllStand, AreTold, all_held, all_right, all_stand, all_told, is_other, none_named, parted}
+use Rattle.postscript_write.proofs.Operators.{each_is, parted}
+use Rattle.postscript_write.proofs.Pieces.{AllHeld, AllStand, AreTold, all_held, all_right, all_stand, all_told, is_other, none_named, texts_in}
 use Rattle.postscript_write.proofs.PlacesNamed.{before, last_append, named_by}
 use Rattle.postscript_write.proofs.Standing.{stands_amid}
 use Rattle.postscript_write.proofs.TablesStand.{TablesStand, dictionaries_there, header_is, index_there, tables_are}
@@ -73,8 +73,8 @@ module _ {font : FontView} {glyphs : Glyphs} {codes : List (List ℕ)} {out : Li
   behind_tables = subst (λ n. TextStands (pieces_text pieces) out n) w.put.begins (subst (λ bs. TextStands (pieces_text pieces) bs (length tables))
       (ap (λ xs. tables ++ xs) (append-nil (pieces_text pieces)) ∙ sym w.put.text) (stands_amid tables (pieces_text pieces) []))
 
-  pub stand : AllStand pieces out w.put.start
-  stand = all_stand pieces out w.put.start behind_tables
+  pub stand : AllStand (texts_in pieces) out w.put.start
+  stand = all_stand (texts_in pieces) out w.put.start behind_tables
 
   pub each_held : AllHeld pieces w.put.start
   each_held = all_held pieces w.put.start (all_right IsHeld (standard_place glyphs.standard) (places w.put.start pieces) w.put.held)

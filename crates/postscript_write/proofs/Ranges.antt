@@ -1,7 +1,7 @@
 -- Ranges of a char set, one behind another.
-use Rattle.std.proofs.Common.{◌≡◌, ◌⊎◌, refl, sym, ℕ, ◌+◌, ◌*◌, ◌/◌, ◌≤◌, ◌<◌, List, length, inl, inr, arith, below_more}
+use Rattle.std.proofs.Common.{◌≡◌, ◌⊎◌, refl, ℕ, ◌+◌, ◌*◌, ◌/◌, ◌≤◌, ◌<◌, List, length, inl, inr, arith, below_more}
 use Rattle.std.proofs.lemmas.Bool.{cases_lt}
-use Rattle.std.proofs.Math.Nat.{lt_of_mul-lt-mul_right, le-div_iff_mul-le, zero-mul}
+use Rattle.std.proofs.Math.Nat.{lt_of_mul-lt-mul_right, le-div_iff_mul-le}
 use Rattle.postscript_view.specs.CharSet.{covered, more_of}
 use Rattle.postscript_view.proofs.Covering.{covered_none, covered_more}
 use Rattle.postscript_write.specs.Whole.{RangesEnd}
@@ -45,12 +45,6 @@ last_range ranges size glyphs r left more is enough are =
 
 within : (width k n : ℕ) → 0 < width → k * width ≤ n → k ≤ n / width
 within width k n some less = (le-div_iff_mul-le some).1 less
-
-pub no_range : (ranges : List ℕ) (size : ℕ) → RangesEnd ranges size 0 0
-no_range ranges size = record {
-  needed = λ k less. absurd (omega (arith, less));
-  enough = inl (0, sym (zero-mul (2 + size)), omega arith);
-}
 
 -- so many ranges are among the bytes
 pub among : (width k n : ℕ) → 0 < width → k ≤ n / width → k * width ≤ n

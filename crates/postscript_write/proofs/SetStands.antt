@@ -19,7 +19,7 @@ use Rattle.postscript_write.specs.declared.layout.Private.{Private as OwnPrivate
 use Rattle.postscript_write.proofs.LaidOut.{keyed_is, ros_is}
 use Rattle.postscript_write.proofs.NamedEnds.{offset_is, own_look, place_held}
 use Rattle.postscript_write.proofs.NoByteBeside.{set_look}
-use Rattle.postscript_write.proofs.PlacesNamed.{named_by, private_stays}
+use Rattle.postscript_write.proofs.PlacesNamed.{named_by, not_renamed}
 use Rattle.postscript_write.proofs.Put.{each_held, named, place, private_named, private_piece, some_tables, stand}
 use Rattle.postscript_write.proofs.TablesStand.{TablesStand}
 
@@ -51,5 +51,5 @@ module _ {font : FontView} {glyphs : Glyphs} {codes : List (List ℕ)} {out : Li
       own_look (named w) t.named t.new Private t.placed (private_named w ∙ none_private glyphs.select w.privates (place w Private)
       ((keyed_is w t exactly).1 keyed))
       ∙ t.renamed.placed Private
-      ∙ ap (λ x. option_or x (look t.renamed.kept Private)) (private_stays glyphs.strings font.dictionary)
+      ∙ ap (λ x. option_or x (look t.renamed.kept Private)) (not_renamed glyphs.strings font.dictionary Private refl)
       ∙ t.renamed.unnamed.gone (subst IsSome (ros_is w t) keyed)

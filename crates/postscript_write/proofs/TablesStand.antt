@@ -1,5 +1,6 @@
 -- The tables that are written, and other indices, stand where they begin.
-use Rattle.std.proofs.Common.{◌≡◌, refl, sym, subst, inl, inr, ℕ, ◌+◌, ◌<◌, ◌^◌, List, [], ◌∷◌, ◌++◌, length, Option, Some, None, Vec, arith}
+use Rattle.std.proofs.Common.{◌≡◌, refl, sym, subst, inl, inr, ℕ, ◌+◌, ◌<◌, ◌^◌, List, [], ◌∷◌, ◌++◌, length, Option, Some, None, Vec, arith, ap, ◌∙◌}
+use Rattle.std.specs.List.{concat}
 use Rattle.std.specs.Prelude.{IsSome}
 use Rattle.std.specs.declared.alloc.Global.{Global}
 use Rattle.postscript_base.specs.Compact1.Dictionary.{Dictionary}
@@ -18,8 +19,8 @@ use Rattle.postscript_write.specs.Renumbered.{IsRenamed, all_renamed}
 use Rattle.postscript_write.specs.declared.dictionaries.Place.{Place}
 use Rattle.postscript_write.specs.declared.layout.Glyphs.{Glyphs}
 use Rattle.postscript_write.proofs.IndexStands.{writes_indices}
+use Rattle.postscript_write.proofs.Pieces.{AllStand, all_end, all_stand, behind_all}
 use Rattle.postscript_write.proofs.Rests.{none_fit}
-use Rattle.postscript_write.proofs.Standing.{stands_first, stands_second}
 
 pub is_opened : (bytes : List ℕ) (place : ℕ) (items : List (List ℕ)) (next : ℕ) → IsIndex bytes place items next →
     IsOpened bytes place items next
@@ -48,30 +49,43 @@ pub header_is : (out behind : List ℕ) (names strings : List (List ℕ)) (place
     out ≡ tables_text names placed strings ++ behind → HasHeader out
 header_is out behind names strings placed is = subst HasHeader (sym is) refl
 
+-- the tables, one by one
+abbrev pub tables : (names : List (List ℕ)) (dictionary : List ℕ) (strings : List (List ℕ)) → List (List ℕ)
+tables names dictionary strings =
+    (1 ∷ 0 ∷ 4 ∷ 4 ∷ []) ∷ index_text names ∷ index_text (dictionary ∷ []) ∷ index_text strings ∷ index_text [] ∷ []
+
+are_text : (names strings : List (List ℕ)) (dictionary : List ℕ) →
+    concat (tables names dictionary strings) ≡ tables_text names dictionary strings
+unfolding index_text
+are_text names strings dictionary = refl
+
+pub tables_length : (names strings : List (List ℕ)) (dictionary : List ℕ) →
+    behind_all 0 (tables names dictionary strings) ≡ length (tables_text names dictionary strings)
+tables_length names strings dictionary =
+    omega (arith, all_end (tables names dictionary strings) 0, ap length (are_text names strings dictionary))
+
+pub tables_there : (out behind : List ℕ) (names strings : List (List ℕ)) (placed : List ℕ) → out ≡ tables_text names placed strings ++ behind →
+    AllStand (tables names placed strings) out 0
+tables_there out behind names strings placed is =
+    all_stand (tables names placed strings) out 0
+    (record { within = omega arith; behind = behind; there = is ∙ ap (λ xs. xs ++ behind) (sym (are_text names strings placed)) })
+
 pub tables_are : (out behind : List ℕ) (names strings : List (List ℕ)) (placed : List ℕ) (new : Dictionary) →
     out ≡ tables_text names placed strings ++ behind → FitsIndex names → FitsIndex (placed ∷ []) → FitsIndex strings → IsDictionary placed 0 new →
     AreTables out 4 0 (record { names = names; dictionary = new; strings = strings; subroutines = [] })
 tables_are out behind names strings placed new is names_fit placed_fits strings_fit dictionary =
-    let a : List ℕ = index_text names in
-    let b : List ℕ = index_text (placed ∷ []) in
-    let d : List ℕ = index_text strings in
-    let e : List ℕ = index_text [] in
-    let whole : TextStands (tables_text names placed strings) out 0 = record { within = omega arith; behind = behind; there = is } in
-    let first = stands_second (1 ∷ 0 ∷ 4 ∷ 4 ∷ []) (a ++ (b ++ (d ++ e))) whole in
-    let second = stands_second a (b ++ (d ++ e)) first in
-    let third = stands_second b (d ++ e) second in
-    let fourth = stands_second d e third in
+    let stand = tables_there out behind names strings placed is in
     record {
       dictionaries = placed ∷ [];
       item = placed;
-      names_next = 4 + length a;
-      dictionaries_next = 4 + length a + length b;
-      strings_next = 4 + length a + length b + length d;
-      next = 4 + length a + length b + length d + length e;
-      are_names = opened_there names out 4 names_fit (stands_first a (b ++ (d ++ e)) first);
-      are_dictionaries = opened_there (placed ∷ []) out (4 + length a) placed_fits (stands_first b (d ++ e) second);
-      are_strings = opened_there strings out (4 + length a + length b) strings_fit (stands_first d e third);
-      are_subroutines = opened_there [] out (4 + length a + length b + length d) (none_fit [] refl) fourth;
+      names_next = _;
+      dictionaries_next = _;
+      strings_next = _;
+      next = _;
+      are_names = opened_there names out 4 names_fit stand.1.0;
+      are_dictionaries = opened_there (placed ∷ []) out _ placed_fits stand.1.1.0;
+      are_strings = opened_there strings out _ strings_fit stand.1.1.1.0;
+      are_subroutines = opened_there [] out _ (none_fit [] refl) stand.1.1.1.1.0;
       there = refl;
       is_dictionary = dictionary;
     }

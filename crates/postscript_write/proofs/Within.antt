@@ -1,5 +1,5 @@
 -- What is written has room.
-use Rattle.std.proofs.Common.{ap, ℕ, ◌+◌, ◌^◌, ◌<◌, ◌≤◌, List, [], ◌∷◌, ◌++◌, length, length-append, Bool, arith, rules}
+use Rattle.std.proofs.Common.{ap, ℕ, ◌+◌, ◌^◌, ◌<◌, ◌≤◌, List, [], ◌∷◌, length, length-append, Bool, arith, rules}
 use Rattle.std.specs.Prelude.{All}
 use Rattle.postscript_base.specs.Index.Lent.{items_of}
 use Rattle.postscript_type2.specs.Program.Routines.{texts}
@@ -15,8 +15,9 @@ use Rattle.postscript_write.specs.Room.{HasFew, HasRoom, index_room}
 use Rattle.postscript_write.specs.declared.dictionaries.Place.{Place}
 use Rattle.postscript_write.specs.declared.layout.Glyphs.{Glyphs}
 use Rattle.postscript_write.proofs.Few.{all_bytes}
-use Rattle.postscript_write.proofs.Pieces.{all_end}
+use Rattle.postscript_write.proofs.Pieces.{all_end, texts_in}
 use Rattle.postscript_write.proofs.Room.{index_most, named_few, named_held, renamed_few, they_fit}
+use Rattle.postscript_write.proofs.TablesStand.{tables_length}
 use Rattle.postscript_write.proofs.Without.{sized_within}
 
 pub index_within : (items : List (List ℕ)) → length (index_text items) ≤ index_room items
@@ -63,7 +64,7 @@ module _ (font : FontView) (glyphs : Glyphs) (codes : List (List ℕ)) (char_str
       let all = room.all in
       let some = few.privates in
       let strings = few.char_strings in
-      omega (arith, all_end pieces start, all, strings, some, most, begins)
+      omega (arith, all_end (texts_in pieces) start, all, strings, some, most, begins)
 
   dictionary_within : length dictionary + places_size named ≤ length font.bytes.now + 132
   dictionary_within = omega (arith, long, renamed_few glyphs.strings font.dictionary, named_few glyphs.standard pieces start)
@@ -75,7 +76,6 @@ module _ (font : FontView) (glyphs : Glyphs) (codes : List (List ℕ)) (char_str
       let names : List (List ℕ) = items_of font.names in
       let strings : List (List ℕ) = texts glyphs.strings.texts.items in
       let placed : List ℕ = are.placed in
-      let behind : List ℕ = index_text strings ++ index_text [] in
       omega (
         arith,
         ap length are.text,
@@ -85,9 +85,7 @@ module _ (font : FontView) (glyphs : Glyphs) (codes : List (List ℕ)) (char_str
         index_within strings,
         index_most (placed ∷ []),
         length-append placed [],
-        length-append (index_text names) (index_text (placed ∷ []) ++ behind),
-        length-append (index_text (placed ∷ [])) behind,
-        length-append (index_text strings) (index_text []),
+        tables_length names strings placed,
       )
 
   -- they are not refused, but for memory

@@ -22,15 +22,15 @@ IndexEnds bytes place next = (items : List (List ℕ)) × IsIndex bytes place it
 abbrev pub SingleEnds : List ℕ → (place next : ℕ) → Type 0
 SingleEnds bytes place next = (items : List (List ℕ)) × IsIndex bytes place items next × (length items ≡ 1)
 
+-- parts, each of which begins where the one before it ends
+abbrev pub Chain : List (ℕ → ℕ → Type 0) → (place next : ℕ) → Type 0
+Chain [] place next = next ≡ place
+Chain (ends ∷ others) place next = (behind : ℕ) × ends place behind × Chain others behind next
+
 -- Behind the header, of four bytes, stand the INDEXes of names, of one dictionary, of strings and of subroutines.
-pub record TablesEnd (bytes : List ℕ) (next : ℕ) : Type 0 where
-  pub names : ℕ
-  pub dictionary : ℕ
-  pub strings : ℕ
-  pub of_names : IndexEnds bytes 4 names
-  pub of_dictionary : SingleEnds bytes names dictionary
-  pub of_strings : IndexEnds bytes dictionary strings
-  pub of_subroutines : IndexEnds bytes strings next
+abbrev pub TablesEnd : List ℕ → (place next : ℕ) → Type 0
+TablesEnd bytes place next =
+    Chain (IndexEnds bytes ∷ SingleEnds bytes ∷ IndexEnds bytes ∷ IndexEnds bytes ∷ []) (place + 4) next
 
 -- The codes of format 0 have a byte each, and the ranges of format 1 two. The high bit of the format is no part of it.
 abbrev pub CodesEnd : List ℕ → (place next : ℕ) → Type 0
@@ -84,6 +84,10 @@ PrivateEnds map place next =
     ((first_two_of (look map operators.Private) ≡ None) × (next ≡ place))
     ⊎ ((size : ℕ) × HasTwo map operators.Private (pos size) (pos place) × (next ≡ place + size))
 
+-- a part that each font has
+abbrev pub NamedEnds : Dictionary → Operator → (ends : ℕ → ℕ → Type 0) → (place next : ℕ) → Type 0
+NamedEnds map operator ends place next = (offset_of map operator ≡ Some place) × ends place next
+
 -- The private dictionaries stand one behind another, in the order of the parts. The dictionary of the font names that of the only part
 -- of a font that is not CID-keyed.
 abbrev pub PrivatesEnd : Dictionary → List PrivateDict → (place next : ℕ) → Type 0
@@ -91,26 +95,23 @@ PrivatesEnd map [] place next = next ≡ place
 PrivatesEnd map (part ∷ parts) place next = (behind : ℕ) × PrivateEnds (unwrap_or part.font map) place behind
     × PrivatesEnd map parts behind next
 
--- Each part begins where the one before it ends, the first where the bytes begin, and the last ends at a place.
-pub record PartsEnd (flat : List ℕ) (new : View) (next : ℕ) : Type 0 where
-  pub tables : ℕ
-  pub encoding : ℕ
-  pub select : ℕ
-  pub char_strings : ℕ
-  pub privates : ℕ
-  pub dictionaries : ℕ
-  pub of_tables : TablesEnd flat tables
-  pub of_encoding : OwnEnds new.tables.dictionary operators.Encoding 2 (EncodingEnds flat) tables encoding
-  pub of_select : KeyedEnds new.tables.dictionary operators.FDSelect (SelectEnds flat (length new.char_strings)) encoding select
-  pub named : offset_of new.tables.dictionary operators.CharStrings ≡ Some select
-  pub of_char_strings : IndexEnds flat select char_strings
-  pub of_privates : PrivatesEnd new.tables.dictionary new.parts char_strings privates
-  pub of_dictionaries : KeyedEnds new.tables.dictionary operators.FDArray (IndexEnds flat) privates dictionaries
-  pub of_char_set : OwnEnds new.tables.dictionary operators.CharSet 3 (CharSetEnds flat (length new.char_strings)) dictionaries next
+-- the parts of a font, in their order
+abbrev pub parts_of : (flat : List ℕ) → View → List (ℕ → ℕ → Type 0)
+parts_of flat new =
+    let map = new.tables.dictionary in
+    let glyphs = length new.char_strings in
+    TablesEnd flat
+    ∷ OwnEnds map operators.Encoding 2 (EncodingEnds flat)
+    ∷ KeyedEnds map operators.FDSelect (SelectEnds flat glyphs)
+    ∷ NamedEnds map operators.CharStrings (IndexEnds flat)
+    ∷ PrivatesEnd map new.parts
+    ∷ KeyedEnds map operators.FDArray (IndexEnds flat)
+    ∷ OwnEnds map operators.CharSet 3 (CharSetEnds flat glyphs)
+    ∷ []
 
--- the last ends where the bytes end
+-- the first begins where the bytes begin, and the last ends where they end
 abbrev pub HasNoByteBeside : List ℕ → View → Type 0
-HasNoByteBeside flat new = PartsEnd flat new (length flat)
+HasNoByteBeside flat new = Chain (parts_of flat new) 0 (length flat)
 
 -- bytes that begin with a font, and no byte stands beside its parts
 abbrev pub IsWholeFont : List ℕ → Type 0

@@ -7,7 +7,7 @@ use Rattle.postscript_write.specs.Pieces.{Piece, piece_shown, pieces_of, pieces_
 use Rattle.postscript_write.specs.Privates.{privates_text}
 use Rattle.postscript_write.specs.declared.layout.Glyphs.{Glyphs}
 use Rattle.postscript_write.proofs.Lengths.{same_tables, same_text}
-use Rattle.postscript_write.proofs.Pieces.{all_end}
+use Rattle.postscript_write.proofs.Pieces.{all_end, texts_in}
 use Rattle.postscript_write.proofs.Within.{RefusesTables, end_within, tables_end, tables_written}
 use Rattle.postscript_write.proofs.layout.put_together.Goals as goal
 
@@ -43,9 +43,9 @@ returns-clause-put c =
     let few = c.in_ok-tables.tables.small in
     let small = c.put_pieces.new.out.small in
     let room = c.put_pieces.new.out.ok.0 in
-    let low : 0 + length (pieces_text sketch) < 2 ^ 64 = omega (arith, all_end sketch 0, all_end pieces 0, same, long, small, room) in
+    let low : 0 + length (pieces_text sketch) < 2 ^ 64 = omega (arith, all_end (texts_in sketch) 0, all_end (texts_in pieces) 0, same, long, small, room) in
     let fits : start + length (pieces_text pieces) < 2 ^ 64 = omega (arith, long, begins, few, small, room, c.in_ok-tables.tables.ok.0) in
-    let end = all_end pieces start in
+    let end = all_end (texts_in pieces) start in
     let place = c.private_place-place.ensures (omega (arith, end, fits)) in
     record {
       dictionaries = second.0;
@@ -107,7 +107,7 @@ returns-in_err-array-clause-refused c =
     long (omega arith) c.in_ok-tables.tables.items draft in
     let end = end_within font glyphs codes c.args.char_strings.now single (privates_text privates) array c.args.dictionary.now
     c.len-start.result room few less long (omega (arith, begins, c.len-start.ensures, c.in_ok-tables.tables.ok.0)) in
-    let all = all_end sketch c.len-start.result in
+    let all = all_end (texts_in sketch) c.len-start.result in
     let place = c.private_place-place.ensures (omega (arith, all, end)) in
     c.in_err-array.ensures.refused other read selects room.few_parts own (omega (arith, place, all, end)))
 
