@@ -24,13 +24,12 @@ use Rattle.postscript_write.specs.Dictionaries.{IsHeld}
 use Rattle.postscript_write.specs.Fonts.{HasHeader}
 use Rattle.postscript_write.specs.LaidOut.{IsLaidOutOf, SelectsExactly}
 use Rattle.postscript_write.specs.Parts.{naming}
-use Rattle.postscript_write.specs.Pieces.{place_at, place_of}
+use Rattle.postscript_write.specs.Pieces.{place_of}
 use Rattle.postscript_write.specs.Privates.{IsOwnPrivate, place_of_private, private_offset, private_text}
 use Rattle.postscript_write.specs.Renumbered.{all_renamed}
 use Rattle.postscript_write.specs.Room.{IsRead}
 use Rattle.postscript_write.specs.Texts.{TextStands}
 use Rattle.postscript_write.specs.Written.{IsPutTogether}
-use Rattle.postscript_write.specs.declared.dictionaries.Place.{Place}
 use Rattle.postscript_write.specs.declared.layout.Glyphs.{Glyphs}
 use Rattle.postscript_write.specs.declared.layout.Private.{Private as OwnPrivate}
 use Rattle.postscript_write.proofs.Arranged.{all_dictionaries}

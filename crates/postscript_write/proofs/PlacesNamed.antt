@@ -13,7 +13,7 @@ use Rattle.postscript_base.specs.Compact1.Number.{whole}
 use Rattle.postscript_base.specs.Compact1.Operation.{Operation}
 use Rattle.postscript_base.specs.Compact1.Operators.{operator_cmp}
 use Rattle.postscript_base.specs.declared.compact1.operator.Operator.{Operator}
-use Rattle.postscript_base.specs.declared.compact1.operator.Operator.TheVariants.{CharSet, CharStringType, Encoding, Private, ROS}
+use Rattle.postscript_base.specs.declared.compact1.operator.Operator.TheVariants.{Private}
 use Rattle.postscript_base.proofs.Decimals.{IsSameValue-sym, IsSameValue-trans}
 use Rattle.postscript_base.proofs.Operands.{finds_operands, none_if_none, whole_if_some, whole_operand}
 use Rattle.postscript_view.specs.Sizes.{IsKeyed}

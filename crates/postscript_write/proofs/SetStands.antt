@@ -1,5 +1,5 @@
 -- Where the char set stands that is written, and that a CID-keyed font names no private dictionary but in its font dictionaries.
-use Rattle.std.proofs.Common.{◌≡◌, refl, ap, subst, ◌∙◌, ℕ, ◌≤◌, List, [], Option, Some, None, Vec, arith}
+use Rattle.std.proofs.Common.{◌≡◌, refl, ap, subst, ◌∙◌, ℕ, ◌≤◌, List, Option, Some, None, Vec, arith}
 use Rattle.std.specs.Option.{option_or}
 use Rattle.std.specs.Prelude.{All, IsSome}
 use Rattle.std.specs.declared.alloc.Global.{Global}
