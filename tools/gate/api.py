@@ -3,10 +3,12 @@
 
     tools/gate/api.py > docs/API.md
     tools/gate/api.py --check
+    tools/gate/api.py --unsaid [CRATE..]
 
-The first line writes the page. The second compares docs/API.md with what the first would print, and looks for each block of Rust in
-README.md and docs/RECIPES.md in a source, line for line: the status is 1 where a line differs, or where no source has a block, and
-that is printed.
+The first command writes the page. The second compares docs/API.md with the page that the first would print, and checks that each block of Rust
+in the documents of QUOTING is in a source, line for line. It prints the differences, and its status is 1 if there are any. The third
+lists the public `ensures` clauses that have no comment of one line, `//`, right above them, or one of more than 100 columns; its status is 1 if
+there are any.
 
 A public item is one that a user can name: from the root of a crate through `pub mod` and `pub use`. Its comment, its signature
 and the clauses of its contract are taken as they stand. The sources are in the formatter's layout, so an item is read by
@@ -374,7 +376,7 @@ def signature(item):
     indent = indentation(item.lines[0])
     for line in item.lines:
         text = line.strip()
-        if CLAUSE.match(text) or indentation(line) == indent and text in ("{", "{}"):
+        if CLAUSE.match(text) or is_remark(line, indent + 4) or indentation(line) == indent and text in ("{", "{}"):
             break
         taken.append(line)
         if indentation(line) == indent and text.endswith(("{", "{}", ";")):
@@ -389,10 +391,12 @@ def contract(item):
     places = [place for place, line in enumerate(item.lines) if is_clause(line, indent + 4)]
     if not places:
         return [], []
-    end = places[-1] + 1
+    start, end = places[0], places[-1] + 1
+    while is_remark(item.lines[start - 1], indent + 4):
+        start -= 1
     while end < len(item.lines) and indentation(item.lines[end]) > indent + 4:
         end += 1
-    taken = dedented(item.lines[places[0] : end])
+    taken = dedented(item.lines[start:end])
     taken[-1] = taken[-1].removesuffix(";")
     named = [CLAUSE.match(item.lines[place].strip()) for place in places]
     return taken, [found[2] for found in named if found[1] == "ensures" and found[2]]
@@ -400,6 +404,41 @@ def contract(item):
 
 def is_clause(line, indent):
     return indentation(line) == indent and bool(CLAUSE.match(line.strip()))
+
+
+def is_remark(line, indent):
+    return indentation(line) == indent and line.strip().startswith("// ")
+
+
+def unsaid(crates):
+    """A line for each public `ensures` clause without its comment of one line, or with one that is too long."""
+    for crate in crates.values():
+        for item, owner in functions_of(crates, crate):
+            indent = indentation(item.lines[0]) + 4
+            for place, line in enumerate(item.lines):
+                if not (is_clause(line, indent) and line.strip().startswith("ensures")):
+                    continue
+                above = item.lines[place - 1]
+                if not is_remark(above, indent) or len(above.rstrip()) > 100 or is_remark(item.lines[place - 2], indent):
+                    yield f"{crate.crate}: {owner}{item.name}: {line.strip()[:60]}\n"
+
+
+def functions_of(crates, crate):
+    """The public functions of a crate, each with the name before its own: those of its modules, traits and types."""
+    for module in modules_below(crate):
+        for entry, name in entries(crates, module):
+            if not isinstance(entry, Item) or entry.anchor != f"{module.anchor}.{name}":
+                continue
+            if entry.kind == "fn":
+                yield entry, f"{module.title}::"
+            elif entry.kind == "trait":
+                yield from ((one, f"{entry.name}::") for one in entry.members if one.kind == "fn")
+            elif entry.kind in ("struct", "enum"):
+                for impl in impls_of(crates, entry):
+                    trait = impl_parts(impl)[0]
+                    for one in impl.members:
+                        if one.kind == "fn" and (one.doc if trait else one.public):
+                            yield one, f"{entry.name}::"
 
 
 def attributes_of(item):
@@ -559,7 +598,12 @@ def blocks_of_no_source():
 
 
 def main():
-    page = Page({crate: read_crate(crate) for crate in CRATES}).whole()
+    crates = {crate: read_crate(crate) for crate in CRATES}
+    page = Page(crates).whole()
+    if sys.argv[1:2] == ["--unsaid"]:
+        bare = list(unsaid({name: crate for name, crate in crates.items() if name in (sys.argv[2:] or crates)}))
+        sys.stdout.writelines(bare)
+        return int(bool(bare))
     if sys.argv[1:] != ["--check"]:
         sys.stdout.write(page)
         return 0
