@@ -1,4 +1,4 @@
-//! The Compact Font Format (Adobe Technical Note 5176): its smallest parts.
+//! The basic parts of the Compact Font Format (Adobe Technical Note 5176).
 mod digits;
 mod header;
 pub mod laws;
@@ -20,8 +20,8 @@ pub use operation::Operation;
 pub use operations::Operations;
 pub use operator::Operator;
 
-/// The place of a glyph in a font, from 0.
+/// A glyph index in a font, counted from 0.
 pub type GlyphID = u16;
 
-/// The number of a string: a standard string below 391, one of the font from there on.
+/// A string identifier (SID): a standard string below 391, and a string of the font from 391 on.
 pub type StringID = u16;

@@ -1,4 +1,4 @@
-//! What a call is refused with.
+//! The errors of this library.
 ghost use Rattle.std.specs.Prelude.{◌≡◌};
 ghost use Rattle.postscript_base.specs.Error.{code, FromIo};
 ghost use Rattle.postscript_base.specs.declared.error.Error.TheVariants as errors;
@@ -8,75 +8,76 @@ use std::alloc::{AllocError, AllocFailed};
 use std::io;
 use thiserror::Error;
 
-/// What a call answers, or the error that it is refused with.
+/// The result of a call that can fail with an [`enum@Error`].
 pub type Result<T> = std::result::Result<T, Error>;
 
-/// A refusal.
+/// An error.
 #[derive(Debug, Drop, Error)]
 pub enum Error {
-    /// The input ends early: something is cut off, or its place lies past the end. Also a fault of this kind of a
-    /// reader, a seek or a writer.
+    /// The data ends early, or an offset points past the end. A reader, a seek or a writer can also fail with this kind
+    /// of `io::Error`.
     #[error("failed to fill whole buffer")]
     UnexpectedEof,
-    /// A reader, a seek or a writer answered another fault.
+    /// A reader, a seek or a writer failed with any other kind of `io::Error`.
     #[error("found a fault of the tape")]
     Io(io::Error),
-    /// Memory was asked for and refused.
+    /// Out of memory.
     #[error("failed to find memory")]
     Memory,
-    /// A tape goes on giving operations of a dictionary, and its place does not rise.
+    /// A tape keeps giving operations of a dictionary, but its offset does not increase.
     #[error("found a tape that stands still")]
     TapeStuck,
-    /// Offsets of an INDEX of no byte, or of more than four.
+    /// The offset size of an INDEX is 0 or greater than 4.
     #[error("found a malformed offset")]
     MalformedOffset,
-    /// The offsets of an INDEX do not begin with 1, or one is not greater than the one before it.
+    /// The offsets of an INDEX do not begin with 1, or one is less than the one before it. `Index` rejects equal ones
+    /// too.
     #[error("found a malformed index")]
     MalformedIndex,
     /// The bytes spell no number.
     #[error("found a malformed number")]
     MalformedNumber,
-    /// A real of more than 18 digits that count, or of an exponent that is not from -1000 to 1000.
+    /// A real has more than 18 significant digits, or its exponent is not from -1000 to 1000.
     #[error("found a number out of range")]
     OutOfRangeNumber,
-    /// The code names no operator.
+    /// No operator has the code.
     #[error("found an unknown operator")]
     UnknownOperator,
-    /// Ranges of a char set cover more glyphs than there are, there are no glyphs, or it is of another format than is
-    /// read.
+    /// The ranges of a charset cover more glyphs than there are, there are no glyphs, or the format is not the one
+    /// expected.
     #[error("found a malformed char set")]
     MalformedCharSet,
-    /// No char set has the format that its first byte names.
+    /// The format byte of a charset is unknown.
     #[error("found an unknown char-set format")]
     UnknownCharSetFormat,
-    /// Char strings of another type than 2.
+    /// The charstrings are not of type 2.
     #[error("found an unknown char-string format")]
     UnknownCharStringFormat,
-    /// An operand of this operator is no whole number in the range of `i32`.
+    /// An operand of this operator is not an integer in the range of `i32`.
     #[error("found a malformed operation with operator {}", .0.name())]
     MalformedOperation(Operator),
     /// This operator is missing, or has too few operands.
     #[error("failed to find an operation with operator {}", .0.name())]
     MissingOperation(Operator),
-    /// A size, an offset or a sum of offsets is negative, or 64 bits do not count the place.
+    /// A size, an offset or a sum of offsets is negative, or does not fit in 64 bits.
     #[error("found an offset out of range")]
     OutOfRangeOffset,
-    /// A part of the format that this library does not follow.
+    /// A part of the format that this library does not support.
     #[error("found an unsupported part")]
     Unsupported(Part),
     /// An operator takes an operand off an empty stack.
     #[error("expected an operand")]
     ExpectedOperand,
-    /// The number of a subroutine, or a number that an operator counts by, is missing or no whole number.
+    /// A subroutine number, or a number that an operator counts by, is missing or not an integer.
     #[error("expected an operand of a different type")]
     ExpectedInteger,
-    /// The stack is shallower than `dup`, `index` or `roll` reaches.
+    /// The stack has fewer operands than `dup`, `index` or `roll` needs.
     #[error("expected more operands")]
     ExpectedMoreOperands,
     /// The stack has too few operands for an operator that draws or declares stems.
     #[error("found malformed operands")]
     MalformedOperands,
-    /// The span of a `roll` is negative, or the place of a stored number is not from 0 to 31.
+    /// The count of a `roll` is negative, or the index of a stored number is not from 0 to 31.
     #[error("found an invalid operand")]
     InvalidOperand,
     /// No subroutine has the number.
@@ -85,30 +86,30 @@ pub enum Error {
     /// The outermost code returns.
     #[error("found a return operator without a caller")]
     ReturnWithoutCaller,
-    /// `endchar` in a subroutine while bytes follow in it, or in a subroutine that led to it.
+    /// `endchar` is in a subroutine, and bytes follow in it or in one of the subroutines that led to it.
     #[error("found trailing data after the end operator")]
     TrailingData,
-    /// An eleventh nested call.
+    /// Calls are nested more than ten deep.
     #[error("found calls nested too deep")]
     TooDeep,
-    /// A sum, a difference, a product, a quotient, an opposite or an absolute value beyond 16.16 bits.
+    /// A sum, difference, product, quotient, negation or absolute value is out of the range of 16.16 bits.
     #[error("found an overflow")]
     Overflow,
     /// A division by zero.
     #[error("found a zero divisor")]
     ZeroDivisor,
-    /// The root of a negative number.
+    /// The square root of a negative number.
     #[error("found a root of a negative number")]
     NegativeRoot,
-    /// More stems than 32 bits count.
+    /// More stems than 32 bits can count.
     #[error("found too many stems")]
     TooManyStems,
-    /// An earlier call of `next` of this program was refused.
+    /// An earlier call on this program failed.
     #[error("the program has failed before")]
     AlreadyFailed,
 }
 
-/// A part of the formats that is refused.
+/// A part of the formats that is not supported.
 #[derive(Clone, Copy, Debug, PartialEq, Eq)]
 pub enum Part {
     /// An encoding other than Standard and Expert.
@@ -118,8 +119,9 @@ pub enum Part {
 }
 
 impl Error {
-    /// The number of the refusal, from 1 to 30, the same in every version of this library. Never refused.
+    /// Returns the number of the error, from 1 to 30. It is the same in every version of this library.
     pub fn code(&self) -> u8
+        // The result is the number of the error in specs/RefusalOf.antt.
         ensures { result ≡ code self.now }
     {
         match self {
@@ -157,8 +159,7 @@ impl Error {
     }
 }
 
-/// A fault of a tape: `UnexpectedEof` where it is of that kind, and else `Io` with the fault as it came. Never
-/// refused.
+/// Converts a fault of a tape: to `UnexpectedEof` if it is of that kind, and otherwise to `Io` with the fault in it.
 impl From<io::Error> for Error {
     ghost from_gives = { FromIo };
 
@@ -170,7 +171,7 @@ impl From<io::Error> for Error {
     }
 }
 
-/// Memory that was refused: `Memory`. Never refused.
+/// Converts a failed allocation to `Memory`.
 impl From<AllocError> for Error {
     ghost from_gives = { λ _ e. e ≡ errors.Memory };
 
@@ -179,7 +180,7 @@ impl From<AllocError> for Error {
     }
 }
 
-/// Memory that was refused to a call that hands its value back: `Memory`. Never refused.
+/// Converts a failed allocation that returns the value to its caller. The result is `Memory`.
 impl<T: Drop> From<AllocFailed<T>> for Error {
     ghost from_gives = { λ _ e. e ≡ errors.Memory };
 

@@ -1,4 +1,4 @@
-//! An INDEX in place.
+//! An INDEX that stays in its bytes.
 ghost use Rattle.std.specs.Prelude.{◌≡◌, ◌⊎◌, ℕ, ◌+◌, ◌*◌, ◌<◌, ◌≤◌, ◌^◌, List, [], ◌∷◌, length, IfOk, IfErr, MatchResult, option_map, slice_get, slice_index_or, IsTrue, ◌↔◌};
 ghost use Rattle.postscript_base.specs.Error.{IsListed};
 ghost use Rattle.postscript_base.specs.declared.error.Error.TheVariants as errors;
@@ -13,8 +13,8 @@ use number::{lent, number_at, number_within};
 use std::iter::FusedIterator;
 use std::marker::Model;
 
-/// The items of an INDEX, lent: each is a slice of the bytes that it stands in (Technical Note 5176, "INDEX Data"). An item
-/// may have no bytes.
+/// A view of the items of an INDEX. Each item is a slice of the bytes of the font (Technical Note 5176, "INDEX Data").
+/// An item may be empty.
 #[derive(Clone, Copy)]
 pub struct IndexView<'l> {
     pub(crate) bytes: &'l [u8],
@@ -29,9 +29,10 @@ pub struct IndexView<'l> {
 impl<'l> IndexView<'l> {
     ghost use Rattle.postscript_base.specs.Index.Lent.{items_of, AreLentFrom, Opens};
 
-    /// No items. Never refused.
+    /// Returns a view without items.
     #[tactic(auto, using(crate::proofs::ItemsAt::no_items))]
     pub fn empty() -> IndexView<'l>
+        // The view has no items.
         ensures { items_of result ≡ [] }
     {
         IndexView {
@@ -42,18 +43,25 @@ impl<'l> IndexView<'l> {
         }
     }
 
-    /// The items of the INDEX at a place, and the place behind it. Of the offsets only the last one is looked at: where they
-    /// are not in order an item between offsets that fall has no bytes, and one past the end is cut.
+    /// Opens the INDEX at the offset `place`, and returns its items and the offset after it.
     ///
-    /// Refused: `UnexpectedEof` where the count, the size, an offset or the last item is cut; `MalformedOffset` for offsets
-    /// of no byte or of more than four.
+    /// Only the last of the INDEX's own offsets is checked. If the others are out of order, an item between offsets
+    /// that decrease is empty, and an item that goes past the end is truncated.
+    ///
+    /// # Errors
+    ///
+    /// - `UnexpectedEof`: the count, the size, an offset or the last item is truncated.
+    /// - `MalformedOffset`: the offset size is 0 or greater than 4.
     #[tactic(auto, unfolding(crate::specs::Index::opened))]
     #[inline(always)]
     pub fn open(bytes: &'l [u8], place: usize) -> Result<(IndexView<'l>, usize)>
+        // The result is exactly what `opened` computes from the bytes (specs/Index.antt).
         ensures reads { Opens result (opened bytes.now place) }
+        // Gives items and end of an INDEX at `place`, sorted or not. Fails exactly without one.
         ensures exact { MatchResult result
             (λ read. IsOpened bytes.now place (items_of read.0) read.1)
             (λ e. (items : List (List ℕ)) (next : ℕ) → IsOpened bytes.now place items next → ⊥) }
+        // The only errors are `UnexpectedEof` and `MalformedOffset`.
         ensures listed { IsListed (1 ∷ 5 ∷ []) result }
     {
         let count = number_within(bytes, place, 2)?;
@@ -63,16 +71,23 @@ impl<'l> IndexView<'l> {
         IndexView::filled(bytes, place, count)
     }
 
-    /// The items of the INDEX at a place, and the place behind it. Answered exactly where one stands, whose offsets begin
-    /// with 1 and do not fall.
+    /// Reads the INDEX at the offset `place`, and returns its items and the offset after it. It succeeds exactly if
+    /// there is an INDEX whose own offsets begin with 1 and do not decrease.
     ///
-    /// Refused: as `open` is; `MalformedIndex` where an INDEX stands whose offsets are not in order.
+    /// # Errors
+    ///
+    /// - The errors of [`IndexView::open`].
+    /// - `MalformedIndex`: there is an INDEX, but its offsets are not in order.
     pub fn read(bytes: &'l [u8], place: usize) -> Result<(IndexView<'l>, usize)>
+        // Gives the items and the end of a sorted INDEX at `place`. Fails exactly if there is none.
         ensures exact { MatchResult result
             (λ read. IsIndex bytes.now place (items_of read.0) read.1)
             (λ e. (items : List (List ℕ)) (next : ℕ) → IsIndex bytes.now place items next → ⊥) }
+        // An error is `MalformedOffset` exactly if a nonzero count precedes a size not from 1 to 4.
         ensures sizes { IfErr result (λ e. (e ≡ errors.MalformedOffset) ↔ HasBadSize bytes.now place 2) }
+        // An error is `MalformedIndex` exactly if there is an INDEX with its offsets out of order.
         ensures order { IfErr result (λ e. (e ≡ errors.MalformedIndex) ↔ IsOutOfOrder bytes.now place) }
+        // The only errors are `UnexpectedEof`, `MalformedOffset` and `MalformedIndex`.
         ensures listed { IsListed (1 ∷ 5 ∷ 6 ∷ []) result }
     {
         let count = number_within(bytes, place, 2)?;
@@ -87,7 +102,7 @@ impl<'l> IndexView<'l> {
         }
     }
 
-    /// The items that stand behind their count.
+    /// Reads the items after their count.
     #[tactic(auto, unfolding(crate::specs::Index::spread))]
     #[inline(always)]
     fn filled(bytes: &'l [u8], place: usize, count: usize) -> Result<(IndexView<'l>, usize)>
@@ -124,15 +139,16 @@ impl<'l> IndexView<'l> {
         Ok((items, next))
     }
 
-    /// How many items there are. Never refused.
+    /// Returns the number of items.
     #[tactic(auto, using(crate::proofs::ItemsAt::length_items))]
     pub fn len(&self) -> usize
+        // The result is the number of items.
         ensures { result ≡ length (items_of self.now) }
     {
         self.count
     }
 
-    /// An offset.
+    /// Returns offset `i` as it is stored.
     #[inline(always)]
     fn offset(&self, i: usize) -> usize
         requires { i ≤ self.now.count }
@@ -142,7 +158,7 @@ impl<'l> IndexView<'l> {
         number_at(self.bytes, self.start + i * self.size, self.size)
     }
 
-    /// Whether the offsets begin with 1 and do not fall.
+    /// Returns whether the offsets begin with 1 and do not decrease.
     pub(crate) fn are_in_order(&self) -> bool
         ensures { IsTrue result ↔ AreInOrder self.now.bytes.now self.now.start self.now.size self.now.count }
     {
@@ -160,7 +176,7 @@ impl<'l> IndexView<'l> {
         true
     }
 
-    /// The place that an offset names.
+    /// Returns the offset in the bytes that the stored offset `i` points to.
     #[inline(always)]
     pub(crate) fn place(&self, i: usize) -> usize
         requires { i ≤ self.now.count }
@@ -169,19 +185,21 @@ impl<'l> IndexView<'l> {
         (self.start + (self.count + 1) * self.size + self.offset(i)).saturating_sub(1)
     }
 
-    /// The bytes of the item at a place, counted from 0, where the caller proves that there is one. Never refused.
+    /// Returns the bytes of item `i`, counted from 0. The caller proves that there is such an item.
     #[tactic(auto, using(crate::proofs::ItemsAt::item_read, crate::proofs::ItemsAt::within, crate::proofs::ItemsAt::length_items))]
     pub fn item(&self, i: usize) -> &'l [u8]
         requires { i < length (items_of self.now) }
+        // The result is the bytes of item `i`.
         ensures { result.now ≡ slice_index_or (items_of self.now) i result.now }
     {
         lent(self.bytes, self.place(i), self.place(i + 1))
     }
 
-    /// The bytes of the item at a place, counted from 0. None where there is no such item. Never refused.
+    /// Returns the bytes of item `i`, counted from 0. It is `None` if there is no such item.
     #[tactic(auto, using(crate::proofs::ItemsAt::item_at_place, crate::proofs::ItemsAt::item_past))]
     #[inline(always)]
     pub fn get(&self, i: usize) -> Option<&'l [u8]>
+        // The result is the bytes of item `i`, or `None` if there is no such item.
         ensures { option_map (λ item. item.now) result ≡ slice_get (items_of self.now) i }
     {
         if i >= self.count {
@@ -190,7 +208,7 @@ impl<'l> IndexView<'l> {
         Some(lent(self.bytes, self.place(i), self.place(i + 1)))
     }
 
-    /// The items in order. Never refused.
+    /// Iterates over the items in order.
     ///
     /// ```rust
     /// pub fn bytes_of_items(items: &IndexView<'_>) -> usize {
@@ -202,6 +220,7 @@ impl<'l> IndexView<'l> {
     /// }
     /// ```
     pub fn iter(&self) -> ItemsIter<'l>
+        // The iterator yields all items in order.
         ensures { result ≡ items_of self.now }
     {
         ItemsIter {
@@ -211,7 +230,7 @@ impl<'l> IndexView<'l> {
     }
 }
 
-/// The items that are left of an INDEX, in their order. From [`IndexView::iter`].
+/// An iterator over the items of an INDEX in order, from [`IndexView::iter`].
 #[derive(Drop)]
 pub struct ItemsIter<'l> {
     items: IndexView<'l>,
@@ -237,7 +256,7 @@ impl<'l> Iterator for ItemsIter<'l> {
 
     ghost remaining = { item_count (λ left. left) };
 
-    /// The next item. None once all were given.
+    /// Returns the next item, and `None` after the last one.
     fn next(&mut self) -> Option<&'l [u8]> {
         if self.next >= self.items.len() {
             return None;

@@ -1,4 +1,4 @@
-//! Numbers that dictionaries and charstrings spell alike.
+//! Numbers with the same spelling in dictionaries and in charstrings.
 ghost use Rattle.std.specs.Prelude.{[], ◌∷◌, ◌≡◌, ◌≤◌, ◌<◌, pos, ◌+ℤ◌, ◌-ℤ◌, ◌*ℤ◌};
 ghost use Rattle.postscript_base.specs.Error.{IsListed};
 ghost use Rattle.postscript_base.specs.Tape.Outcome.{same};
@@ -8,66 +8,84 @@ ghost use Rattle.postscript_base.specs.Numbers.{number, small as the_small, abov
 use crate::tape::fixed;
 use crate::{Result, Tape};
 
-/// The next byte as a number, from 0 to 255.
+/// Reads the next byte, a number from 0 to 255.
 ///
-/// Refused: `UnexpectedEof` where no byte is left, `Io`.
+/// # Errors
+///
+/// - `UnexpectedEof`: no byte is left.
+/// - `Io`: any other fault of the tape.
 #[inline(always)]
 #[tactic(auto, unfolding(crate::specs::Numbers::number))]
 pub fn byte<T: Tape>(tape: &mut T) -> Result<u8>
+    // An honest tape gives exactly the next byte, or fails if none is left.
     ensures exact { Reads same (T.state tape.old) result (T.state tape.new) (number 1) }
+    // The only errors are `UnexpectedEof` and `Io`.
     ensures listed { IsListed (1 ∷ 2 ∷ []) result }
 {
     let [byte] = fixed::<1, T>(tape)?;
     Ok(byte)
 }
 
-/// The next two bytes as a number, the high byte first (Technical Note 5176, "Data Types").
+/// Reads the next two bytes as a big-endian number (Technical Note 5176, "Data Types").
 ///
-/// Refused: `UnexpectedEof` where fewer are left, `Io`.
+/// # Errors
+///
+/// - `UnexpectedEof`: fewer bytes are left.
+/// - `Io`: any other fault of the tape.
 #[inline(always)]
 #[tactic(auto, unfolding(crate::specs::Numbers::number))]
 pub fn word<T: Tape>(tape: &mut T) -> Result<u16>
+    // An honest tape gives exactly the number of the next two bytes, or fails if fewer are left.
     ensures exact { Reads same (T.state tape.old) result (T.state tape.new) (number 2) }
+    // The only errors are `UnexpectedEof` and `Io`.
     ensures listed { IsListed (1 ∷ 2 ∷ []) result }
 {
     Ok(u16::from_be_bytes(fixed(tape)?))
 }
 
-/// The next four bytes as a number, the high byte first.
+/// Reads the next four bytes as a big-endian number.
 ///
-/// Refused: `UnexpectedEof` where fewer are left, `Io`.
+/// # Errors
+///
+/// - `UnexpectedEof`: fewer bytes are left.
+/// - `Io`: any other fault of the tape.
 #[inline(always)]
 #[tactic(auto, unfolding(crate::specs::Numbers::number))]
 pub fn long_word<T: Tape>(tape: &mut T) -> Result<u32>
+    // An honest tape gives exactly the number of the next four bytes, or fails if fewer are left.
     ensures exact { Reads same (T.state tape.old) result (T.state tape.new) (number 4) }
+    // The only errors are `UnexpectedEof` and `Io`.
     ensures listed { IsListed (1 ∷ 2 ∷ []) result }
 {
     Ok(u32::from_be_bytes(fixed(tape)?))
 }
 
-/// The whole number of one byte, from -107 to 107 (Technical Note 5176, "DICT Data"; 5177, "Charstring Number
-/// Encoding"). The byte is from 32 to 246. Never refused.
+/// Decodes an integer of one byte, which is from 32 to 246. The result is from -107 to 107 (Technical Note 5176, "DICT
+/// Data", and Technical Note 5177, "Charstring Number Encoding").
 pub fn small(first: u8) -> i16
     requires low { 32 ≤ first }
     requires high { first < 247 }
+    // The result is `first - 139`.
     ensures { result ≡ the_small first }
 {
     i16::from(first) - 139
 }
 
-/// The whole number of two bytes, from 108 to 1131; the first byte is from 247 to 250. Never refused.
+/// Decodes an integer of two bytes whose first byte is from 247 to 250. The result is from 108 to 1131.
 pub fn above(first: u8, second: u8) -> i16
     requires low { 247 ≤ first }
     requires high { first < 251 }
+    // The result is `(first - 247) * 256 + second + 108`.
     ensures { result ≡ the_above first second }
 {
     (i16::from(first) - 247) * 256 + i16::from(second) + 108
 }
 
-/// The whole number of two bytes, from -108 down to -1131; the first byte is from 251 to 254. Never refused.
+/// Decodes an integer of two bytes whose first byte is from 251 to 254. The result is from -108 down to -1131.
 pub fn below(first: u8, second: u8) -> i16
     requires low { 251 ≤ first }
     requires high { first < 255 }
+    // The result is `(251 - first) * 256 - second - 108`.
     ensures { result ≡ the_below first second }
 {
     (251 - i16::from(first)) * 256 - i16::from(second) - 108

@@ -1,4 +1,4 @@
-//! The operand of a real's digits.
+//! The operand spelled by the digits of a real.
 ghost use Rattle.std.specs.Prelude.{◌≡◌, ℕ, pos, ◌+◌, ◌*◌, ◌^◌, ◌<◌, ◌≤◌, length, min, IfSome, IfNone, ◌++◌};
 ghost use Rattle.std.specs.Int.RustNames.{unsigned_abs};
 ghost use Rattle.postscript_base.specs.Compact1.Decimal.{AreEqual, Decimal, HasOperand, IsDigits, digits_number, operand_of, real_value, signed};
@@ -6,10 +6,10 @@ ghost use Rattle.postscript_base.specs.Compact1.Decimal.{AreEqual, Decimal, HasO
 use super::operand::{Operand, of_digits};
 use super::significant::{Significant, push_all};
 
-/// No exponent of an operand is reached from here by as many places as a text can have.
+/// More digits than any text can have cannot bring an exponent of this size back into the range of operands.
 const FAR: u128 = 1_180_591_620_717_411_303_424;
 
-/// The number that digits spell, up to `FAR`.
+/// Returns the number that the digits spell, capped at `FAR` or a little above it.
 fn up_to_far(digits: &[u8]) -> u128
     requires { IsDigits digits.now }
     ensures near { result < 2 ^ 80 }
@@ -24,7 +24,7 @@ fn up_to_far(digits: &[u8]) -> u128
     size
 }
 
-/// A number with a sign.
+/// Applies a sign to a number.
 fn with_sign(negative: bool, size: u128) -> i128
     requires { size < 2 ^ 80 }
     ensures value { result ≡ signed negative size }
@@ -37,7 +37,7 @@ fn with_sign(negative: bool, size: u128) -> i128
     }
 }
 
-/// The operand of a real's digits: before and behind the point, and those of its exponent.
+/// Returns the operand of a real from the digits before the point, after the point, and in the exponent.
 pub(crate) fn of_real(
     negative: bool,
     whole: &[u8],

@@ -1,4 +1,4 @@
-//! The header.
+//! The header of a font.
 ghost use Rattle.std.specs.Prelude.{[], ◌∷◌};
 ghost use Rattle.postscript_base.specs.Tape.Outcome.{same};
 ghost use Rattle.postscript_base.specs.Private.Seen.{each_as_it_is};
@@ -8,22 +8,25 @@ use crate::error::Result;
 use crate::tape::{Tape, Value};
 use std::alloc::Global;
 
-/// A header (Technical Note 5176, "Header"). Neither the version nor the sizes are tested.
+/// The header of a font (Technical Note 5176, "Header"). Neither the version nor the sizes are checked.
 #[derive(Clone, Copy, Debug, PartialEq, Eq)]
 pub struct Header {
     /// The major version.
     pub major: u8,
     /// The minor version.
     pub minor: u8,
-    /// The size of the header, in bytes.
+    /// The size of the header in bytes.
     pub header_size: u8,
-    /// The size of offsets from the beginning of the font, in bytes.
+    /// The size in bytes of offsets from the start of the font.
     pub offset_size: OffsetSize,
 }
 
-/// Four bytes, in the order of the fields (Technical Note 5176, "Header"). None is tested.
+/// Reads four bytes, in the order of the fields (Technical Note 5176, "Header"). Their values are not checked.
 ///
-/// Refused: `UnexpectedEof` where fewer are left, `Io`.
+/// # Errors
+///
+/// - `UnexpectedEof`: fewer than four bytes are left.
+/// - `Io`: any other fault of the tape.
 #[tactic(auto, unfolding(crate::specs::Compact1::Header::header))]
 impl Value for Header {
     ghost use Rattle.postscript_base.specs.Compact1.Header.{header};

@@ -1,4 +1,4 @@
-//! What equality and hash of operands say, and what dictionaries are.
+//! Laws about operands and dictionaries: equality, hashing and reading.
 ghost use Rattle.std.specs.Prelude.{◌≡◌, ◌↔◌, IsTrue};
 ghost use Rattle.postscript_base.specs.Compact1.Decimal.{AreEqual, Decimal, HasOperand};
 ghost use Rattle.postscript_base.specs.Compact1.DictionaryLaw.{ReadsDictionaries};
@@ -7,34 +7,41 @@ ghost use Rattle.postscript_base.specs.Compact1.OperationLaw.{ReadsOperations};
 use super::operand::Operand;
 use std::hash::Hash;
 
-/// Whether operands are equal: exactly where their values are, and then they are the same operand. Never refused.
+/// Compares two operands. They are equal exactly if their values are, and then they are the same operand.
 pub fn are_equal(a: &Operand, b: &Operand) -> bool
+    // The result is true exactly if the values are equal.
     ensures equal { IsTrue result ↔ AreEqual a.now b.now }
+    // Operands of equal value are the same operand.
     ensures one_operand { AreEqual a.now b.now → a.now ≡ b.now }
 {
-    // The proof learns here that both are operands.
+    // These calls give the proof the invariant of both operands.
     let _ = (a.mantissa(), b.mantissa());
     a == b
 }
 
-/// A law: operands of one value hash alike. It does nothing and is never refused.
+/// States that operands of equal value hash alike. It does nothing at run time.
 pub fn hash_alike()
+    // Operands of equal value give the same input to a hasher.
     ensures { (a b : Decimal) → HasOperand a → HasOperand b → AreEqual a b →
         ⟦<Operand as Hash>⟧.hash_input a ≡ ⟦<Operand as Hash>⟧.hash_input b }
 {}
 
-/// A law: an operation of a dictionary is read where operands are spelled one behind the other, and then an operator.
-/// Other bytes are refused as the number or operator that stands behind the operands, and is bad or cut. It does nothing
-/// and is never refused.
+/// States how an operation of a dictionary is read. It does nothing at run time.
+///
+/// An operation is read exactly if the bytes at the offset spell operands and then an operator. Otherwise the error is
+/// the one for the number or operator after the operands, which is malformed or truncated.
 #[tactic(auto, using(crate::proofs::OperationIs::reads_operations))]
 pub fn reads_operations()
+    // An operation is read exactly if the bytes spell operands and then an operator.
     ensures law { ReadsOperations }
 {}
 
-/// A law: a dictionary is read where bytes are operations followed by an unfinished rest, and the map has the operands
-/// of the last operation of each operator. Other bytes are refused as the first number or operator that is bad. It
-/// does nothing and is never refused.
+/// States how a dictionary is read. It does nothing at run time.
+///
+/// A dictionary is read exactly if the bytes are operations followed by an unfinished rest. The map has the operands
+/// of the last operation of each operator. Otherwise the error is the one for the first bad number or operator.
 #[tactic(auto, using(crate::proofs::DictionaryIs::reads_dictionaries))]
 pub fn reads_dictionaries()
+    // A dictionary is read exactly if the bytes are operations and an unfinished rest.
     ensures law { ReadsDictionaries }
 {}

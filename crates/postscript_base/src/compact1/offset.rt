@@ -1,4 +1,4 @@
-//! Offsets.
+//! Offsets, as fonts store them.
 ghost use Rattle.std.specs.Prelude.{◌≡◌, ◌≢◌, ℕ, List, [], ◌∷◌, IsTrue};
 ghost use Rattle.postscript_base.specs.Error.{IsListed};
 ghost use Rattle.postscript_base.specs.Numbers.{number};
@@ -12,7 +12,7 @@ use crate::tape::{Linked, Tape, Value, Walue};
 use std::alloc::Global;
 use std::marker::Model;
 
-/// How many bytes an offset has.
+/// The number of bytes in an offset.
 pub type OffsetSize = u8;
 
 /// An offset (Technical Note 5176, "Data Types").
@@ -32,10 +32,13 @@ impl Model for Offset {
     ghost inverse = { λ n. record { 0 = n } };
 }
 
-/// The number of so many bytes, the high byte first. The parameter is the number of bytes, from 1 to 4.
+/// Reads an offset: a big-endian number. The parameter is its number of bytes, from 1 to 4.
 ///
-/// Refused: `MalformedOffset` for another number of bytes, whatever stands there, with the tape as it was; `UnexpectedEof`
-/// where fewer are left, `Io`.
+/// # Errors
+///
+/// - `MalformedOffset`: the parameter is not from 1 to 4. The tape is then unchanged, whatever it contains.
+/// - `UnexpectedEof`: fewer bytes are left.
+/// - `Io`: any other fault of the tape.
 #[tactic(auto, unfolding(crate::specs::Compact1::Offset::offset))]
 impl Walue for Offset {
     type Parameter = OffsetSize;
@@ -53,10 +56,15 @@ impl Walue for Offset {
     ghost refusals = { 1 ∷ 2 ∷ 5 ∷ [] };
 
     fn read<T: Tape>(alloc: Global, tape: &mut T, size: OffsetSize) -> Result<Offset>
+        // An honest tape gives exactly the number of the next `size` bytes, if the size is valid.
         ensures exact { Reads same (T.state tape.old) result (T.state tape.new) (offset size) }
+        // The only errors are `UnexpectedEof`, `Io` and `MalformedOffset`.
         ensures listed { IsListed (1 ∷ 2 ∷ 5 ∷ []) result }
+        // After `MalformedOffset` the state of the tape is unchanged.
         ensures untouched { result ≡ Err Error.MalformedOffset → T.state tape.new ≡ T.state tape.old }
+        // A size other than 1 to 4 is `MalformedOffset`, and the tape is unchanged.
         ensures refused { ¬ IsOffsetSize size → (result ≡ Err Error.MalformedOffset) × (tape.new ≡ tape.old) }
+        // A size from 1 to 4 is never `MalformedOffset`.
         ensures sized { IsOffsetSize size → result ≢ Err Error.MalformedOffset }
     {
         match size {
@@ -69,11 +77,15 @@ impl Walue for Offset {
     }
 }
 
-/// An offset of an INDEX (Technical Note 5176, "INDEX Data"). It is given the number of bytes, from 1 to 4, and the
-/// last offset, where one was read.
+/// Reads an offset of an INDEX (Technical Note 5176, "INDEX Data"). It is given the number of bytes, from 1 to 4, and
+/// the previous offset, if there was one.
 ///
-/// Refused: `MalformedOffset` for another number of bytes; `UnexpectedEof` where fewer are left; `MalformedIndex`
-/// where the first offset is not 1 or a next one is not greater than the last; `Io`.
+/// # Errors
+///
+/// - `MalformedOffset`: the number of bytes is not from 1 to 4.
+/// - `UnexpectedEof`: fewer bytes are left.
+/// - `MalformedIndex`: the first offset is not 1, or a later one is not greater than the one before it.
+/// - `Io`: any other fault of the tape.
 #[tactic(auto, unfolding(crate::specs::Compact1::Offset::rising))]
 impl Linked for Offset {
     type Given = (OffsetSize, Option<Offset>);
@@ -109,7 +121,7 @@ impl Linked for Offset {
     }
 }
 
-/// Whether an offset may follow the last one.
+/// Returns whether an offset may follow the previous one.
 fn rises(last: Option<Offset>, next: Offset) -> bool
     ensures { result ≡ the_test last next }
 {
@@ -119,7 +131,7 @@ fn rises(last: Option<Offset>, next: Offset) -> bool
     }
 }
 
-/// The offset of three bytes.
+/// Reads an offset of three bytes.
 #[tactic(auto, unfolding(crate::specs::Numbers::number))]
 fn three_bytes<T: Tape>(alloc: Global, tape: &mut T) -> Result<Offset>
     ensures exact { Reads same (T.state tape.old) result (T.state tape.new) (number 3) }

@@ -7,8 +7,8 @@ ghost use Rattle.postscript_base.specs.Compact1.Decimal.{canonical, Decimal, Has
 use std::fmt;
 use std::marker::Model;
 
-/// A decimal number, `mantissa * 10^exponent`, in its one form: the mantissa has at most eighteen digits and does not
-/// end in 0, the exponent is from -1000 to 1000, and zero is `(0, 0)`.
+/// A decimal number, `mantissa * 10^exponent`. Each value has only one form: the mantissa has at most eighteen digits
+/// and does not end in 0, and the exponent is from -1000 to 1000. Zero is `(0, 0)`.
 #[derive(Clone, Copy, Debug, Eq, Hash)]
 pub struct Operand {
     mantissa: i64,
@@ -28,9 +28,10 @@ impl Model for Operand {
 }
 
 impl Operand {
-    /// The operand of `mantissa * 10^exponent`, with the zeros at the mantissa's end moved into the exponent. None
-    /// where the value has no operand: where more than eighteen digits are left, or the exponent is then not from
-    /// -1000 to 1000.
+    /// Returns the operand of `mantissa * 10^exponent`. Zeros at the end of the mantissa move into the exponent.
+    ///
+    /// It returns `None` if the value has no operand: more than eighteen digits remain, or the exponent is then not
+    /// from -1000 to 1000.
     ///
     /// ```rust
     /// pub fn minus_twelve_and_a_half() -> Option<(i64, i32)> {
@@ -39,8 +40,11 @@ impl Operand {
     /// }
     /// ```
     pub fn new(mantissa: i128, exponent: i32) -> Option<Operand>
+        // If it is `Some`, the operand is in its one form and has this value.
         ensures some { IfSome result (λ o. HasOperand o × IsSameValue o.mantissa o.exponent mantissa exponent) }
+        // If it is `None`, no operand has this value.
         ensures none { IfNone result ((m e : ℤ) → IsOperand m e → IsSameValue m e mantissa exponent → ⊥) }
+        // The result is exactly what `operand_of` computes (specs/Compact1/Decimal.antt).
         ensures exact { result ≡ operand_of mantissa exponent }
     {
         if mantissa == 0 {
@@ -54,7 +58,7 @@ impl Operand {
         )
     }
 
-    /// The operand 0.
+    /// Returns the operand 0.
     pub(crate) fn zero() -> Operand
         ensures value { (result.mantissa ≡ pos 0) × (result.exponent ≡ pos 0) }
     {
@@ -64,7 +68,7 @@ impl Operand {
         }
     }
 
-    /// The operand of this form.
+    /// Returns the operand with these fields, which must already be in its one form.
     pub(crate) fn literal(mantissa: i64, exponent: i32) -> Operand
         requires { IsOperand mantissa exponent }
         ensures { result ≡ decimal mantissa exponent }
@@ -72,29 +76,32 @@ impl Operand {
         Operand { mantissa, exponent }
     }
 
-    /// The operand of a whole number.
+    /// Returns the operand of an integer.
     pub(crate) fn from_i32(number: i32) -> Operand
         ensures { result ≡ canonical number (pos 0) }
     {
         Operand::new(i128::from(number), 0).unwrap()
     }
 
-    /// The mantissa: 0, or a number of at most eighteen digits that does not end in 0. Never refused.
+    /// Returns the mantissa: 0, or a number of at most eighteen digits that does not end in 0.
     pub fn mantissa(&self) -> i64
+        // The operand is in its one form: mantissa and exponent are in range, without a last 0.
         ensures operand { HasOperand self.now }
+        // The result is the mantissa of the operand.
         ensures value { result ≡ self.now.mantissa }
     {
         self.mantissa
     }
 
-    /// The exponent, a power of ten, from -1000 to 1000; 0 where the mantissa is 0. Never refused.
+    /// Returns the exponent of ten, from -1000 to 1000. It is 0 if the mantissa is 0.
     pub fn exponent(&self) -> i32
+        // The result is the exponent of the operand.
         ensures { result ≡ self.now.exponent }
     {
         self.exponent
     }
 
-    /// The value, where it is a whole number in the range of `i32`, and else None.
+    /// Returns the value if it is an integer in the range of `i32`, and `None` otherwise.
     ///
     /// ```rust
     /// pub fn a_thousand() -> Option<i32> {
@@ -103,9 +110,12 @@ impl Operand {
     /// }
     /// ```
     pub fn to_i32(&self) -> Option<i32>
+        // If it is `Some`, the integer has the value of the operand.
         ensures some { IfSome result (λ v. IsSameValue self.now.mantissa self.now.exponent v (pos 0)) }
+        // If it is `None`, no `i32` has the value of the operand.
         ensures none { IfNone result ((v : ℤ) → negsuc (2 ^ 31 - 1) ≤ℤ v → v ≤ℤ pos (2 ^ 31 - 1) →
             IsSameValue self.now.mantissa self.now.exponent v (pos 0) → ⊥) }
+        // The result is exactly what `to_i32` computes (specs/Compact1/Decimal.antt).
         ensures exact { result ≡ the_i32 self.now }
     {
         let (mantissa, exponent) = (self.mantissa(), self.exponent());
@@ -116,7 +126,7 @@ impl Operand {
     }
 }
 
-/// Operands are equal exactly if their values are, and then they are the same operand. Never refused.
+/// Compares operands. They are equal exactly if their values are, and then they are the same operand.
 impl PartialEq for Operand {
     ghost use Rattle.std.specs.Prelude.{◌≡◌, ◌↔◌, ◌&&◌, IsTrue};
     ghost use Rattle.std.specs.Cmp.{and_per, on_per, partial_equiv_from_equiv, int_eq_equiv};
@@ -129,15 +139,18 @@ impl PartialEq for Operand {
         (λ o. o.exponent) (partial_equiv_from_equiv int_eq_equiv)) };
 
     fn eq(&self, other: &Operand) -> bool
+        // The result is true exactly if both the mantissas and the exponents are equal.
         ensures exact { result ≡ (int_eq self.now.mantissa other.now.mantissa && int_eq self.now.exponent other.now.exponent) }
+        // The result is true exactly if the values are equal.
         ensures equal { IsTrue result ↔ AreEqual self.now other.now }
+        // Equal operands are the same operand.
         ensures one_operand { IsTrue result → self.now ≡ other.now }
     {
         self.mantissa() == other.mantissa() && self.exponent() == other.exponent()
     }
 }
 
-/// A mantissa times a power of ten.
+/// Returns a mantissa times a power of ten.
 fn raised(mantissa: i64, exponent: i32) -> i128
     requires low { pos 0 ≤ℤ exponent }
     requires high { exponent ≤ℤ pos 9 }
@@ -146,7 +159,7 @@ fn raised(mantissa: i64, exponent: i32) -> i128
     i128::from(mantissa) * i128::from(10u32.pow(exponent as u32))
 }
 
-/// A number, where it is in the range of `i32`.
+/// Returns a number if it is in the range of `i32`.
 fn in_32_bits(value: i128) -> Option<i32>
     ensures some { IfSome result (λ v. (v ≡ value) × IsOf32Bits v) }
     ensures none { IfNone result (IsOf32Bits value → ⊥) }
@@ -154,7 +167,7 @@ fn in_32_bits(value: i128) -> Option<i32>
     i32::try_from(value).ok()
 }
 
-/// The mantissa where the exponent is 0, else mantissa, `e`, exponent, as `-125e-1`.
+/// Writes the mantissa if the exponent is 0, and otherwise the mantissa, `e` and the exponent, as in `-125e-1`.
 impl fmt::Display for Operand {
     ghost output = { λ operand. Some (printed operand) };
 
@@ -168,7 +181,7 @@ impl fmt::Display for Operand {
     }
 }
 
-/// A number without the zeros at its end, and how many these were.
+/// Returns a number without its trailing zeros, and their count.
 fn stripped(number: u128) -> (u128, u32)
     requires { 0 < number }
     ensures whole { number ≡ result.0 * 10 ^ result.1 }
@@ -184,7 +197,7 @@ fn stripped(number: u128) -> (u128, u32)
     }
 }
 
-/// The same of a number of 64 bits: divisions of 128 bits are dear.
+/// As `stripped`, for 64 bits, since 128-bit division is slow.
 fn stripped_short(number: u64) -> (u64, u32)
     requires { 0 < number }
     ensures whole { number ≡ result.0 * 10 ^ result.1 }
@@ -200,7 +213,7 @@ fn stripped_short(number: u64) -> (u64, u32)
     (short, zeros)
 }
 
-/// The same of any number.
+/// As `stripped`, for any number.
 fn stripped_long(number: u128) -> (u128, u32)
     requires { 0 < number }
     ensures whole { number ≡ result.0 * 10 ^ result.1 }
@@ -216,7 +229,7 @@ fn stripped_long(number: u128) -> (u128, u32)
     (rest, zeros)
 }
 
-/// The operand of digits that do not end in 0, at an exponent.
+/// Returns the operand of digits that do not end in 0, and an exponent.
 pub(crate) fn of_digits(negative: bool, digits: u128, exponent: i128) -> Option<Operand>
     requires { digits % 10 ≢ 0 }
     ensures some { IfSome result (λ o. (o.mantissa ≡ signed negative digits) × (o.exponent ≡ exponent)) }

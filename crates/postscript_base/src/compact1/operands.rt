@@ -1,4 +1,4 @@
-//! Operands of an operator, lent from a dictionary or constant.
+//! Operands of an operator, borrowed from a dictionary or constant.
 ghost use Rattle.std.specs.Prelude.{◌≡◌, [], ◌∷◌, length};
 ghost use Rattle.postscript_base.specs.Compact1.Decimal.{IsOperand};
 ghost use Rattle.postscript_base.specs.Compact1.Defaults.{decimal};
@@ -8,8 +8,8 @@ use std::marker::Model;
 use std::ops::DerefSlice;
 use std::slice::Iter;
 
-/// The operands of an operator, lent from a dictionary, or the constant ones that the operator has by default. What
-/// answers them is handed no allocator.
+/// The operands of an operator: borrowed from a dictionary, or the constant defaults of the operator. Neither needs an
+/// allocator.
 #[derive(Debug, Drop)]
 pub struct Operands<'a> {
     kind: Kind<'a>,
@@ -38,7 +38,7 @@ impl<'a> Model for Operands<'a> {
 }
 
 impl<'a> Operands<'a> {
-    /// Operands that are lent.
+    /// Returns borrowed operands.
     pub(super) fn lent(operands: &'a [Operand]) -> Operands<'a>
         ensures { result ≡ operands.now }
     {
@@ -47,7 +47,7 @@ impl<'a> Operands<'a> {
         }
     }
 
-    /// One constant operand.
+    /// Returns one constant operand.
     pub(super) fn one(mantissa: i64, exponent: i32) -> Operands<'a>
         requires { IsOperand mantissa exponent }
         ensures { result ≡ decimal mantissa exponent ∷ [] }
@@ -57,7 +57,7 @@ impl<'a> Operands<'a> {
         }
     }
 
-    /// Four constant operands.
+    /// Returns four constant operands.
     pub(super) fn four(operands: [Operand; 4]) -> Operands<'a>
         ensures { result ≡ operands }
     {
@@ -66,7 +66,7 @@ impl<'a> Operands<'a> {
         }
     }
 
-    /// Six constant operands.
+    /// Returns six constant operands.
     pub(super) fn six(operands: [Operand; 6]) -> Operands<'a>
         ensures { result ≡ operands }
     {
@@ -75,8 +75,9 @@ impl<'a> Operands<'a> {
         }
     }
 
-    /// The operands as a slice, in the order in which they are written. Never refused.
+    /// Returns the operands as a slice, in the order in which they are written.
     pub fn as_slice(&self) -> &[Operand]
+        // The slice has the operands in order.
         ensures { result.now ≡ self.now }
     {
         match &self.kind {
@@ -87,28 +88,31 @@ impl<'a> Operands<'a> {
         }
     }
 
-    /// How many operands there are. Never refused.
+    /// Returns the number of operands.
     pub fn len(&self) -> usize
+        // The result is the number of operands.
         ensures { result ≡ length self.now }
     {
         self.as_slice().len()
     }
 
-    /// The operands in order, by reference. Never refused.
+    /// Iterates over the operands in order, by reference.
     pub fn iter(&self) -> Iter<'_, Operand>
+        // The iterator yields all operands in order.
         ensures { result.rest.now ≡ self.now }
     {
         self.as_slice().iter()
     }
 }
 
-/// The operands as a slice, so that they are indexed and gone through as one.
+/// Dereferences to a slice, so that operands can be indexed and iterated over.
 impl<'a> DerefSlice for Operands<'a> {
     type Elem = Operand;
 
     ghost deref_gives = { λ operands slice. slice ≡ operands };
 
     fn deref(&self) -> &[Operand]
+        // The slice has the operands in order.
         ensures value { result.now ≡ self.now }
     {
         self.as_slice()

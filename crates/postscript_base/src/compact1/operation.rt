@@ -12,17 +12,24 @@ use crate::tape::{Tape, Value};
 use crate::{Error, Result};
 use std::alloc::Global;
 
-/// For how many operands there is room at first: most operators have fewer.
+/// The initial capacity for operands. Most operators have fewer.
 const ROOM: usize = 4;
 
 /// An operation: an operator and its operands.
 pub type Operation = (Operator, Vec<Operand>);
 
-/// Operands, as many as there are, and then an operator of one byte, or of two behind 0x0c (Technical Note 5176, "DICT
+/// Reads operands, and then an operator of one byte, or of two that begin with 0x0c (Technical Note 5176, "DICT
 /// Data").
 ///
-/// Refused: as the first that is bad: `UnexpectedEof` where the input ends early, `MalformedNumber` or `OutOfRangeNumber`
-/// for an operand, `UnknownOperator`; `Io`, `Memory`.
+/// # Errors
+///
+/// The first bad operand or operator decides.
+///
+/// - `UnexpectedEof`: an operand or the operator is truncated, or there is no operator.
+/// - `MalformedNumber`, `OutOfRangeNumber`: an operand is bad.
+/// - `UnknownOperator`: no operator has the code.
+/// - `Io`: any other fault of the tape.
+/// - `Memory`: out of memory.
 impl Value for Operation {
     ghost use Rattle.std.specs.Prelude.{[], ◌∷◌, map, refl};
     ghost use Rattle.postscript_base.specs.Compact1.Operation.{Operation, operation};
@@ -50,7 +57,7 @@ impl Value for Operation {
     }
 }
 
-/// Reads one operand more, or the operator.
+/// Reads one more operand, or the operator.
 #[inline(always)]
 #[tactic(auto, unfolding(crate::specs::Compact1::Operation::step))]
 fn step<T: Tape>(
@@ -72,14 +79,14 @@ fn step<T: Tape>(
     Ok(None)
 }
 
-/// Whether a byte begins an operand.
+/// Returns whether a byte begins an operand.
 fn begins_operand(first: u8) -> bool
     ensures { result ≡ the_test first }
 {
     (0x1c <= first && first <= 0x1e) || (0x20 <= first && first <= 0xfe)
 }
 
-/// Reads an operator behind its first byte.
+/// Reads the rest of an operator, given its first byte.
 #[inline(always)]
 #[tactic(auto, using(crate::proofs::Outcomes::refused_after, crate::proofs::Known::known_answers, crate::proofs::Known::known_listed))]
 fn operator<T: Tape>(tape: &mut T, first: u8) -> Result<Operator>

@@ -12,7 +12,7 @@ use std::alloc::{AllocError, Global};
 use std::collections::HashMap;
 use std::marker::Model;
 
-/// The operators of a dictionary, each with its operands.
+/// A dictionary: the operators that occur in it, each with its operands.
 #[derive(Drop)]
 pub struct Operations(pub HashMap<Operator, Vec<Operand>>);
 
@@ -29,14 +29,15 @@ impl Model for Operations {
 }
 
 impl Operations {
-    /// A dictionary without operations. Never refused.
+    /// Returns a dictionary without operations.
     pub fn empty(alloc: Global) -> Self
+        // The dictionary has no operators.
         ensures { result ≡ map.empty }
     {
         Operations(HashMap::new(alloc))
     }
 
-    /// No operations, with room for so many.
+    /// Returns a dictionary without operations that has a given capacity.
     fn with_capacity(alloc: Global, capacity: usize) -> Result<Self>
         ensures empty { IfOk result (λ operations. operations ≡ map.empty) }
         ensures listed { IsListed (3 ∷ []) result }
@@ -44,8 +45,8 @@ impl Operations {
         Ok(Operations(HashMap::with_capacity(alloc, capacity)?))
     }
 
-    /// The operands of an operator: those of the dictionary, else its defaults (`Operator::default`), else None. Never
-    /// refused.
+    /// Returns the operands of an operator. If the dictionary has none, they are the defaults (`Operator::default`),
+    /// and `None` if there are no defaults.
     ///
     /// ```rust
     /// pub fn blue_values(dictionary: &Operations) -> usize {
@@ -56,6 +57,7 @@ impl Operations {
     /// }
     /// ```
     pub fn get(&self, operator: Operator) -> Option<Operands<'_>>
+        // The result is the dictionary's operands, or the defaults, or `None` if there are neither.
         ensures { result ≡ look self.now operator }
     {
         match self.0.get(&operator) {
@@ -64,8 +66,8 @@ impl Operations {
         }
     }
 
-    /// The first operand of an operator, of the dictionary or else of its defaults. None where there is none. Never
-    /// refused.
+    /// Returns the first operand of an operator, from the dictionary or from the defaults. It is `None` if there is
+    /// none.
     ///
     /// ```rust
     /// pub fn italic_angle(dictionary: &Operations) -> Option<(i64, i32)> {
@@ -74,14 +76,16 @@ impl Operations {
     /// }
     /// ```
     pub fn get_single(&self, operator: Operator) -> Option<Operand>
+        // The result is the first operand that `get` returns, or `None` if it returns none.
         ensures { result ≡ first_of (look self.now operator) }
     {
         self.get(operator)?.as_slice().first().copied()
     }
 
-    /// The first two operands of an operator, of the dictionary or else of its defaults. None where there are fewer.
-    /// Never refused.
+    /// Returns the first two operands of an operator, from the dictionary or from the defaults. It is `None` if there
+    /// are fewer.
     pub fn get_double(&self, operator: Operator) -> Option<(Operand, Operand)>
+        // The result is the first two operands that `get` returns, or `None` if it returns fewer.
         ensures { result ≡ first_two_of (look self.now operator) }
     {
         let operands = self.get(operator)?;
@@ -91,17 +95,21 @@ impl Operations {
         }
     }
 
-    /// An equal dictionary, in memory of its own: a map, and a list for each operator's operands.
+    /// Returns a copy of the dictionary. It allocates a map, and a list for the operands of each operator.
     ///
-    /// Refused: `Memory`.
+    /// # Errors
+    ///
+    /// - `Memory`: out of memory.
     pub fn clone(&self) -> Result<Self>
+        // The copy has the same operators with the same operands.
         ensures equal { IfOk result (λ map. map ≡ self.now) }
+        // The only error is `Memory`.
         ensures listed { IsListed (3 ∷ []) result }
     {
         Ok(Operations(self.0.clone()?))
     }
 
-    /// Takes an operation in, in the place of an earlier one of the same operator.
+    /// Inserts an operation, and replaces an earlier one of the same operator.
     fn put(&mut self, operation: Operation) -> Result<()>
         ensures ok { OnOk result (self.new ≡ put self.old (operation.0, operation.1.items)) }
         ensures listed { IsListed (3 ∷ []) result }
@@ -111,7 +119,7 @@ impl Operations {
     }
 }
 
-/// As `Operations::clone`, so that lists of them are cloned as well. Refused only where memory runs out.
+/// Clones as `Operations::clone` does, so that lists of dictionaries can be cloned. It fails only if out of memory.
 impl Clone for Operations {
     ghost use Rattle.std.specs.Prelude.{◌≡◌};
 
@@ -122,12 +130,16 @@ impl Clone for Operations {
     }
 }
 
-/// Operations up to the end of the tape, where an operation that is cut by the end is no fault, and the last of each
-/// operator counts (Technical Note 5176, "DICT Data"). The tape then stands at the end.
+/// Reads operations up to the end of the tape (Technical Note 5176, "DICT Data"). A last operation that the end
+/// truncates is ignored. For each operator its last operation counts. Afterwards the tape is at its end.
 ///
-/// Refused: as the first number or operator that is bad, `MalformedNumber`, `OutOfRangeNumber`, `UnknownOperator`;
-/// `TapeStuck` where the place of the tape does not rise, which never is on an honest tape; `UnexpectedEof` from a
-/// seek, likewise; `Io`, `Memory`.
+/// # Errors
+///
+/// - `MalformedNumber`, `OutOfRangeNumber`, `UnknownOperator`: the first bad number or operator.
+/// - `TapeStuck`: the offset of the tape does not increase. This never happens on an honest tape.
+/// - `UnexpectedEof`: a seek failed. This never happens on an honest tape.
+/// - `Io`: any other fault of the tape.
+/// - `Memory`: out of memory.
 ///
 /// ```rust
 /// pub fn dictionary_of(alloc: Global, bytes: &[u8]) -> Result<Operations> {
@@ -155,10 +167,13 @@ impl Value for Operations {
 
     ghost refusals = { 1 ∷ 2 ∷ 3 ∷ 4 ∷ 7 ∷ 8 ∷ 9 ∷ [] };
 
-    /// Reads the dictionary. Whoever calls it learns what dictionaries are (clause `law`).
+    /// Reads the dictionary. A caller's proof also gets the law about dictionaries (clause `law`).
     fn read<T: Tape>(alloc: Global, tape: &mut T) -> Result<Operations>
+        // On an honest tape the result is exactly what `dictionary` gives, unless memory runs out.
         ensures exact { Reads same (T.state tape.old) result (T.state tape.new) dictionary }
+        // The only errors are those with the codes 1 to 4 and 7 to 9 (`Error::code`).
         ensures listed { IsListed (1 ∷ 2 ∷ 3 ∷ 4 ∷ 7 ∷ 8 ∷ 9 ∷ []) result }
+        // Law: a dictionary is read exactly if the bytes are operations and an unfinished rest.
         ensures law { ReadsDictionaries }
     {
         let all = read_to_end::<Operation, T>(alloc, tape)?;
@@ -166,7 +181,7 @@ impl Value for Operations {
     }
 }
 
-/// The dictionary that operations leave.
+/// Returns the dictionary that these operations make.
 fn of_all(alloc: Global, all: Vec<Operation>) -> Result<Operations>
     ensures dictionary { IfOk result
         (λ operations. operations ≡ dictionary_of (map (λ operation. (operation.0, operation.1.items)) all.items)) }

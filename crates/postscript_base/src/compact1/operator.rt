@@ -9,7 +9,7 @@ ghost use Rattle.postscript_base.specs.Compact1.OperatorNames.{name_of};
 use super::{Operand, Operands};
 use crate::{Error, Result};
 
-/// An operator (Technical Note 5176, Tables 9, 10 and 23).
+/// An operator of a dictionary (Technical Note 5176, Tables 9, 10 and 23).
 #[derive(Clone, Copy, Debug, PartialEq, Eq, Hash)]
 pub enum Operator {
     Version,
@@ -67,13 +67,16 @@ pub enum Operator {
 }
 
 impl Operator {
-    /// The operator of a code (Technical Note 5176, Tables 9, 10 and 23). A code of two bytes is 0x0c00 and the
-    /// second.
+    /// Returns the operator with a code (Technical Note 5176, Tables 9, 10 and 23). The code of a two-byte operator is
+    /// 0x0c00 plus the second byte.
     ///
-    /// Refused: `UnknownOperator` where no operator has the code.
+    /// # Errors
+    ///
+    /// - `UnknownOperator`: no operator has the code.
     #[inline(always)]
     #[tactic(auto, unfolding(crate::specs::Compact1::Operators::operator_of))]
     pub fn from(code: u16) -> Result<Self>
+        // The result is the operator with this code, or `UnknownOperator` if there is none.
         ensures { result ≡ ok_or (operator_of code) errors.UnknownOperator }
     {
         Ok(match code {
@@ -133,9 +136,10 @@ impl Operator {
         })
     }
 
-    /// The operands that it has where none are written (Technical Note 5176, Tables 9, 10 and 23). None where the
-    /// tables have none. Never refused.
+    /// Returns the default operands of the operator (Technical Note 5176, Tables 9, 10 and 23). It is `None` if the
+    /// tables give no default.
     pub fn default(&self) -> Option<Operands<'static>>
+        // The result is the default operands of `default_of` (specs/Compact1/Defaults.antt).
         ensures { result ≡ default_of self.now }
     {
         Some(match self {
@@ -171,8 +175,9 @@ impl Operator {
         })
     }
 
-    /// The name of the case, as `BlueScale`. Never refused.
+    /// Returns the name of the variant, such as `BlueScale`.
     pub fn name(&self) -> &'static str
+        // The result is the name of the variant.
         ensures { result.now ≡ name_of self.now }
     {
         match self {

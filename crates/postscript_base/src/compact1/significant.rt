@@ -1,4 +1,4 @@
-//! What matters of a number's digits.
+//! The significant digits of a number.
 ghost use Rattle.std.specs.Prelude.{◌≡◌, ◌≢◌, ℕ, ◌+◌, ◌*◌, ◌^◌, ◌%◌, ◌<◌, ◌≤◌, length, List, ◌++◌};
 ghost use Rattle.postscript_base.specs.Compact1.Decimal.{IsDigits, digits_number};
 ghost use Rattle.postscript_base.specs.Private.Significant.{Keeps};
@@ -6,7 +6,7 @@ ghost use Rattle.postscript_base.specs.Private.Significant.{Keeps};
 /// The least number of nineteen digits.
 const LONG: u128 = 1_000_000_000_000_000_000;
 
-/// What matters of the digits read so far: up to eighteen of them, and how many zeros follow.
+/// The significant digits read so far, at most eighteen, and the number of zeros after them.
 #[derive(Clone, Copy)]
 pub(crate) struct Significant {
     pub(crate) is_long: bool,
@@ -15,7 +15,7 @@ pub(crate) struct Significant {
 }
 
 impl Significant {
-    /// Of no digits.
+    /// Starts without digits.
     pub(crate) fn new() -> Self
         ensures keeps { Keeps result.is_long result.mantissa result.zeros 0 }
         ensures none { result.zeros ≡ 0 }
@@ -27,7 +27,7 @@ impl Significant {
         }
     }
 
-    /// Takes one digit more.
+    /// Appends a digit.
     pub(crate) fn push(self, digit: u8) -> Self
         requires digit { digit < 10 }
         requires room { self.zeros + 1 < 2 ^ 64 }
@@ -65,7 +65,7 @@ impl Significant {
     }
 }
 
-/// Takes all digits.
+/// Appends all digits.
 pub(crate) fn push_all(mut kept: Significant, digits: &[u8]) -> Significant
     requires digits { IsDigits digits.now }
     requires room { kept.zeros + length digits.now < 2 ^ 64 }

@@ -32,7 +32,7 @@ pub(crate) fn read_text<T: Tape>(alloc: Global, tape: &mut T) -> Result<Vec<u8>>
     Ok(text)
 }
 
-/// Reads one byte of a text, and says whether this was the last.
+/// Reads one byte of a text, and returns whether it was the last.
 #[inline(always)]
 #[tactic(auto, unfolding(crate::specs::Private::Nibbles::step))]
 fn step<T: Tape>(tape: &mut T, text: &mut Vec<u8>) -> Result<bool>
@@ -47,7 +47,7 @@ fn step<T: Tape>(tape: &mut T, text: &mut Vec<u8>) -> Result<bool>
     push(text, byte % 16)
 }
 
-/// Takes one nibble more, and says whether it ends the text.
+/// Appends one nibble, and returns whether it ends the text.
 #[inline(always)]
 fn push(text: &mut Vec<u8>, nibble: u8) -> Result<bool>
     ensures exact { MatchResult result (λ ended. one_nibble text.old.items nibble ≡ Some (ended, text.new.items))
@@ -69,7 +69,7 @@ fn push(text: &mut Vec<u8>, nibble: u8) -> Result<bool>
     }
 }
 
-/// The operand of the real that a text spells.
+/// Returns the operand of the real that a text spells.
 #[tactic(auto, unfolding(crate::specs::Compact1::Reals::real_of))]
 pub(crate) fn operand(text: &[u8]) -> Result<Operand>
     ensures exact { (bytes : List ℕ) (place : ℕ) → Answers same result place (valued (real_of text.now) bytes place) }
@@ -87,7 +87,7 @@ pub(crate) fn operand(text: &[u8]) -> Result<Operand>
     of_real(negative, whole, fraction, down, exponent).ok_or(Error::OutOfRangeNumber)
 }
 
-/// Whether there is a minus in front, and what follows.
+/// Splits off a leading minus: returns whether there is one, and the rest.
 fn split_sign(text: &[u8]) -> (bool, &[u8])
     ensures sign { result.0 ≡ (after_sign text.now).0 }
     ensures rest { result.1.now ≡ (after_sign text.now).1 }
@@ -98,7 +98,7 @@ fn split_sign(text: &[u8]) -> (bool, &[u8])
     }
 }
 
-/// The digits in front, and what follows.
+/// Splits off the leading digits.
 fn split_digits(text: &[u8]) -> (&[u8], &[u8])
     ensures front { result.0.now ≡ digits_of text.now }
     ensures rest { result.1.now ≡ after_digits text.now }
@@ -107,7 +107,7 @@ fn split_digits(text: &[u8]) -> (&[u8], &[u8])
     text.split_at(leading_digits(text))
 }
 
-/// How many digits stand in front.
+/// Counts the leading digits.
 fn leading_digits(text: &[u8]) -> usize
     ensures { result ≡ prefix_len is_digit text.now }
 {
@@ -118,7 +118,7 @@ fn leading_digits(text: &[u8]) -> usize
     count
 }
 
-/// The digits behind a point, none where there is no point, and what follows.
+/// Splits off the digits after a point. There are none if there is no point.
 fn split_fraction(text: &[u8]) -> (&[u8], &[u8])
     ensures fraction { result.0.now ≡ fraction_digits (fraction_at text.now).0 }
     ensures rest { result.1.now ≡ (fraction_at text.now).1 }
@@ -130,7 +130,7 @@ fn split_fraction(text: &[u8]) -> (&[u8], &[u8])
     }
 }
 
-/// An exponent that is all of the text: whether it has a minus, and its digits, none where there is no exponent.
+/// Parses an exponent that is all of the text: whether it is negative, and its digits, none if the text is empty.
 fn split_exponent(text: &[u8]) -> Option<(bool, &[u8])>
     ensures some { IfSome result (λ r. (p : Option (Bool × List ℕ)) × (exponent_at text.now ≡ Some p) × (r.0 ≡ is_exponent_negative p)
         × (r.1.now ≡ exponent_digits p)) }

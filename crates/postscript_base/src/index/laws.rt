@@ -1,7 +1,8 @@
-//! What indices in place are.
+//! Laws about opening an INDEX that stays in its bytes.
 ghost use Rattle.postscript_base.specs.Index.{OpensIndices};
 
-/// A law: what is opened is what is laid out at the place. It does nothing and is never refused.
+/// States that an INDEX is opened exactly if it is laid out at the offset. It does nothing at run time.
 pub fn opens_indices()
+    // `opened` gives items and an end exactly if an INDEX with them is laid out there.
     ensures law { OpensIndices }
 {}

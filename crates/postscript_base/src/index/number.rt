@@ -1,4 +1,4 @@
-//! Numbers in place.
+//! Numbers read from a slice at an offset.
 ghost use Rattle.std.specs.Prelude.{◌≡◌, [], ◌∷◌, ◌+◌, ◌-◌, ◌*◌, ◌<◌, ◌≤◌, ◌^◌, length, MatchResult};
 ghost use Rattle.std.specs.List.{slice_range};
 ghost use Rattle.postscript_base.specs.Error.{IsListed};
@@ -6,13 +6,16 @@ ghost use Rattle.postscript_base.specs.Index.{number_at as the_number};
 
 use crate::{Error, Result};
 
-/// The number of so many bytes at a place, at most four, the high byte first.
+/// Returns the big-endian number of `size` bytes, at most four, at the offset `place`. The caller proves that the bytes
+/// are there.
 #[tactic(auto, using(crate::proofs::NumbersAt::of_none, crate::proofs::NumbersAt::of_one, crate::proofs::NumbersAt::of_two, crate::proofs::NumbersAt::of_three, crate::proofs::NumbersAt::of_four))]
 #[inline(always)]
 pub fn number_at(bytes: &[u8], place: usize, size: usize) -> usize
     requires size { size ≤ 4 }
     requires room { place + size ≤ length bytes.now }
+    // The result fits in `size` bytes.
     ensures small { result < 2 ^ (8 * size) }
+    // The result is the big-endian number of the `size` bytes at `place`.
     ensures value { result ≡ the_number bytes.now place size }
 {
     match size {
@@ -31,15 +34,19 @@ pub fn number_at(bytes: &[u8], place: usize, size: usize) -> usize
     }
 }
 
-/// The number of so many bytes at a place, at most four, the high byte first.
+/// Returns the big-endian number of `size` bytes, at most four, at the offset `place`.
 ///
-/// Refused: `UnexpectedEof` where fewer are left.
+/// # Errors
+///
+/// - `UnexpectedEof`: fewer bytes are left.
 #[inline(always)]
 pub fn number_within(bytes: &[u8], place: usize, size: usize) -> Result<usize>
     requires { size ≤ 4 }
+    // Returns the number of the `size` bytes at `place`. Fails exactly if fewer bytes are left.
     ensures exact { MatchResult result
         (λ n. (place + size ≤ length bytes.now) × (n ≡ the_number bytes.now place size) × (n < 2 ^ (8 * size)))
         (λ e. length bytes.now < place + size) }
+    // The only error is `UnexpectedEof`.
     ensures listed { IsListed (1 ∷ []) result }
 {
     if place > bytes.len() || bytes.len() - place < size {
@@ -48,7 +55,7 @@ pub fn number_within(bytes: &[u8], place: usize, size: usize) -> Result<usize>
     Ok(number_at(bytes, place, size))
 }
 
-/// The bytes from one place to another, as far as there are any.
+/// Returns the bytes from `from` to `to`, truncated at the end of the slice.
 #[inline(always)]
 pub(crate) fn lent(bytes: &[u8], from: usize, to: usize) -> &[u8]
     ensures { result.now ≡ slice_range bytes.now from to }

@@ -1,4 +1,4 @@
-//! Items of an INDEX whose count has four bytes.
+//! An INDEX whose count has four bytes, as in `CFF2`.
 ghost use Rattle.std.specs.Prelude.{◌≡◌, ◌↔◌, ℕ, ◌+◌, ◌<◌, ◌≤◌, List, [], ◌∷◌, length, IfOk, IfErr, MatchResult};
 ghost use Rattle.postscript_base.specs.Error.{IsListed};
 ghost use Rattle.postscript_base.specs.declared.error.Error.TheVariants as errors;
@@ -12,14 +12,19 @@ use crate::{Error, Result};
 impl<'l> IndexView<'l> {
     ghost use Rattle.postscript_base.specs.Index.Lent.{items_of, AreWideLentFrom};
 
-    /// The items of the INDEX of a count of four bytes at a place, and the place behind it, as `CFF2` has it; else as `open`.
+    /// Opens the INDEX at the offset `place` as [`IndexView::open`] does, but with a count of four bytes, as in `CFF2`.
     ///
-    /// Refused: as `open` is.
+    /// # Errors
+    ///
+    /// - The errors of [`IndexView::open`].
     pub fn open_wide(bytes: &'l [u8], place: usize) -> Result<(IndexView<'l>, usize)>
+        // Gives items and end of an INDEX at `place`, sorted or not. Fails exactly without one.
         ensures exact { MatchResult result
             (λ read. IsWideOpened bytes.now place (items_of read.0) read.1)
             (λ e. (items : List (List ℕ)) (next : ℕ) → IsWideOpened bytes.now place items next → ⊥) }
+        // An error is `MalformedOffset` exactly if a nonzero count precedes a size not from 1 to 4.
         ensures sizes { IfErr result (λ e. (e ≡ errors.MalformedOffset) ↔ HasBadSize bytes.now place 4) }
+        // The only errors are `UnexpectedEof` and `MalformedOffset`.
         ensures listed { IsListed (1 ∷ 5 ∷ []) result }
     {
         let count = number_within(bytes, place, 4)?;
@@ -29,15 +34,21 @@ impl<'l> IndexView<'l> {
         IndexView::filled_wide(bytes, place, count)
     }
 
-    /// The items of the INDEX of a count of four bytes at a place, and the place behind it, as `CFF2` has it; else as `read`.
+    /// Reads the INDEX at the offset `place` as [`IndexView::read`] does, but with a count of four bytes, as in `CFF2`.
     ///
-    /// Refused: as `read` is.
+    /// # Errors
+    ///
+    /// - The errors of [`IndexView::read`].
     pub fn read_wide(bytes: &'l [u8], place: usize) -> Result<(IndexView<'l>, usize)>
+        // Gives the items and the end of a sorted INDEX at `place`. Fails exactly if there is none.
         ensures exact { MatchResult result
             (λ read. IsWideIndex bytes.now place (items_of read.0) read.1)
             (λ e. (items : List (List ℕ)) (next : ℕ) → IsWideIndex bytes.now place items next → ⊥) }
+        // An error is `MalformedOffset` exactly if a nonzero count precedes a size not from 1 to 4.
         ensures sizes { IfErr result (λ e. (e ≡ errors.MalformedOffset) ↔ HasBadSize bytes.now place 4) }
+        // An error is `MalformedIndex` exactly if there is an INDEX with its offsets out of order.
         ensures order { IfErr result (λ e. (e ≡ errors.MalformedIndex) ↔ IsWideOutOfOrder bytes.now place) }
+        // The only errors are `UnexpectedEof`, `MalformedOffset` and `MalformedIndex`.
         ensures listed { IsListed (1 ∷ 5 ∷ 6 ∷ []) result }
     {
         let count = number_within(bytes, place, 4)?;
@@ -52,7 +63,7 @@ impl<'l> IndexView<'l> {
         }
     }
 
-    /// The items that stand behind their count of four bytes.
+    /// Reads the items after their count of four bytes.
     fn filled_wide(bytes: &'l [u8], place: usize, count: usize) -> Result<(IndexView<'l>, usize)>
         requires within { place + 4 ≤ length bytes.now }
         requires some { 0 < count }

@@ -1,4 +1,4 @@
-//! So many bytes, as a list.
+//! A list of bytes.
 ghost use Rattle.std.specs.Prelude.{◌≡◌, ℕ, ◌+◌, List, [], ◌∷◌, IfOk, OnOk, vec_len, map, refl};
 ghost use Rattle.postscript_base.specs.Error.{IsListed};
 ghost use Rattle.postscript_base.specs.Tape.{Reads};
@@ -8,13 +8,17 @@ use super::{Tape, Walue};
 use crate::error::Result;
 use std::alloc::Global;
 
-/// By how many bytes a list grows at most before they are read.
+/// The most bytes by which a list grows before they are read.
 const PIECE: usize = 65_536;
 
-/// So many bytes, as they stand. The parameter is how many; for none the list is empty. The list grows as bytes come
-/// (`tools/hostile.py fonts` shows that a count alone takes no memory).
+/// Reads bytes as they are. The parameter is their number, which may be 0. The list grows as bytes are read, so that
+/// a large count by itself takes no memory (tested by `tools/hostile.py fonts`).
 ///
-/// Refused: `UnexpectedEof` where fewer are left, `Io`, `Memory`.
+/// # Errors
+///
+/// - `UnexpectedEof`: fewer bytes are left.
+/// - `Io`: any other fault of the tape.
+/// - `Memory`: out of memory.
 #[tactic(auto, unfolding(crate::specs::Numbers::slice))]
 impl Walue for Vec<u8> {
     type Parameter = usize;
@@ -33,8 +37,11 @@ impl Walue for Vec<u8> {
 
     #[inline(always)]
     fn read<T: Tape>(alloc: Global, tape: &mut T, count: usize) -> Result<Vec<u8>>
+        // On an honest tape it reads exactly the next `count` bytes, unless memory runs out.
         ensures exact { Reads (λ bytes. bytes.items) (T.state tape.old) result (T.state tape.new) (slice count) }
+        // The only errors are `UnexpectedEof`, `Io` and `Memory`.
         ensures listed { IsListed (1 ∷ 2 ∷ 3 ∷ []) result }
+        // On any tape the list has `count` bytes.
         ensures len { IfOk result (λ bytes. vec_len bytes ≡ count) }
     {
         let mut bytes = Vec::new(alloc);
@@ -46,7 +53,7 @@ impl Walue for Vec<u8> {
     }
 }
 
-/// Reads so many more bytes onto the end.
+/// Appends the next `more` bytes.
 #[inline(always)]
 fn append<T: Tape>(tape: &mut T, bytes: &mut Vec<u8>, more: usize) -> Result<()>
     ensures exact { Reads (λ _. bytes.new.items) (T.state tape.old) result (T.state tape.new)

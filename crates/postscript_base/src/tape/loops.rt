@@ -1,4 +1,4 @@
-//! Values one after the other.
+//! Reading several values in a row.
 ghost use Rattle.std.specs.Prelude.{◌≡◌, ◌<◌, ◌≤◌, ◌-◌, ◌^◌, ℕ, Bool, List, [], ◌∷◌, length, map, vec_len, IfOk};
 ghost use Rattle.postscript_base.specs.Error.{IsListed};
 ghost use Rattle.postscript_base.specs.Tape.Outcome.{Reading, Got, same};
@@ -11,19 +11,24 @@ use crate::error::{Error, Result};
 use std::alloc::Global;
 use std::io::SeekFrom;
 
-/// For how many values there is room at first, up to the end of a tape: dictionaries mostly have fewer operations.
+/// The initial capacity of a list that is read to the end of a tape. Most dictionaries have fewer operations.
 const ROOM: usize = 24;
 
-/// Reads so many values, one after the other. The list grows as they come.
+/// Reads `count` values, one after the other. The list grows as they are read.
 ///
-/// Refused: as the first value that is refused is, `Memory`.
+/// # Errors
+///
+/// - The error of the first value that fails.
+/// - `Memory`: out of memory.
 pub fn read_many<V: Value + Drop, T: Tape>(
     alloc: Global,
     tape: &mut T,
     count: usize,
 ) -> Result<Vec<V>>
+    // On an honest tape it reads exactly `count` values in a row, unless memory runs out.
     ensures exact { Reads (λ values. V.views values.items) (T.state tape.old) result (T.state tape.new)
         (many V.reading count) }
+    // The only errors are `Memory` and those in `V.refusals`.
     ensures listed { IsListed (3 ∷ V.refusals) result }
 {
     let mut values = Vec::new(alloc);
@@ -34,59 +39,71 @@ pub fn read_many<V: Value + Drop, T: Tape>(
     Ok(values)
 }
 
-/// A value that is read given what the ones before it leave.
+/// A type whose values are read one after the other, with data that the earlier ones pass on.
 pub trait Linked: Sized {
-    /// What a reading is given.
+    /// The data that a reading gets.
     type Given: Copy;
 
-    /// What a contract sees of a value.
+    /// The form in which contracts see a value.
     ghost Shown: { Type 0 };
 
     ghost view: { Self → Shown };
 
-    /// What a contract sees of a list of values: each as it is seen.
+    /// The form in which contracts see a list of values. Each one has the form of `view`.
     ghost views: { List Self → List Shown };
 
-    /// What a reading gives, by what it is given, the bytes and the place.
+    /// The outcome of reading, by the data that it gets, the bytes and the offset.
     ghost reading: { Self.Given → Reading Shown };
 
-    /// The numbers of the refusals that a reading may answer. Without 3 a reading never answers `Memory`.
+    /// The codes of the errors that reading can return. If 3 is missing, reading never fails with `Memory`.
     ghost refusals: { List ℕ };
 
-    /// What a value leaves of what it was given.
+    /// The data for the next value, by the data for this one and the value.
     ghost left: { Self.Given → Shown → Self.Given };
 
-    /// What holds of a value by what it was given, on any tape.
+    /// A relation of a value to the data that it got, which holds on any tape.
     ghost follows: { Self.Given → Self → Type 0 } = { λ _ _. Unit {0} };
 
-    /// Reads a value, given what the ones before it left. On an honest tape the value and the next place are those
-    /// that the bytes say by `reading`, and so is the refusal.
+    /// Reads a value with the data from the earlier ones. On an honest tape `given` and the bytes determine the value
+    /// and the next offset, or the error, by `reading`.
     ///
-    /// Refused: as the comment at the type's `impl` says, and with no error whose number `refusals` lacks.
+    /// # Errors
+    ///
+    /// - Those listed at the `impl` for the type, all with codes in `refusals`.
     fn read<T: Tape>(alloc: Global, tape: &mut T, given: Self::Given) -> Result<Self>
+        // On an honest tape the result is exactly what `reading` gives, unless memory runs out.
         ensures exact { Reads view (T.state tape.old) result (T.state tape.new) (reading given) }
+        // The only errors are those whose codes are in `refusals`.
         ensures listed { IsListed refusals result }
+        // On any tape the value and `given` satisfy `follows`.
         ensures follows { IfOk result (λ value. follows given value) };
 
-    /// What this value leaves of what it was given, for the next one. Never refused.
+    /// Returns the data for the next value.
     fn left(&self, given: Self::Given) -> Self::Given
+        // The result is what the ghost function `left` gives for `given` and this value.
         ensures { result ≡ left given (view self.now) };
 
     ghost views_each: { (xs : List Self) → views xs ≡ map view xs };
 }
 
-/// Reads so many values, each given what the ones before it leave; the first is given `first`.
+/// Reads `length` values. The first one gets `first`, and each later one gets the data that the earlier ones pass on.
 ///
-/// Refused: as the first value that is refused is, `Memory`.
+/// # Errors
+///
+/// - The error of the first value that fails.
+/// - `Memory`: out of memory.
 pub fn read_chain<W: Linked + Drop, T: Tape>(
     alloc: Global,
     tape: &mut T,
     first: W::Given,
     length: usize,
 ) -> Result<Vec<W>>
+    // On any tape there are `length` values, and each satisfies `W.follows` with its data.
     ensures linked { IfOk result (λ values. AreLinked W.follows (λ given value. W.left given (W.view value)) first length values.items) }
+    // On an honest tape it reads exactly `length` linked values, unless memory runs out.
     ensures exact { Reads (λ values. W.views values.items) (T.state tape.old) result (T.state tape.new)
         (chain W.reading W.left first length) }
+    // The only errors are `Memory` and those in `W.refusals`.
     ensures listed { IsListed (3 ∷ W.refusals) result }
 {
     let mut values = Vec::new(alloc);
@@ -99,28 +116,36 @@ pub fn read_chain<W: Linked + Drop, T: Tape>(
     Ok(values)
 }
 
-/// A value that is read until a test holds of what the ones before it leave.
+/// A type whose values are read until the data that they pass on satisfies a test.
 pub trait Until: Linked {
     ghost is_last: { Self.Given → Bool };
 
-    /// Whether no value is read any more, where the ones before left this. Never refused.
+    /// Returns whether to stop, by the data that the earlier values pass on.
     fn is_last(given: Self::Given) -> bool
+        // The result is what the ghost function `is_last` gives for `given`.
         ensures { result ≡ is_last given };
 }
 
-/// Reads values, each given what the ones before it leave, until none is read any more (`Until::is_last`). The caller
-/// proves that a value takes a byte at least and stays within the bytes (`numbers_move_on`), so that it stands in
-/// `postscript_base` alone.
+/// Reads values until `Until::is_last` holds. The first one gets `first`, and each later one gets the data that the
+/// earlier ones pass on.
 ///
-/// Refused: as the first value that is refused is, `Memory`.
+/// The caller proves that a value takes at least one byte and stays within the bytes (`numbers_move_on`). Because of
+/// this precondition, only `postscript_base` exports the function.
+///
+/// # Errors
+///
+/// - The error of the first value that fails.
+/// - `Memory`: out of memory.
 pub fn read_until<W: Until + Drop, T: Tape>(
     alloc: Global,
     tape: &mut T,
     first: W::Given,
 ) -> Result<Vec<W>>
     requires { (given : W.Given) → TakesBytes (W.reading given) }
+    // On an honest tape it reads exactly the values up to `W.is_last`, unless memory runs out.
     ensures exact { Reads (λ values. W.views values.items) (T.state tape.old) result (T.state tape.new)
         (until W.is_last W.reading W.left first) }
+    // The only errors are `Memory` and those in `W.refusals`.
     ensures listed { IsListed (3 ∷ W.refusals) result }
 {
     let mut values = Vec::new(alloc);
@@ -133,20 +158,30 @@ pub fn read_until<W: Until + Drop, T: Tape>(
     Ok(values)
 }
 
-/// Reads values up to the end of the tape, where one that is cut by the end is none. The tape then stands at the end.
-/// The caller proves that a value takes a byte at least and stays within the bytes (`numbers_move_on`), so that it
-/// stands in `postscript_base` alone. The place rises with each value, on any tape: so there are fewer values than 2^64, and
-/// on an honest tape no more than bytes behind the place.
+/// Reads values up to the end of the tape. A last value that the end truncates is ignored. Afterwards the tape is at
+/// its end.
 ///
-/// Refused: as the first value that is refused is, but for `UnexpectedEof`, which ends the list; `TapeStuck` where the
-/// place of the tape does not rise, as an honest tape's does; `UnexpectedEof` from a seek; `Io`, `Memory`.
+/// The caller proves that a value takes at least one byte and stays within the bytes (`numbers_move_on`). Because of
+/// this precondition, only `postscript_base` exports the function. On any tape the offset increases with each value.
+///
+/// # Errors
+///
+/// - The error of the first value that fails, except for `UnexpectedEof`, which ends the list.
+/// - `TapeStuck`: the offset of the tape does not increase. This never happens on an honest tape.
+/// - `UnexpectedEof`: a seek failed. This never happens on an honest tape.
+/// - `Io`: any other fault of the tape.
+/// - `Memory`: out of memory.
 pub fn read_to_end<V: Value + Drop, T: Tape>(alloc: Global, tape: &mut T) -> Result<Vec<V>>
     requires { TakesBytes V.reading }
+    // On any tape there are fewer than 2^64 values.
     ensures rises { IfOk result (λ values. vec_len values < 2 ^ 64) }
+    // On an honest tape there are at most as many values as bytes are left.
     ensures takes { IsHonest (T.state tape.old) →
         IfOk result (λ values. vec_len values ≤ length (T.state tape.old).bytes - (T.state tape.old).place) }
+    // On an honest tape it reads exactly the values up to the end, unless memory runs out.
     ensures exact { Reads (λ values. V.views values.items) (T.state tape.old) result (T.state tape.new)
         (to_end V.reading) }
+    // The only errors are those with the codes 1 to 4 and those in `V.refusals`.
     ensures listed { IsListed (1 ∷ 2 ∷ 3 ∷ 4 ∷ V.refusals) result }
 {
     let mut values = Vec::with_capacity(alloc, ROOM)?;
@@ -163,7 +198,7 @@ pub fn read_to_end<V: Value + Drop, T: Tape>(alloc: Global, tape: &mut T) -> Res
     Ok(values)
 }
 
-/// Reads a value, or nothing where it is cut by the end.
+/// Reads a value, or returns `None` if the end truncates it.
 #[inline(always)]
 fn next<V: Value, T: Tape>(alloc: Global, tape: &mut T) -> Result<Option<V>>
     requires { TakesBytes V.reading }
@@ -178,7 +213,7 @@ fn next<V: Value, T: Tape>(alloc: Global, tape: &mut T) -> Result<Option<V>>
     }
 }
 
-/// Goes to the end, and answers its place.
+/// Moves to the end, and returns its offset.
 fn go_to_end<T: Tape>(tape: &mut T) -> Result<u64>
     ensures exact { Reads same (T.state tape.old) result (T.state tape.new) (λ bytes _. Got (length bytes) (length bytes)) }
     ensures listed { IsListed (1 ∷ 2 ∷ []) result }
@@ -186,60 +221,71 @@ fn go_to_end<T: Tape>(tape: &mut T) -> Result<u64>
     Ok(tape.seek_to(SeekFrom::End(0))?)
 }
 
-/// What a value is read for.
+/// A source: a type with a value to read for each of its elements.
 pub trait Source {
-    /// What all of a list are read with.
+    /// The data that all readings of a list get.
     type Given: Copy;
 
-    /// What is read for it.
+    /// The type of the value for a source.
     type Value: Drop;
 
-    /// What a contract sees of a source.
+    /// The form in which contracts see a source.
     ghost Seen: { Type 0 };
 
     ghost seen: { Self → Seen };
 
-    /// What a contract sees of a value.
+    /// The form in which contracts see a value.
     ghost Shown: { Type 0 };
 
     ghost view: { Self.Value → Shown };
 
-    /// What a contract sees of a list of values: each as it is seen.
+    /// The form in which contracts see a list of values. Each one has the form of `view`.
     ghost views: { List Self.Value → List Shown };
 
-    /// What a reading gives, by what it is given, the source, the bytes and the place.
+    /// The outcome of reading, by the data that it gets, the source, the bytes and the offset.
     ghost reading: { Self.Given → Seen → Reading Shown };
 
-    /// The numbers of the refusals that a reading may answer. Without 3 a reading never answers `Memory`.
+    /// The codes of the errors that reading can return. If 3 is missing, reading never fails with `Memory`.
     ghost refusals: { List ℕ };
 
-    /// What holds of a value by its source, on any tape.
+    /// A relation of a value to its source, which holds on any tape.
     ghost fits: { Self → Self.Value → Type 0 } = { λ _ _. Unit {0} };
 
-    /// Reads the value for this source. On an honest tape the value and the next place are those that the bytes say by
-    /// `reading`, and so is the refusal.
+    /// Reads the value for this source. On an honest tape `given`, the source and the bytes determine the value and the
+    /// next offset, or the error, by `reading`.
     ///
-    /// Refused: as the comment at the type's `impl` says, and with no error whose number `refusals` lacks.
+    /// # Errors
+    ///
+    /// - Those listed at the `impl` for the type, all with codes in `refusals`.
     fn read<T: Tape>(&self, alloc: Global, tape: &mut T, given: Self::Given) -> Result<Self::Value>
+        // On an honest tape the result is exactly what `reading` gives, unless memory runs out.
         ensures exact { Reads view (T.state tape.old) result (T.state tape.new) (reading given (seen self.now)) }
+        // The only errors are those whose codes are in `refusals`.
         ensures listed { IsListed refusals result }
+        // On any tape the source and the value satisfy `fits`.
         ensures fits { IfOk result (λ value. fits self.now value) };
 
     ghost views_each: { (xs : List Self.Value) → views xs ≡ map view xs };
 }
 
-/// Reads a value for each of a list, one after the other, each with the same `given`.
+/// Reads a value for each source of a list, in order. Each reading gets the same `given`.
 ///
-/// Refused: as the first value that is refused is, `Memory`.
+/// # Errors
+///
+/// - The error of the first value that fails.
+/// - `Memory`: out of memory.
 pub fn read_each<S: Source, T: Tape>(
     alloc: Global,
     tape: &mut T,
     sources: &[S],
     given: S::Given,
 ) -> Result<Vec<S::Value>>
+    // On any tape there is one value for each source, and they satisfy `S.fits`.
     ensures fitting { IfOk result (λ values. AreFor S.fits sources.now values.items) }
+    // On an honest tape it reads exactly one value for each source, unless memory runs out.
     ensures exact { Reads (λ values. S.views values.items) (T.state tape.old) result (T.state tape.new)
         (each (S.reading given) (map S.seen sources.now)) }
+    // The only errors are `Memory` and those in `S.refusals`.
     ensures listed { IsListed (3 ∷ S.refusals) result }
 {
     let mut values = Vec::new(alloc);

@@ -1,4 +1,4 @@
-//! Values of a fixed number of bytes.
+//! Values with a fixed number of bytes.
 ghost use Rattle.std.specs.Prelude.{ℕ, List, [], ◌∷◌};
 ghost use Rattle.postscript_base.specs.Tape.Outcome.{same};
 ghost use Rattle.postscript_base.specs.Private.Seen.{each_as_it_is};
@@ -9,9 +9,12 @@ use crate::error::Result;
 use crate::number::{byte, long_word, word};
 use std::alloc::Global;
 
-/// One byte (Technical Note 5176, "Data Types", Card8).
+/// Reads one byte (Technical Note 5176, "Data Types", Card8).
 ///
-/// Refused: `UnexpectedEof` where none is left, `Io`.
+/// # Errors
+///
+/// - `UnexpectedEof`: no byte is left.
+/// - `Io`: any other fault of the tape.
 impl Value for u8 {
     ghost Shown = { ℕ };
 
@@ -30,9 +33,12 @@ impl Value for u8 {
     }
 }
 
-/// The number of two bytes, the high byte first (Technical Note 5176, "Data Types", Card16).
+/// Reads a big-endian number of two bytes (Technical Note 5176, "Data Types", Card16).
 ///
-/// Refused: `UnexpectedEof` where fewer are left, `Io`.
+/// # Errors
+///
+/// - `UnexpectedEof`: fewer bytes are left.
+/// - `Io`: any other fault of the tape.
 impl Value for u16 {
     ghost Shown = { ℕ };
 
@@ -51,9 +57,12 @@ impl Value for u16 {
     }
 }
 
-/// The number of four bytes, the high byte first.
+/// Reads a big-endian number of four bytes.
 ///
-/// Refused: `UnexpectedEof` where fewer are left, `Io`.
+/// # Errors
+///
+/// - `UnexpectedEof`: fewer bytes are left.
+/// - `Io`: any other fault of the tape.
 impl Value for u32 {
     ghost Shown = { ℕ };
 
@@ -72,9 +81,12 @@ impl Value for u32 {
     }
 }
 
-/// Three bytes as they stand.
+/// Reads three bytes as they are.
 ///
-/// Refused: `UnexpectedEof` where fewer are left, `Io`.
+/// # Errors
+///
+/// - `UnexpectedEof`: fewer bytes are left.
+/// - `Io`: any other fault of the tape.
 impl Value for [u8; 3] {
     ghost Shown = { List ℕ };
 
