@@ -1,4 +1,4 @@
-//! Char sets.
+//! Charsets.
 ghost use Rattle.std.specs.Prelude.{◌≡◌, ◌⊎◌, ◌<◌, ◌≤◌, [], ◌∷◌, IfOk, IsNone, IsTrue};
 ghost use Rattle.std.specs.Option.{option_copied};
 ghost use Rattle.postscript_base.specs.Error.{IsListed};
@@ -27,26 +27,27 @@ use predefined::{EXPERT, EXPERT_SUBSET, ISO_ADOBE, Run, identifier, name};
 pub use range::{Range1, Range2};
 use std::alloc::{AllocError, Global};
 
-/// A char set: which string names each glyph (Technical Note 5176, "Charsets").
+/// A charset: the list that gives each glyph the string of its name (Technical Note 5176, "Charsets").
 #[derive(Debug, Drop)]
 pub enum CharSet {
-    /// The predefined set ISOAdobe.
+    /// The predefined charset ISOAdobe.
     ISOAdobe,
-    /// The predefined set Expert.
+    /// The predefined charset Expert.
     Expert,
-    /// The predefined set ExpertSubset.
+    /// The predefined charset ExpertSubset.
     ExpertSubset,
-    /// A set that lists its glyphs.
+    /// A charset that lists its glyphs.
     Format0(CharSet0),
-    /// A set of ranges of at most 256 glyphs.
+    /// A charset of ranges of at most 256 glyphs.
     Format1(CharSet1),
-    /// A set of ranges of at most 65,536 glyphs.
+    /// A charset of ranges of at most 65,536 glyphs.
     Format2(CharSet2),
 }
 
 impl CharSet {
-    /// Whether the set is one of the predefined ones, ISOAdobe, Expert and ExpertSubset. Never refused.
+    /// Returns whether the charset is a predefined one: ISOAdobe, Expert or ExpertSubset.
     pub fn is_predefined(&self) -> bool
+        // The result is true exactly for `ISOAdobe`, `Expert` and `ExpertSubset`.
         ensures { result ≡ is_predefined self.now }
     {
         !matches!(
@@ -55,8 +56,9 @@ impl CharSet {
         )
     }
 
-    /// The name of the case, as `ISOAdobe` or `Format0`. Never refused.
+    /// Returns the name of the variant, such as `ISOAdobe` or `Format0`.
     pub fn name(&self) -> &'static str
+        // The result is the name of the variant.
         ensures { result.now ≡ name_of self.now }
     {
         match self {
@@ -69,10 +71,11 @@ impl CharSet {
         }
     }
 
-    /// The string that names a glyph of a predefined set, by the glyph's number (Technical Note 5176, Appendix C).
-    /// None for glyph 0, which is `.notdef`, and for a glyph past the set. The caller proves that the set is
-    /// predefined: of another, the identifiers stand in its fields, and `Strings::get` tells the string. Never
-    /// refused.
+    /// Returns the name of a glyph in a predefined charset (Technical Note 5176, Appendix C). It is `None` for glyph 0,
+    /// which is `.notdef`, and for a glyph that the charset does not contain.
+    ///
+    /// The caller proves that the charset is predefined. The fields of any other charset contain its SIDs, and
+    /// `Strings::get` returns their strings.
     ///
     /// ```rust
     /// pub fn name_of_glyph(set: &CharSet, glyph: GlyphID) -> Option<&'static str> {
@@ -84,24 +87,28 @@ impl CharSet {
     /// ```
     pub fn get(&self, gid: GlyphID) -> Option<&'static str>
         requires { IsTrue (is_predefined self.now) }
+        // In `ISOAdobe` a glyph from 1 to 228 has the standard string with its own number.
         ensures iso_adobe { self.now ≡ sets.ISOAdobe → 0 < gid → gid ≤ 228 → option_copied result ≡ standard_string gid }
+        // In `ISOAdobe` glyph 0 and the glyphs above 228 have no string.
         ensures iso_adobe_alone { self.now ≡ sets.ISOAdobe → (gid ≡ 0) ⊎ (228 < gid) → IsNone result }
+        // The result is exactly what `name_of_glyph` computes (specs/CharSets/Predefined.antt).
         ensures exact { option_copied result ≡ name_of_glyph self.now gid }
     {
         name(self.runs(), gid)
     }
 
-    /// The identifier of the string that names a glyph of a predefined set, by the glyph's number (Technical Note 5176,
-    /// Appendix C). None for glyph 0, which is `.notdef`, and for a glyph past the set. The caller proves that the set is
-    /// predefined. Never refused.
+    /// Returns the SID of the name of a glyph in a predefined charset (Technical Note 5176, Appendix C). It is `None`
+    /// for glyph 0, which is `.notdef`, and for a glyph that the charset does not contain. The caller proves that the
+    /// charset is predefined.
     pub fn identifier(&self, gid: GlyphID) -> Option<StringID>
         requires { IsTrue (is_predefined self.now) }
+        // The result is exactly what `identifier_of` computes (specs/CharSets/Predefined.antt).
         ensures { result ≡ identifier_of (runs_of self.now) gid }
     {
         identifier(self.runs(), gid)
     }
 
-    /// The identifiers of a predefined set, by runs.
+    /// The SIDs of a predefined charset, in ranges.
     fn runs(&self) -> &'static [Run]
         ensures exact { result.now ≡ runs_of self.now }
         ensures runs { IsTrue (are_runs result.now) }
@@ -114,11 +121,15 @@ impl CharSet {
         }
     }
 
-    /// An equal char set, in memory of its own: the list of its glyphs or of its ranges. A predefined one takes none.
+    /// Returns a copy of the charset. It allocates a list of glyphs or ranges, and nothing for a predefined charset.
     ///
-    /// Refused: `Memory`.
+    /// # Errors
+    ///
+    /// - `Memory`: out of memory.
     pub fn clone(&self) -> Result<Self>
+        // The copy is equal to the original.
         ensures equal { IfOk result (λ set. set ≡ self.now) }
+        // The only error is `Memory`.
         ensures listed { IsListed (3 ∷ []) result }
     {
         Ok(match self {
@@ -132,7 +143,7 @@ impl CharSet {
     }
 }
 
-/// As `CharSet::clone`, so that lists of them are cloned as well. Refused only where memory runs out.
+/// Clones as `CharSet::clone` does, so that lists of these can be cloned. It fails only if out of memory.
 impl Clone for CharSet {
     ghost use Rattle.std.specs.Prelude.{◌≡◌};
 
@@ -143,12 +154,18 @@ impl Clone for CharSet {
     }
 }
 
-/// A char set of the format that its first byte names (Technical Note 5176, "Charsets"). The parameter is the number
-/// of glyphs, of which glyph 0 is not told.
+/// Reads a charset in the format that its first byte gives (Technical Note 5176, "Charsets"). The parameter is the
+/// number of glyphs. Glyph 0 is not in the charset.
 ///
-/// Refused: `UnexpectedEof` where no byte is left; `UnknownCharSetFormat` for another format than 0, 1 and
-/// 2; `MalformedCharSet` for no glyphs; then, in the order of the bytes, `UnexpectedEof` where an identifier or a
-/// range is cut and `MalformedCharSet` where a range covers more glyphs than are left; `Io`, `Memory`.
+/// # Errors
+///
+/// The format and the number of glyphs are checked first, and then the bytes in their order.
+///
+/// - `UnknownCharSetFormat`: the format is not 0, 1 or 2.
+/// - `MalformedCharSet`: there are no glyphs, or a range covers more glyphs than are left.
+/// - `UnexpectedEof`: the format, an SID or a range is truncated.
+/// - `Io`: any other fault of the tape.
+/// - `Memory`: out of memory.
 #[tactic(auto, unfolding(crate::specs::CharSets::char_set))]
 impl Walue for CharSet {
     ghost use Rattle.postscript_compact1.specs.declared.char_set.CharSet.{CharSet};

@@ -1,14 +1,13 @@
-//! Encodings.
+//! The predefined encodings.
 ghost use Rattle.std.specs.Prelude.{◌≡◌, ◌<◌, IfSome, IsTrue};
 ghost use Rattle.postscript_compact1.specs.Computed.Encodings.{identifier_of, in_runs, runs_of, are_standard, name_of};
 
 use postscript_base::compact1::{GlyphID, StringID};
 
-/// A run of codes: the first code, the last code, and the identifier of the first. The next code has the next
-/// identifier.
+/// A range of codes: the first code, the last code, and the SID of the first. Consecutive codes have consecutive SIDs.
 type Run = (u16, u16, StringID);
 
-/// The runs of the standard encoding.
+/// The ranges of the standard encoding.
 #[rattlefmt::skip]
 const STANDARD: [Run; 14] = [
     (32, 126, 1), (161, 175, 96), (177, 180, 111), (182, 189, 115), (191, 191, 123),
@@ -16,7 +15,7 @@ const STANDARD: [Run; 14] = [
     (232, 235, 140), (241, 241, 144), (245, 245, 145), (248, 251, 146),
 ];
 
-/// The runs of the expert encoding.
+/// The ranges of the expert encoding.
 #[rattlefmt::skip]
 const EXPERT: [Run; 31] = [
     (32, 32, 1), (33, 34, 229), (36, 43, 231), (44, 46, 13), (47, 47, 99), (48, 57, 239),
@@ -37,9 +36,11 @@ pub enum Encoding {
 }
 
 impl Encoding {
-    /// The identifier of the string that a character code, the parameter, names (Technical Note 5176, Appendix B):
-    /// that of `.notdef`, which is 0, where the encoding does not list the code, and None for a code past 255. An
-    /// identifier is below 391, so that `get_standard_string` has its string. Never refused.
+    /// Returns the SID of the glyph name for a character code (Technical Note 5176, Appendix B). The parameter is the
+    /// code.
+    ///
+    /// The SID is 0, for `.notdef`, if the encoding does not list the code. It is `None` for a code above 255. An SID
+    /// is below 391, so `get_standard_string` returns its string.
     ///
     /// ```rust
     /// pub fn name_of_code(alloc: Global, font: &FontSet, code: u16) -> Result<Option<String>> {
@@ -51,7 +52,9 @@ impl Encoding {
     /// ```
     #[tactic(auto, unfolding(crate::specs::Computed::Encodings::identifier_of))]
     pub fn get(&self, gid: GlyphID) -> Option<StringID>
+        // The SID is one of a standard string.
         ensures standard { IfSome result (λ sid. sid < 391) }
+        // The result is exactly what `identifier_of` computes (specs/Computed/Encodings.antt).
         ensures exact { result ≡ identifier_of self.now gid }
     {
         if gid > 255 {
@@ -63,8 +66,9 @@ impl Encoding {
         })
     }
 
-    /// The name of the case, `Standard` or `Expert`. Never refused.
+    /// Returns the name of the variant, `Standard` or `Expert`.
     pub fn name(&self) -> &'static str
+        // The result is the name of the variant.
         ensures { result.now ≡ name_of self.now }
     {
         match self {
@@ -74,7 +78,7 @@ impl Encoding {
     }
 }
 
-/// The identifier of a code by runs.
+/// Looks up the SID of a code in ranges.
 fn in_runs(runs: &[Run], code: u16) -> StringID
     requires { IsTrue (are_standard runs.now) }
     ensures exact { result ≡ in_runs runs.now code }

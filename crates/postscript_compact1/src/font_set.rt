@@ -28,52 +28,57 @@ use postscript_base::{Result, Tape, Value};
 use std::alloc::Global;
 use tables::{Tables, read_behind};
 
-/// A font set: what a file of the Compact Font Format holds (Technical Note 5176). In one that was read from an honest
-/// tape the encodings, char sets, char strings, local dictionaries and local subroutines are one for each of the
-/// global dictionaries, in their order, and item g of char strings is the code of glyph g.
+/// A font set: the contents of a file in the Compact Font Format (Technical Note 5176).
 ///
-/// A CID-keyed font (chapter 18) is one whose dictionary has the operator `ROS`: `get(Operator::ROS)` of its global
-/// dictionary is not None. Its private dictionaries and local subroutines are those of the fonts in its `FDArray`, a glyph's
-/// by `FDSelect`. These two are not read here, so its glyphs have no local subroutines: a run of one that calls them is
-/// refused, or comes out wrong.
+/// After reading from an honest tape, there is one encoding, charset, CharStrings INDEX, local dictionary and list of
+/// local subroutines for each global dictionary, in the same order. Item `g` of the charstrings belongs to glyph `g`.
+///
+/// In a CID-keyed font (chapter 18) the global dictionary has the operator `ROS`: `get(Operator::ROS)` is `Some(..)`.
+/// Its Private DICTs and local subroutines belong to the Font DICTs in its `FDArray`, and `FDSelect` assigns one to
+/// each glyph. A `FontSet` does not contain these two. Running a charstring that calls local subroutines therefore
+/// fails or gives a wrong result.
 #[derive(Drop)]
 pub struct FontSet {
     /// The header.
     pub header: Header,
     /// The names of the fonts.
     pub names: Vec<String>,
-    /// The strings behind the standard ones.
+    /// The strings after the standard ones.
     pub strings: Strings,
-    /// The encoding of each dictionary.
+    /// The encoding for each Top DICT.
     pub encodings: Vec<Encoding>,
-    /// The char set of each dictionary.
+    /// The charset for each Top DICT.
     pub char_sets: Vec<CharSet>,
-    /// The char strings of each dictionary.
+    /// The charstrings for each Top DICT.
     pub char_strings: Vec<CharStrings>,
-    /// The dictionaries of the fonts.
+    /// The Top DICTs of the fonts.
     pub global_dictionaries: Vec<Operations>,
-    /// The subroutines that all char strings share.
+    /// The global subroutines, which all charstrings share.
     pub global_subroutines: Subroutines,
-    /// The private dictionary of each dictionary.
+    /// The Private DICT for each Top DICT.
     pub local_dictionaries: Vec<Operations>,
-    /// The local subroutines of each dictionary.
+    /// The local subroutines for each Top DICT.
     pub local_subroutines: Vec<Subroutines>,
 }
 
 impl FontSet {
-    /// An equal font: each field is equal. It stands in memory of its own: what the clone of each field takes, and the lists of
-    /// dictionaries, char strings, char sets and subroutines.
+    /// Returns a copy of the font with equal fields. It allocates as the `clone` of each field does, and for the lists
+    /// of dictionaries, charstrings, charsets and subroutines.
     ///
-    /// Refused: `Memory`.
+    /// # Errors
+    ///
+    /// - `Memory`: out of memory.
     pub fn clone(&self) -> Result<Self>
+        // Every field of the copy is equal.
         ensures equal { IfOk result (λ font. font_shown font ≡ font_shown self.now) }
+        // The only error is `Memory`.
         ensures listed { IsListed (3 ∷ []) result }
     {
         let tables = self.tables()?;
         Ok(of_parts(self.header, tables, self.parts()?))
     }
 
-    /// Equal tables.
+    /// Returns a copy of the tables.
     fn tables(&self) -> Result<Tables>
         ensures equal { IfOk result (λ tables. tables_shown tables ≡ tables_in (font_shown self.now)) }
         ensures listed { IsListed (3 ∷ []) result }
@@ -86,7 +91,7 @@ impl FontSet {
         })
     }
 
-    /// Equal parts.
+    /// Returns a copy of the parts.
     fn parts(&self) -> Result<Parts>
         ensures equal { IfOk result (λ parts. parts_shown parts ≡ parts_in (font_shown self.now)) }
         ensures listed { IsListed (3 ∷ []) result }
@@ -100,16 +105,19 @@ impl FontSet {
         })
     }
 
-    /// A font that may lack private dictionaries and local subroutines: with fewer than two operands of `Private` a
-    /// dictionary has an empty private one, and without an operand of `Subrs` no local subroutines. On an honest tape
-    /// it is answered exactly where such a font stands at the tape's place, running out of memory aside; the layout leaves
-    /// open where the font ends.
+    /// Reads a lenient font: one that may lack Private DICTs and local subroutines.
     ///
-    /// A CID-keyed font is mostly read so, since its dictionary has no `Private`; but its glyphs find no local subroutines
-    /// (`FontSet`).
+    /// If `Private` has fewer than two operands, the Private DICT is empty. If `Subrs` has no operand, there are no
+    /// local subroutines. On an honest tape it succeeds exactly if there is such a font at the current offset, apart
+    /// from running out of memory. The layout leaves open the offset at which the font ends.
     ///
-    /// Refused: as `read` is, but never for operands of `Private` or `Subrs` that are missing; one that is there and
-    /// is no whole number of `i32` is `MalformedOperation`.
+    /// Most CID-keyed fonts can be read only so, since their Top DICT has no `Private`. Their glyphs then have no local
+    /// subroutines (see [`FontSet`]).
+    ///
+    /// # Errors
+    ///
+    /// - The errors of reading a `FontSet`, but operands of `Private` or `Subrs` may be missing. If one is there and is
+    ///   not an integer in the range of `i32`, it is `MalformedOperation`.
     ///
     /// ```rust
     /// pub fn lenient_font_of(alloc: Global, bytes: &[u8]) -> Result<FontSet> {
@@ -118,29 +126,38 @@ impl FontSet {
     /// }
     /// ```
     pub fn read_lenient<T: Tape>(alloc: Global, tape: &mut T) -> Result<FontSet>
+        // On an honest tape the result is a lenient font at the offset (`IsLenientFont`).
         ensures found { IsHonest (T.state tape.old) →
             IfOk result (λ f. IsLenientFont (T.state tape.old).bytes (T.state tape.old).place (font_shown f)) }
+        // On an honest tape it fails only if there is no lenient font there, or memory runs out.
         ensures only { IsHonest (T.state tape.old) →
             IfErr result (λ e. e ≢ errors.Memory → (f : Font) → IsLenientFont (T.state tape.old).bytes (T.state tape.old).place f → ⊥) }
+        // On an honest tape an error other than `Memory` has its cause there (`NoLenientFont`).
         ensures why { IsHonest (T.state tape.old) →
             IfErr result (λ e. e ≢ errors.Memory → NoLenientFont e (T.state tape.old).bytes (T.state tape.old).place) }
+        // An honest tape gives exactly what `lenient_font` gives, unless memory runs out.
         ensures exact { Reads font_shown (T.state tape.old) result (T.state tape.new) lenient_font }
+        // The only errors are those with the codes 1 to 3 and 5 to 16 (`Error::code`).
         ensures listed { IsListed (1 ∷ 2 ∷ 3 ∷ 5 ∷ 6 ∷ 7 ∷ 8 ∷ 9 ∷ 10 ∷ 11 ∷ 12 ∷ 13 ∷ 14 ∷ 15 ∷ 16 ∷ []) result }
     {
         reads_dictionaries();
         read_font(alloc, tape, Manner::Lenient)
     }
 
-    /// Whether `read` answers a font at the tape's place (Technical Note 5176, "CFF Data Layout"), and where it does not,
-    /// why. The font is passed over: its char strings are not read, since their last offset says how many bytes they are.
-    /// Of these only the offsets take memory for a while, four bytes a glyph, and no time is spent on their bytes. What
-    /// else is read of a dictionary is dropped before the next one, and names, strings and global subroutines at the end.
-    /// A tape that faults within char strings is not noticed; none that is honest does.
+    /// Checks whether there is a font at the current offset that `read` accepts (Technical Note 5176, "CFF Data
+    /// Layout"). Offsets count from the current offset of the tape.
     ///
-    /// On an honest tape it is answered exactly where a font stands (`specs/FontSet/Layout.antt`), running out of memory aside,
-    /// and the tape then stands where `read` leaves it. Offsets count from the tape's place.
+    /// The charstrings are not read, since their last offset gives their size. Only their offsets take memory while
+    /// they are checked, four bytes for each glyph. Other parts of a Top DICT are dropped before the next one is read,
+    /// and names, strings and global subroutines at the end. A tape that fails within the charstrings is not noticed,
+    /// but an honest tape does not fail there.
     ///
-    /// Refused: as `read` is, with the same error in the same order; `Memory` in fewer cases.
+    /// On an honest tape it succeeds exactly if there is a font (`specs/FontSet/Layout.antt`), apart from running out
+    /// of memory. The tape is then where `read` leaves it.
+    ///
+    /// # Errors
+    ///
+    /// - The errors of reading a `FontSet`, found in the same order. `Memory` occurs in fewer cases.
     ///
     /// ```rust
     /// pub fn is_font(alloc: Global, bytes: &[u8]) -> bool {
@@ -148,26 +165,35 @@ impl FontSet {
     /// }
     /// ```
     pub fn check<T: Tape>(alloc: Global, tape: &mut T) -> Result<()>
+        // On an honest tape success means that a font is laid out from the old to the new offset.
         ensures found { IsHonest (T.state tape.old) →
             OnOk result ((f : Font) × IsFont (T.state tape.old).bytes (T.state tape.old).place f (T.state tape.new).place) }
+        // On an honest tape it fails only if there is no font there, or memory runs out.
         ensures only { IsHonest (T.state tape.old) →
             IfErr result (λ e. e ≢ errors.Memory → (f : Font) (next : ℕ) →
             IsFont (T.state tape.old).bytes (T.state tape.old).place f next → ⊥) }
+        // On an honest tape an error other than `Memory` has its cause there (`NoFont`).
         ensures why { IsHonest (T.state tape.old) →
             IfErr result (λ e. e ≢ errors.Memory → NoFont e (T.state tape.old).bytes (T.state tape.old).place) }
+        // On an honest tape it gives what `font` gives, without the value, unless memory runs out.
         ensures exact { Reads (λ _. tt {0}) (T.state tape.old) result (T.state tape.new)
             (λ bytes place. after (font bytes place) (λ _ next. Got tt next)) }
+        // The only errors are those with the codes 1 to 3 and 5 to 16 (`Error::code`).
         ensures listed { IsListed (1 ∷ 2 ∷ 3 ∷ 5 ∷ 6 ∷ 7 ∷ 8 ∷ 9 ∷ 10 ∷ 11 ∷ 12 ∷ 13 ∷ 14 ∷ 15 ∷ 16 ∷ []) result }
     {
         reads_dictionaries();
         pass_font(alloc, tape, Manner::Strict)
     }
 
-    /// Whether `read_lenient` answers a font at the tape's place, and where it does not, why. It is to `read_lenient` as
-    /// `check` is to `read`: the font is passed over, its char strings are not read, and on an honest tape it is answered
-    /// exactly where a font stands that may lack private dictionaries and local subroutines, running out of memory aside.
+    /// Checks whether there is a font at the current offset that `read_lenient` accepts. It works as [`FontSet::check`]
+    /// does, and does not read the charstrings.
     ///
-    /// Refused: as `read_lenient` is, with the same error in the same order; `Memory` in fewer cases.
+    /// On an honest tape it succeeds exactly if there is a font that may lack Private DICTs and local subroutines,
+    /// apart from running out of memory.
+    ///
+    /// # Errors
+    ///
+    /// - The errors of `read_lenient`, found in the same order. `Memory` occurs in fewer cases.
     ///
     /// ```rust
     /// pub fn lenient_refusal(alloc: Global, bytes: &[u8]) -> Option<Error> {
@@ -175,14 +201,19 @@ impl FontSet {
     /// }
     /// ```
     pub fn check_lenient<T: Tape>(alloc: Global, tape: &mut T) -> Result<()>
+        // On an honest tape success means that there is a lenient font at the offset.
         ensures found { IsHonest (T.state tape.old) →
             OnOk result ((f : Font) × IsLenientFont (T.state tape.old).bytes (T.state tape.old).place f) }
+        // On an honest tape it fails only if there is no lenient font there, or memory runs out.
         ensures only { IsHonest (T.state tape.old) →
             IfErr result (λ e. e ≢ errors.Memory → (f : Font) → IsLenientFont (T.state tape.old).bytes (T.state tape.old).place f → ⊥) }
+        // On an honest tape an error other than `Memory` has its cause there (`NoLenientFont`).
         ensures why { IsHonest (T.state tape.old) →
             IfErr result (λ e. e ≢ errors.Memory → NoLenientFont e (T.state tape.old).bytes (T.state tape.old).place) }
+        // On an honest tape it gives what `lenient_font` gives, without the value, or `Memory`.
         ensures exact { Reads (λ _. tt {0}) (T.state tape.old) result (T.state tape.new)
             (λ bytes place. after (lenient_font bytes place) (λ _ next. Got tt next)) }
+        // The only errors are those with the codes 1 to 3 and 5 to 16 (`Error::code`).
         ensures listed { IsListed (1 ∷ 2 ∷ 3 ∷ 5 ∷ 6 ∷ 7 ∷ 8 ∷ 9 ∷ 10 ∷ 11 ∷ 12 ∷ 13 ∷ 14 ∷ 15 ∷ 16 ∷ []) result }
     {
         reads_dictionaries();
@@ -190,25 +221,34 @@ impl FontSet {
     }
 }
 
-/// The font at the tape's place (Technical Note 5176, "CFF Data Layout"), from which offsets count. The version in the
-/// header is not looked at. On an honest tape a font is answered exactly where one stands
-/// (`specs/FontSet/Layout.antt`), running out of memory aside; the tape then stands behind the local subroutines of the last
-/// dictionary, or behind the global ones where there is no dictionary.
+/// Reads the font at the current offset of the tape, from which offsets count (Technical Note 5176, "CFF Data Layout").
+/// The version in the header is not checked.
 ///
-/// Refused, in this order: for the header, `UnexpectedEof`, and `OutOfRangeOffset` where 64 bits do not count the
-/// place behind it; for names, dictionaries, strings and global subroutines as an `Index` is, and behind the INDEX of
-/// dictionaries as the first bad number or operator is (`Dictionaries::into`). Then for each dictionary:
+/// On an honest tape it succeeds exactly if there is a font (`specs/FontSet/Layout.antt`), apart from running out of
+/// memory. The tape is then after the local subroutines of the last Top DICT, or after the global subroutines if there
+/// is no Top DICT.
 ///
-/// - its encoding: `Unsupported` with `Part::CustomEncoding` for another than 0 and 1;
-/// - its char strings: `OutOfRangeOffset`, `UnknownCharStringFormat` for another type than 2, and as an `Index` is;
-/// - its char set: `OutOfRangeOffset`, and as a `CharSet` is;
-/// - its private dictionary: `OutOfRangeOffset` for a negative size or offset too, `UnexpectedEof`, and as the first
-///   bad number or operator in it is;
-/// - its local subroutines, whose offset counts from the private dictionary: `OutOfRangeOffset`, and as an `Index` is.
+/// # Errors
 ///
-/// Before each of these come `MissingOperation` with the operator that is missing or has too few operands, and
-/// `MalformedOperation` with the one of which an operand is no whole number of `i32`. A place past the end is
-/// `UnexpectedEof` or `Io`. Last `Io`, `Memory`.
+/// The steps are checked in this order. Each can also fail with `Io` or `Memory`.
+///
+/// - The header: `UnexpectedEof`, or `OutOfRangeOffset` if the offset after it does not fit in 64 bits.
+/// - The names, the Top DICTs, the strings and the global subroutines: the errors of reading an `Index`. After the
+///   INDEX of Top DICTs, the errors of `Dictionaries::into`.
+///
+/// These steps follow for each Top DICT:
+///
+/// - The encoding: `Unsupported` with `Part::CustomEncoding` if it is not 0 or 1.
+/// - The charstrings: `OutOfRangeOffset`, `UnknownCharStringFormat` if the type is not 2, and the errors of an `Index`.
+/// - The charset: `OutOfRangeOffset`, and the errors of a `CharSet`.
+/// - The Private DICT: `OutOfRangeOffset` (also for a negative size or offset), `UnexpectedEof`, and the errors of
+///   `Dictionaries::into`.
+/// - The local subroutines, whose offset counts from the Private DICT: `OutOfRangeOffset`, and the errors of an
+///   `Index`.
+///
+/// In each of these steps `MissingOperation` and `MalformedOperation` come first. They contain the operator that is
+/// missing or has too few operands, or has an operand that is not an integer in the range of `i32`. An offset past the
+/// end is `UnexpectedEof` or `Io`.
 impl Value for FontSet {
     ghost use Rattle.std.specs.Prelude.{◌≢◌, ℕ, [], ◌∷◌, map, refl, IfOk, IfErr};
     ghost use Rattle.postscript_base.specs.Error.{IsListed};
@@ -232,8 +272,8 @@ impl Value for FontSet {
 
     ghost refusals = { 1 ∷ 2 ∷ 3 ∷ 5 ∷ 6 ∷ 7 ∷ 8 ∷ 9 ∷ 10 ∷ 11 ∷ 12 ∷ 13 ∷ 14 ∷ 15 ∷ 16 ∷ [] };
 
-    /// Reads the font. Whoever calls it learns that a font is read where one stands, and nowhere else (clauses
-    /// `found`, `only` and `why`).
+    /// Reads the font. A caller's proof also gets the clauses `found`, `only` and `why`: a font is read exactly if
+    /// there is one.
     ///
     /// ```rust
     /// pub fn font_of(alloc: Global, bytes: &[u8]) -> Result<FontSet> {
@@ -250,13 +290,18 @@ impl Value for FontSet {
     /// }
     /// ```
     fn read<T: Tape>(alloc: Global, tape: &mut T) -> Result<FontSet>
+        // On an honest tape the result is exactly what `font` gives, unless memory runs out.
         ensures exact { Reads font_shown (T.state tape.old) result (T.state tape.new) font }
+        // The only errors are those with the codes 1 to 3 and 5 to 16 (`Error::code`).
         ensures listed { IsListed (1 ∷ 2 ∷ 3 ∷ 5 ∷ 6 ∷ 7 ∷ 8 ∷ 9 ∷ 10 ∷ 11 ∷ 12 ∷ 13 ∷ 14 ∷ 15 ∷ 16 ∷ []) result }
+        // On an honest tape the result is a font laid out from the old to the new offset.
         ensures found { IsHonest (T.state tape.old) →
             IfOk result (λ f. IsFont (T.state tape.old).bytes (T.state tape.old).place (font_shown f) (T.state tape.new).place) }
+        // On an honest tape it fails only if there is no font there, or memory runs out.
         ensures only { IsHonest (T.state tape.old) →
             IfErr result (λ e. e ≢ errors.Memory → (f : Font) (next : ℕ) →
             IsFont (T.state tape.old).bytes (T.state tape.old).place f next → ⊥) }
+        // On an honest tape an error other than `Memory` has its cause there (`NoFont`).
         ensures why { IsHonest (T.state tape.old) →
             IfErr result (λ e. e ≢ errors.Memory → NoFont e (T.state tape.old).bytes (T.state tape.old).place) }
     {
@@ -278,7 +323,7 @@ fn read_font<T: Tape>(alloc: Global, tape: &mut T, manner: Manner) -> Result<Fon
     Ok(of_parts(header, tables, parts))
 }
 
-/// Passes over a font in a manner: it is read as by `read_font`, and nothing of it is kept.
+/// Skips a font: reads it as `read_font` does, but keeps nothing.
 #[tactic(auto, using(crate::proofs::Outcomes::refused_after), unfolding(crate::specs::Private::Passed::passed_font))]
 fn pass_font<T: Tape>(alloc: Global, tape: &mut T, manner: Manner) -> Result<()>
     ensures exact { Reads (λ _. tt) (T.state tape.old) result (T.state tape.new) (passed_font manner) }
@@ -290,7 +335,7 @@ fn pass_font<T: Tape>(alloc: Global, tape: &mut T, manner: Manner) -> Result<()>
     pass_parts(alloc, tape, manner, start, &tables.dictionaries)
 }
 
-/// The font of its header, of what stands behind it, and of its parts.
+/// Builds a font from its header, its tables and its parts.
 fn of_parts(header: Header, tables: Tables, parts: Parts) -> FontSet
     ensures { font_shown result ≡ font_of header (tables_shown tables) (parts_shown parts) }
 {

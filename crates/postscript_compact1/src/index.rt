@@ -1,4 +1,4 @@
-//! Indices: items with the offsets that bound them (Technical Note 5176, "INDEX Data").
+//! INDEX structures: items, and the offsets between them (Technical Note 5176, "INDEX Data").
 ghost use Rattle.std.specs.Prelude.{◌≡◌, ℕ, ◌+◌, ◌<◌, List, [], ◌∷◌, length, map, refl, IfOk, IsTrue, None, slice_get, vec_len};
 ghost use Rattle.std.specs.Option.{option_copied};
 ghost use Rattle.postscript_base.specs.Error.{IsListed};
@@ -34,14 +34,15 @@ use std::slice::Iter;
 pub use strings::Strings;
 pub use subroutines::Subroutines;
 
-/// An INDEX.
+/// An INDEX, read into memory.
 #[derive(Debug, Drop)]
 pub struct Index {
-    /// How many items there are.
+    /// The number of items.
     pub count: u16,
-    /// How many bytes an offset has. It is 0 where there are no items.
+    /// The number of bytes in an offset. It is 0 if there are no items.
     pub offset_size: OffsetSize,
-    /// Where items begin and end, counted from the byte before the first item. It is empty where there are no items.
+    /// The offsets that bound the items, counted from the byte before the first item. The list is empty if there are no
+    /// items.
     pub offsets: Vec<Offset>,
     /// The items.
     pub items: Vec<Vec<u8>>,
@@ -63,8 +64,9 @@ impl Model for Index {
 }
 
 impl Index {
-    /// An INDEX without items: its count and its size of offsets are 0. Never refused.
+    /// Returns an INDEX without items. Its count and its offset size are 0.
     pub fn empty(alloc: Global) -> Self
+        // The INDEX is the empty one, without items and offsets.
         ensures { result ≡ no_items }
     {
         Index {
@@ -75,22 +77,23 @@ impl Index {
         }
     }
 
-    /// The items as a slice, each the list of its bytes; as a font's subroutines are handed to `Program::new`. Never
-    /// refused.
+    /// Returns the items as a slice of lists of bytes, as `Program::new` expects the subroutines of a font.
     pub fn data(&self) -> &[Vec<u8>]
+        // The slice has the items in order.
         ensures { map (λ item. item.items) result.now ≡ self.now.items }
     {
         self.items.as_slice()
     }
 
-    /// How many items there are. Never refused.
+    /// Returns the number of items.
     pub fn len(&self) -> usize
+        // The result is the number of items.
         ensures { result ≡ length self.now.items }
     {
         self.items.len()
     }
 
-    /// The bytes of the item at a place, counted from 0. None where there is no such item. Never refused.
+    /// Returns the bytes of item `i`, counted from 0. It is `None` if there is no such item.
     ///
     /// ```rust
     /// pub fn glyph_code<'l>(font: &'l FontSet, dictionary: usize, glyph: GlyphID) -> Option<&'l [u8]> {
@@ -99,12 +102,13 @@ impl Index {
     /// }
     /// ```
     pub fn item(&self, i: usize) -> Option<&[u8]>
+        // The result is the bytes of item `i`, or `None` if there is no such item.
         ensures { option_copied result ≡ slice_get self.now.items i }
     {
         Some(self.items.get(i)?.as_slice())
     }
 
-    /// The items in order, each the list of its bytes. Never refused.
+    /// Iterates over the items in order, each a list of bytes.
     ///
     /// ```rust
     /// pub fn bytes_of_items(index: &Index) -> usize {
@@ -116,16 +120,21 @@ impl Index {
     /// }
     /// ```
     pub fn iter(&self) -> Iter<'_, Vec<u8>>
+        // The iterator yields all items in order.
         ensures { map (λ item. item.items) result.rest.now ≡ self.now.items }
     {
         self.items.iter()
     }
 
-    /// An equal INDEX, in memory of its own: a list of the offsets, one of the items, and one for the bytes of each item.
+    /// Returns a copy of the INDEX. It allocates a list of offsets, a list of items, and the bytes of each item.
     ///
-    /// Refused: `Memory`.
+    /// # Errors
+    ///
+    /// - `Memory`: out of memory.
     pub fn clone(&self) -> Result<Self>
+        // The copy is equal to the original.
         ensures equal { IfOk result (λ index. index ≡ self.now) }
+        // The only error is `Memory`.
         ensures listed { IsListed (3 ∷ []) result }
     {
         Ok(Index {
@@ -137,13 +146,21 @@ impl Index {
     }
 }
 
-/// A count of two bytes, and where it is not 0 the size of an offset, one offset more than there are items, and the
-/// items (Technical Note 5176, "INDEX Data"). An `Index` that was read is empty or has as many items as it counts. Its
-/// offsets begin with 1 and rise, and item i is as long as offset i + 1 less offset i: an item of no bytes is refused.
+/// Reads a count of two bytes. If it is not 0, the offset size, the offsets (one more than there are items) and the
+/// items follow (Technical Note 5176, "INDEX Data").
 ///
-/// Refused: `UnexpectedEof` where the count or the size is cut; `MalformedOffset` for offsets of no byte or of more
-/// than four; then, offset by offset, `UnexpectedEof` where it is cut and `MalformedIndex` where the first is not 1 or
-/// a next one is not greater than the last; `UnexpectedEof` where an item is cut; `Io`, `Memory`.
+/// An `Index` that was read is empty or has as many items as its count says. Its offsets begin with 1 and increase, and
+/// the length of item `i` is the difference between offsets `i + 1` and `i`. An empty item is an error.
+///
+/// # Errors
+///
+/// The bytes are checked in their order.
+///
+/// - `UnexpectedEof`: the count, the offset size, an offset or an item is truncated.
+/// - `MalformedOffset`: the offset size is 0 or greater than 4.
+/// - `MalformedIndex`: the first offset is not 1, or a later one is not greater than the one before it.
+/// - `Io`: any other fault of the tape.
+/// - `Memory`: out of memory.
 #[tactic(auto, using(crate::proofs::IndexIs::empty_whole), unfolding(crate::specs::Index::index))]
 impl Value for Index {
     ghost use Rattle.std.specs.Prelude.{[], ◌∷◌};
@@ -166,9 +183,13 @@ impl Value for Index {
     ghost refusals = { 1 ∷ 2 ∷ 3 ∷ 5 ∷ 6 ∷ [] };
 
     fn read<T: Tape>(alloc: Global, tape: &mut T) -> Result<Index>
+        // On an honest tape the result is exactly what `index` gives, unless memory runs out.
         ensures exact { Reads same (T.state tape.old) result (T.state tape.new) index }
+        // The only errors are `UnexpectedEof`, `Io`, `Memory`, `MalformedOffset`, `MalformedIndex`.
         ensures listed { IsListed (1 ∷ 2 ∷ 3 ∷ 5 ∷ 6 ∷ []) result }
+        // An INDEX from an honest tape is empty, or its count, offsets and items agree (`IsWhole`).
         ensures whole { IsHonest (T.state tape.old) → IfOk result IsWhole }
+        // An INDEX from any tape is empty, or its count, offsets and items agree (`IsWhole`).
         ensures whole_anywhere { IfOk result IsWhole }
     {
         let count = u16::read(alloc, tape)?;
@@ -179,7 +200,7 @@ impl Value for Index {
     }
 }
 
-/// Reads what follows a count that is not 0.
+/// Reads the rest of an INDEX whose count is not 0.
 #[tactic(auto, unfolding(crate::specs::Index::filled))]
 fn read_filled<T: Tape>(alloc: Global, tape: &mut T, count: u16) -> Result<Index>
     ensures exact { Reads same (T.state tape.old) result (T.state tape.new) (filled count) }
@@ -198,7 +219,7 @@ fn read_filled<T: Tape>(alloc: Global, tape: &mut T, count: u16) -> Result<Index
     })
 }
 
-/// Reads the offsets: one more than there are items.
+/// Reads the offsets, one more than there are items.
 #[tactic(auto, unfolding(crate::specs::Index::offsets))]
 fn read_offsets<T: Tape>(
     alloc: Global,
@@ -214,7 +235,7 @@ fn read_offsets<T: Tape>(
     read_chain(alloc, tape, (size, None), usize::from(count) + 1)
 }
 
-/// How long an item is.
+/// The length of an item.
 #[derive(Clone, Copy, Debug)]
 struct Length(u32);
 
@@ -247,7 +268,7 @@ impl Source for Length {
     }
 }
 
-/// How long the items between offsets are.
+/// Returns the lengths of the items between offsets.
 fn lengths_of(alloc: Global, offsets: &[Offset]) -> Result<Vec<Length>>
     ensures lengths { IfOk result (λ found. map (λ length. length.0) found.items ≡ lengths offsets.now) }
     ensures listed { IsListed (3 ∷ []) result }
@@ -258,7 +279,7 @@ fn lengths_of(alloc: Global, offsets: &[Offset]) -> Result<Vec<Length>>
     }
 }
 
-/// How long the items are between an offset and others.
+/// Returns the lengths of the items between an offset and the ones that follow.
 fn lengths_from(alloc: Global, first: Offset, others: &[Offset]) -> Result<Vec<Length>>
     ensures lengths { IfOk result (λ found. map (λ length. length.0) found.items ≡ lengths_from first others.now) }
     ensures listed { IsListed (3 ∷ []) result }

@@ -1,4 +1,4 @@
-//! The Compact Font Format (Adobe Technical Note 5176): indices, char sets, encodings and fonts.
+//! The Compact Font Format (Adobe Technical Note 5176): INDEX structures, charsets, encodings and fonts.
 #![tactic(auto)]
 
 pub mod char_set;

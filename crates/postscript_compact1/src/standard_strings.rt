@@ -5,7 +5,7 @@ ghost use Rattle.postscript_compact1.specs.StandardStrings.{standard_string};
 
 use postscript_base::compact1::StringID;
 
-/// The standard strings, by their identifiers.
+/// The standard strings, indexed by SID.
 #[rattlefmt::skip]
 const STRINGS: [&str; 391] = [
     ".notdef", "space", "exclam", "quotedbl", "numbersign", "dollar", "percent", "ampersand",
@@ -61,14 +61,15 @@ const STRINGS: [&str; 391] = [
     "Medium", "Regular", "Roman", "Semibold",
 ];
 
-/// The standard string of an identifier (Technical Note 5176, Appendix A). From 391 on there is none. Never refused.
+/// Returns the standard string with an SID (Technical Note 5176, Appendix A). It is `None` from 391 on.
 pub fn get_standard_string(sid: StringID) -> Option<&'static str>
+    // The result is the standard string with this SID, or `None` if there is none.
     ensures { option_copied result ≡ standard_string sid }
 {
     text_at(&STRINGS, usize::from(sid))
 }
 
-/// The text at a place of a table, if there is one.
+/// Returns the text at an index of a table, if there is one.
 fn text_at(table: &[&'static str], place: usize) -> Option<&'static str>
     ensures { option_copied result ≡ slice_get (map (λ text. text.now) table.now) place }
 {

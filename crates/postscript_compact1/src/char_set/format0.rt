@@ -1,4 +1,4 @@
-//! Char sets of format 0.
+//! Charsets of format 0.
 ghost use Rattle.std.specs.Prelude.{◌≡◌, ℕ, List, [], ◌∷◌, IfOk};
 ghost use Rattle.postscript_base.specs.Error.{IsListed};
 ghost use Rattle.postscript_base.specs.Tape.{Reads};
@@ -14,12 +14,12 @@ use postscript_base::{Tape, Value, Walue};
 use std::alloc::Global;
 use std::marker::Model;
 
-/// A char set that lists its glyphs (Technical Note 5176, "Charsets", Table 17).
+/// A charset that lists its glyphs (Technical Note 5176, "Charsets", Table 17).
 #[derive(Debug, Drop)]
 pub struct CharSet0 {
     /// The format, which is 0.
     pub format: u8,
-    /// The identifiers of the glyphs from 1.
+    /// The SIDs of the glyphs from glyph 1.
     pub glyphs: Vec<StringID>,
 }
 
@@ -32,11 +32,15 @@ impl Model for CharSet0 {
 }
 
 impl CharSet0 {
-    /// An equal char set, in memory of its own: the list of its glyphs.
+    /// Returns a copy of the charset. It allocates the list of glyphs.
     ///
-    /// Refused: `Memory`.
+    /// # Errors
+    ///
+    /// - `Memory`: out of memory.
     pub fn clone(&self) -> Result<Self>
+        // The copy is equal to the original.
         ensures equal { IfOk result (λ set. set ≡ self.now) }
+        // The only error is `Memory`.
         ensures listed { IsListed (3 ∷ []) result }
     {
         Ok(CharSet0 {
@@ -46,11 +50,15 @@ impl CharSet0 {
     }
 }
 
-/// A char set of format 0: the byte 0, and identifiers, one for each glyph from 1 (Technical Note 5176, "Charsets",
-/// Table 17). The parameter is the number of glyphs, of which glyph 0 is not told.
+/// Reads a charset of format 0: the byte 0, and an SID for each glyph from glyph 1 (Technical Note 5176, "Charsets",
+/// Table 17). The parameter is the number of glyphs. Glyph 0 is not in the charset.
 ///
-/// Refused: `UnexpectedEof` where no byte is left; `MalformedCharSet` where it is another than 0, and for no
-/// glyphs; `UnexpectedEof` where an identifier is cut; `Io`, `Memory`.
+/// # Errors
+///
+/// - `MalformedCharSet`: the first byte is not 0, or there are no glyphs.
+/// - `UnexpectedEof`: the first byte or an SID is truncated.
+/// - `Io`: any other fault of the tape.
+/// - `Memory`: out of memory.
 #[tactic(auto, unfolding(crate::specs::CharSets::char_set_0))]
 impl Walue for CharSet0 {
     type Parameter = usize;
@@ -75,7 +83,7 @@ impl Walue for CharSet0 {
     }
 }
 
-/// What follows the byte of the format.
+/// Reads the rest, after the format byte.
 #[tactic(auto, unfolding(crate::specs::CharSets::listed))]
 pub(super) fn listed<T: Tape>(alloc: Global, tape: &mut T, glyphs: usize) -> Result<CharSet0>
     ensures exact { Reads same (T.state tape.old) result (T.state tape.new) (the_listed glyphs) }

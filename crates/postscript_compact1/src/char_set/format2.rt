@@ -1,4 +1,4 @@
-//! Char sets of format 2.
+//! Charsets of format 2.
 ghost use Rattle.std.specs.Prelude.{◌≡◌, ℕ, List, [], ◌∷◌, IfOk};
 ghost use Rattle.postscript_base.specs.Error.{IsListed};
 ghost use Rattle.postscript_base.specs.Tape.{Reads};
@@ -14,12 +14,12 @@ use postscript_base::{Tape, Value, Walue};
 use std::alloc::Global;
 use std::marker::Model;
 
-/// A char set of ranges (Technical Note 5176, "Charsets", Table 20).
+/// A charset of ranges (Technical Note 5176, "Charsets", Table 20).
 #[derive(Debug, Drop)]
 pub struct CharSet2 {
     /// The format, which is 2.
     pub format: u8,
-    /// The ranges that cover the glyphs from 1.
+    /// The ranges that cover the glyphs from glyph 1.
     pub ranges: Vec<Range2>,
 }
 
@@ -33,11 +33,15 @@ impl Model for CharSet2 {
 }
 
 impl CharSet2 {
-    /// An equal char set, in memory of its own: the list of its ranges.
+    /// Returns a copy of the charset. It allocates the list of ranges.
     ///
-    /// Refused: `Memory`.
+    /// # Errors
+    ///
+    /// - `Memory`: out of memory.
     pub fn clone(&self) -> Result<Self>
+        // The copy is equal to the original.
         ensures equal { IfOk result (λ set. set ≡ self.now) }
+        // The only error is `Memory`.
         ensures listed { IsListed (3 ∷ []) result }
     {
         Ok(CharSet2 {
@@ -47,12 +51,17 @@ impl CharSet2 {
     }
 }
 
-/// A char set of format 2: the byte 2, and ranges of four bytes (Technical Note 5176, "Charsets", Table 20). The
-/// parameter is the number of glyphs, of which glyph 0 is not told.
+/// Reads a charset of format 2: the byte 2, and ranges of four bytes (Technical Note 5176, "Charsets", Table 20). The
+/// parameter is the number of glyphs. Glyph 0 is not in the charset.
 ///
-/// Refused: `UnexpectedEof` where no byte is left; `MalformedCharSet` where it is another than 2, and for no
-/// glyphs; then, in the order of the bytes, `UnexpectedEof` where a range is cut and `MalformedCharSet` where one
-/// covers more glyphs than are left; `Io`, `Memory`.
+/// # Errors
+///
+/// The bytes are checked in their order.
+///
+/// - `MalformedCharSet`: the first byte is not 2, there are no glyphs, or a range covers more glyphs than are left.
+/// - `UnexpectedEof`: the first byte or a range is truncated.
+/// - `Io`: any other fault of the tape.
+/// - `Memory`: out of memory.
 #[tactic(auto, unfolding(crate::specs::CharSets::char_set_of))]
 impl Walue for CharSet2 {
     type Parameter = usize;
@@ -77,7 +86,7 @@ impl Walue for CharSet2 {
     }
 }
 
-/// What follows the byte of the format.
+/// Reads the rest, after the format byte.
 #[tactic(auto, using(crate::proofs::Ranges::ranges_2_take), unfolding(crate::specs::CharSets::covered))]
 pub(super) fn covered<T: Tape>(alloc: Global, tape: &mut T, glyphs: usize) -> Result<CharSet2>
     ensures exact { Reads same (T.state tape.old) result (T.state tape.new) (covered_2 glyphs) }

@@ -1,4 +1,4 @@
-//! The predefined char sets.
+//! The predefined charsets.
 ghost use Rattle.std.specs.Prelude.{◌≡◌, IsTrue};
 ghost use Rattle.std.specs.Option.{option_copied};
 ghost use Rattle.postscript_compact1.specs.CharSets.Predefined.{are_runs, identifier_of, name_in_runs};
@@ -6,13 +6,13 @@ ghost use Rattle.postscript_compact1.specs.CharSets.Predefined.{are_runs, identi
 use crate::standard_strings::get_standard_string;
 use postscript_base::compact1::{GlyphID, StringID};
 
-/// A run of identifiers: the first and the last.
+/// A range of SIDs: the first and the last.
 pub type Run = (StringID, StringID);
 
-/// The runs of ISOAdobe (Technical Note 5176, Appendix C).
+/// The ranges of ISOAdobe (Technical Note 5176, Appendix C).
 pub const ISO_ADOBE: [Run; 1] = [(1, 228)];
 
-/// The runs of Expert.
+/// The ranges of Expert.
 #[rattlefmt::skip]
 pub const EXPERT: [Run; 17] = [
     (1, 1), (229, 238), (13, 15), (99, 99), (239, 248), (27, 28), (249, 266), (109, 110),
@@ -20,7 +20,7 @@ pub const EXPERT: [Run; 17] = [
     (327, 378),
 ];
 
-/// The runs of ExpertSubset.
+/// The ranges of ExpertSubset.
 #[rattlefmt::skip]
 pub const EXPERT_SUBSET: [Run; 23] = [
     (1, 1), (231, 232), (235, 238), (13, 15), (99, 99), (239, 248), (27, 28), (249, 251),
@@ -28,7 +28,7 @@ pub const EXPERT_SUBSET: [Run; 23] = [
     (155, 155), (163, 163), (320, 326), (150, 150), (164, 164), (169, 169), (327, 346),
 ];
 
-/// The string that names a glyph by runs of identifiers.
+/// Returns the name of a glyph, by ranges of SIDs.
 pub fn name(runs: &[Run], gid: GlyphID) -> Option<&'static str>
     requires { IsTrue (are_runs runs.now) }
     ensures { option_copied result ≡ name_in_runs runs.now gid }
@@ -36,7 +36,7 @@ pub fn name(runs: &[Run], gid: GlyphID) -> Option<&'static str>
     get_standard_string(identifier(runs, gid)?)
 }
 
-/// The identifier of a glyph by runs, which stand in the order of the glyphs from 1.
+/// Returns the SID of a glyph, by ranges in the order of the glyphs from glyph 1.
 #[tactic(auto, using(crate::proofs::GlyphRuns::sought_first), unfolding(crate::specs::CharSets::Predefined::identifier_of))]
 pub fn identifier(runs: &[Run], gid: GlyphID) -> Option<StringID>
     requires { IsTrue (are_runs runs.now) }

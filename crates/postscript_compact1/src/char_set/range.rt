@@ -14,33 +14,33 @@ use postscript_base::tape::{Linked, Until, read_until};
 use postscript_base::{Tape, Value};
 use std::alloc::Global;
 
-/// A range of glyphs that strings of consecutive identifiers name (Technical Note 5176, "Charsets", Table 19).
+/// A range of glyphs with consecutive SIDs (Technical Note 5176, "Charsets", Table 19).
 #[derive(Clone, Copy, Debug)]
 pub struct Range1 {
-    /// The identifier of the first glyph.
+    /// The SID of the first glyph.
     pub first: StringID,
-    /// How many glyphs stand behind the first one in the range.
+    /// The number of glyphs after the first one in the range.
     pub left: u8,
 }
 
-/// A range of glyphs that strings of consecutive identifiers name (Technical Note 5176, "Charsets", Table 21).
+/// A range of glyphs with consecutive SIDs (Technical Note 5176, "Charsets", Table 21).
 #[derive(Clone, Copy, Debug)]
 pub struct Range2 {
-    /// The identifier of the first glyph.
+    /// The SID of the first glyph.
     pub first: StringID,
-    /// How many glyphs stand behind the first one in the range.
+    /// The number of glyphs after the first one in the range.
     pub left: u16,
 }
 
-/// A range, whatever its format.
+/// A range of either format.
 trait Range: Sized {
-    /// How many glyphs a range covers.
+    /// The number of glyphs that a range covers.
     ghost size: { Self → ℕ };
 
-    /// What a reading of one gives.
+    /// The outcome of reading a range.
     ghost one: { Reading Self };
 
-    /// How many glyphs the range covers.
+    /// Returns the number of glyphs that the range covers.
     fn glyphs(&self) -> usize
         ensures { result ≡ size self.now };
 
@@ -78,7 +78,7 @@ impl Range for Range2 {
     }
 }
 
-/// Reads a range that covers no more glyphs than are still to be covered.
+/// Reads a range that covers at most `wanting` glyphs.
 #[tactic(auto, unfolding(crate::specs::CharSets::covering))]
 fn read_covering<R: Range + Drop, T: Tape>(alloc: Global, tape: &mut T, wanting: usize) -> Result<R>
     ensures exact { Reads same (T.state tape.old) result (T.state tape.new) (covering R.size R.one wanting) }
@@ -91,7 +91,7 @@ fn read_covering<R: Range + Drop, T: Tape>(alloc: Global, tape: &mut T, wanting:
     Ok(range)
 }
 
-/// Reads the ranges that cover the glyphs from 1, of so many.
+/// Reads the ranges that cover all glyphs except glyph 0.
 #[tactic(auto, unfolding(crate::specs::CharSets::if_any))]
 pub(super) fn ranges<R: Linked<Given = usize> + Until + Drop, T: Tape>(
     alloc: Global,
@@ -109,10 +109,13 @@ pub(super) fn ranges<R: Linked<Given = usize> + Until + Drop, T: Tape>(
     read_until(alloc, tape, glyphs - 1)
 }
 
-/// Three bytes: an identifier of two, and how many glyphs are left in the range (Technical Note 5176, "Charsets",
-/// Table 19).
+/// Reads three bytes: an SID of two, and the number of glyphs left in the range (Technical Note 5176, "Charsets", Table
+/// 19).
 ///
-/// Refused: `UnexpectedEof` where fewer are left, `Io`.
+/// # Errors
+///
+/// - `UnexpectedEof`: fewer bytes are left.
+/// - `Io`: any other fault of the tape.
 #[tactic(auto, unfolding(crate::specs::CharSets::range))]
 impl Value for Range1 {
     ghost use Rattle.postscript_compact1.specs.declared.char_set.range.Range1.{Range1};
@@ -137,10 +140,13 @@ impl Value for Range1 {
     }
 }
 
-/// Four bytes: an identifier of two, and how many glyphs are left in the range (Technical Note 5176, "Charsets", Table
+/// Reads four bytes: an SID of two, and the number of glyphs left in the range (Technical Note 5176, "Charsets", Table
 /// 21).
 ///
-/// Refused: `UnexpectedEof` where fewer are left, `Io`.
+/// # Errors
+///
+/// - `UnexpectedEof`: fewer bytes are left.
+/// - `Io`: any other fault of the tape.
 #[tactic(auto, unfolding(crate::specs::CharSets::range))]
 impl Value for Range2 {
     ghost use Rattle.postscript_compact1.specs.declared.char_set.range.Range2.{Range2};
@@ -165,9 +171,13 @@ impl Value for Range2 {
     }
 }
 
-/// A range is given how many glyphs are still to be covered, and leaves how many are to be covered behind it.
+/// Reads a range. It gets the number of glyphs that are still to be covered, and passes on the number that it leaves.
 ///
-/// Refused: `UnexpectedEof` where it is cut; `MalformedCharSet` where it covers more glyphs than are still to be covered; `Io`.
+/// # Errors
+///
+/// - `UnexpectedEof`: the range is truncated.
+/// - `MalformedCharSet`: the range covers more glyphs than are still to be covered.
+/// - `Io`: any other fault of the tape.
 impl Linked for Range1 {
     ghost use Rattle.postscript_compact1.specs.declared.char_set.range.Range1.{Range1};
 
@@ -196,9 +206,13 @@ impl Linked for Range1 {
     }
 }
 
-/// A range is given how many glyphs are still to be covered, and leaves how many are to be covered behind it.
+/// Reads a range. It gets the number of glyphs that are still to be covered, and passes on the number that it leaves.
 ///
-/// Refused: `UnexpectedEof` where it is cut; `MalformedCharSet` where it covers more glyphs than are still to be covered; `Io`.
+/// # Errors
+///
+/// - `UnexpectedEof`: the range is truncated.
+/// - `MalformedCharSet`: the range covers more glyphs than are still to be covered.
+/// - `Io`: any other fault of the tape.
 impl Linked for Range2 {
     ghost use Rattle.postscript_compact1.specs.declared.char_set.range.Range2.{Range2};
 
@@ -227,7 +241,7 @@ impl Linked for Range2 {
     }
 }
 
-/// No range is read any more once no glyph is left to cover.
+/// Stops when all glyphs are covered.
 impl Until for Range1 {
     ghost is_last = { none_wanting };
 
@@ -236,7 +250,7 @@ impl Until for Range1 {
     }
 }
 
-/// No range is read any more once no glyph is left to cover.
+/// Stops when all glyphs are covered.
 impl Until for Range2 {
     ghost is_last = { none_wanting };
 

@@ -1,4 +1,4 @@
-//! What the operands of a dictionary say of a font: whole numbers, and places that count from the font's start.
+//! The operands of a dictionary that describe a font: integers, and offsets from the start of the font.
 ghost use Rattle.std.specs.Prelude.{ℕ, List, [], ◌∷◌};
 ghost use Rattle.postscript_base.specs.Error.{IsListed};
 ghost use Rattle.postscript_base.specs.Tape.Outcome.{Answers, same};
@@ -7,12 +7,17 @@ ghost use Rattle.postscript_compact1.specs.FontSet.Operands.{first as the_first,
 use postscript_base::compact1::{Operations, Operator};
 use postscript_base::{Error, Result};
 
-/// The first operand of an operator, as a whole number.
+/// Returns the first operand of an operator as an integer.
 ///
-/// Refused: `MissingOperation` where there is none, `MalformedOperation` where it is no whole number of `i32`.
+/// # Errors
+///
+/// - `MissingOperation`: there is no such operand.
+/// - `MalformedOperation`: the operand is not an integer in the range of `i32`.
 #[tactic(auto, unfolding(crate::specs::FontSet::Operands::first))]
 pub fn first(dictionary: &Operations, operator: Operator) -> Result<i32>
+    // The result is exactly what `first` gives (specs/FontSet/Operands.antt).
     ensures exact { (bytes : List ℕ) (place : ℕ) → Answers same result place (the_first dictionary.now operator bytes place) }
+    // The only errors are `MalformedOperation` and `MissingOperation`.
     ensures listed { IsListed (13 ∷ 14 ∷ []) result }
 {
     let operand = dictionary
@@ -21,9 +26,12 @@ pub fn first(dictionary: &Operations, operator: Operator) -> Result<i32>
     operand.to_i32().ok_or(Error::MalformedOperation(operator))
 }
 
-/// The first two operands of an operator, as whole numbers.
+/// Returns the first two operands of an operator as integers.
 ///
-/// Refused: `MissingOperation` where there are fewer, `MalformedOperation` where one is no whole number of `i32`.
+/// # Errors
+///
+/// - `MissingOperation`: there are fewer than two operands.
+/// - `MalformedOperation`: an operand is not an integer in the range of `i32`.
 #[tactic(auto, unfolding(crate::specs::FontSet::Operands::two))]
 fn two(dictionary: &Operations, operator: Operator) -> Result<(i32, i32)>
     ensures exact { (bytes : List ℕ) (place : ℕ) → Answers (λ r. (r.0, r.1)) result place (the_two dictionary.now operator bytes place) }
@@ -38,14 +46,19 @@ fn two(dictionary: &Operations, operator: Operator) -> Result<(i32, i32)>
     Ok((a, b))
 }
 
-/// The place whose offset is a base and the first operand of an operator, counted from the beginning of the font, which stands at
-/// `start` (Technical Note 5176, Table 9, "Offset").
+/// Returns the offset in the tape that the first operand of an operator points to (Technical Note 5176, Table 9,
+/// "Offset"). The operand and `base` are added to `start`, the offset of the font.
 ///
-/// Refused: `MissingOperation` where the dictionary has no such operand; `MalformedOperation` where it is no whole number of 32
-/// bits; `OutOfRangeOffset` where the offset is negative or 64 bits do not count the place.
+/// # Errors
+///
+/// - `MissingOperation`: the dictionary has no such operand.
+/// - `MalformedOperation`: the operand is not an integer in the range of `i32`.
+/// - `OutOfRangeOffset`: the offset from the start of the font is negative, or the sum does not fit in 64 bits.
 #[tactic(auto, unfolding(crate::specs::FontSet::Operands::place_at))]
 pub fn place_at(start: u64, base: u32, dictionary: &Operations, operator: Operator) -> Result<u64>
+    // The result is exactly what `place_at` gives (specs/FontSet/Operands.antt).
     ensures exact { (bytes : List ℕ) (place : ℕ) → Answers same result place (the_place_at start base dictionary.now operator bytes place) }
+    // The only errors are `MalformedOperation`, `MissingOperation` and `OutOfRangeOffset`.
     ensures listed { IsListed (13 ∷ 14 ∷ 15 ∷ []) result }
 {
     let offset = i64::from(base) + i64::from(first(dictionary, operator)?);
@@ -57,13 +70,18 @@ pub fn place_at(start: u64, base: u32, dictionary: &Operations, operator: Operat
         .ok_or(Error::OutOfRangeOffset)
 }
 
-/// Whether char strings are of Type 2 (Technical Note 5176, Table 9, "CharstringType").
+/// Checks that charstrings are of type 2 (Technical Note 5176, Table 9, "CharstringType").
 ///
-/// Refused: `UnknownCharStringFormat` where they are of another; `MissingOperation` or `MalformedOperation` where the operand is
-/// no whole number.
+/// # Errors
+///
+/// - `UnknownCharStringFormat`: they are of another type.
+/// - `MissingOperation`: the operator has no operand.
+/// - `MalformedOperation`: the operand is not an integer in the range of `i32`.
 #[tactic(auto, unfolding(crate::specs::FontSet::Operands::type_two))]
 pub fn type_two(dictionary: &Operations) -> Result<()>
+    // The result is exactly what `type_two` gives (specs/FontSet/Operands.antt).
     ensures exact { (bytes : List ℕ) (place : ℕ) → Answers (λ _. tt) result place (the_type_two dictionary.now bytes place) }
+    // The only errors are those with the codes 12 to 14 (`Error::code`).
     ensures listed { IsListed (12 ∷ 13 ∷ 14 ∷ []) result }
 {
     if first(dictionary, Operator::CharStringType)? == 2 {
@@ -73,15 +91,20 @@ pub fn type_two(dictionary: &Operations) -> Result<()>
     }
 }
 
-/// The size of the private dictionary in bytes, its offset and its place, of a font that stands at `start` (Technical Note 5176,
-/// section 15).
+/// Returns the size of the Private DICT in bytes, its offset from the start of the font, and its offset in the tape.
+/// The font begins at `start` (Technical Note 5176, section 15).
 ///
-/// Refused: `MissingOperation` where `Private` has fewer than two operands; `MalformedOperation` where one is no whole number;
-/// `OutOfRangeOffset` where one is negative or 64 bits do not count the place.
+/// # Errors
+///
+/// - `MissingOperation`: `Private` has fewer than two operands.
+/// - `MalformedOperation`: an operand is not an integer in the range of `i32`.
+/// - `OutOfRangeOffset`: an operand is negative, or the offset in the tape does not fit in 64 bits.
 #[tactic(auto, unfolding(crate::specs::FontSet::Operands::bounds))]
 pub fn bounds(start: u64, dictionary: &Operations) -> Result<(usize, u32, u64)>
+    // The result is exactly what `bounds` gives (specs/FontSet/Operands.antt).
     ensures exact { (bytes : List ℕ) (place : ℕ) →
         Answers (λ r. (r.0, r.1, r.2)) result place (the_bounds start dictionary.now bytes place) }
+    // The only errors are `MalformedOperation`, `MissingOperation` and `OutOfRangeOffset`.
     ensures listed { IsListed (13 ∷ 14 ∷ 15 ∷ []) result }
 {
     let (size, offset) = two(dictionary, Operator::Private)?;

@@ -1,4 +1,4 @@
-//! What a font has for one of its dictionaries.
+//! The parts of a font that belong to one of its Top DICTs.
 ghost use Rattle.std.specs.Prelude.{◌≡◌, ℕ, List, [], ◌∷◌, IfErr, OnOk};
 ghost use Rattle.postscript_base.specs.Error.{IsListed};
 ghost use Rattle.postscript_base.specs.Tape.{Reads};
@@ -22,7 +22,7 @@ use postscript_base::tape::{bytes_at, read_at, read_given_at};
 use postscript_base::{Error, Result, Tape};
 use std::alloc::Global;
 
-/// What a font has for one of its dictionaries.
+/// The parts of a font that belong to one of its Top DICTs.
 #[derive(Drop)]
 pub(super) struct Part {
     pub(super) encoding: Encoding,
@@ -32,7 +32,7 @@ pub(super) struct Part {
     pub(super) local_subroutines: Subroutines,
 }
 
-/// Reads what a font has for one of its dictionaries.
+/// Reads the parts of a Top DICT.
 #[tactic(auto, using(crate::proofs::Outcomes::refused_after), unfolding(crate::specs::Computed::Parts::part))]
 pub(super) fn read_part<T: Tape>(
     alloc: Global,
@@ -56,9 +56,12 @@ pub(super) fn read_part<T: Tape>(
     })
 }
 
-/// The encoding of a dictionary.
+/// Returns the encoding of a Top DICT.
 ///
-/// Refused: `MissingOperation`, `MalformedOperation`, `Unsupported` for another than Standard and Expert.
+/// # Errors
+///
+/// - `MissingOperation`, `MalformedOperation`: the operand is missing or not an integer in the range of `i32`.
+/// - `Unsupported`: the encoding is neither Standard nor Expert.
 #[tactic(auto, unfolding(crate::specs::Computed::Parts::encoding))]
 fn encoding(dictionary: &Operations) -> Result<Encoding>
     ensures exact { (bytes : List ℕ) (place : ℕ) → Answers same result place (the_encoding dictionary.now bytes place) }
@@ -71,7 +74,7 @@ fn encoding(dictionary: &Operations) -> Result<Encoding>
     }
 }
 
-/// The char strings of a dictionary, and its char set.
+/// Reads the charstrings and the charset of a Top DICT.
 #[tactic(auto, unfolding(crate::specs::Computed::Parts::glyphs))]
 fn glyphs<T: Tape>(
     alloc: Global,
@@ -87,7 +90,7 @@ fn glyphs<T: Tape>(
     Ok((char_strings, char_set))
 }
 
-/// The char strings of a dictionary.
+/// Reads the charstrings of a Top DICT.
 #[tactic(auto, using(crate::proofs::IndexIs::char_strings_need), unfolding(crate::specs::Computed::Parts::char_strings, crate::specs::Kinds::char_strings))]
 fn char_strings<T: Tape>(
     alloc: Global,
@@ -103,9 +106,13 @@ fn char_strings<T: Tape>(
     Ok(read_given_at::<CharStrings, T>(alloc, tape, place, 2)?)
 }
 
-/// The char set of a dictionary, for so many glyphs.
+/// Reads the charset of a Top DICT.
 ///
-/// Refused: `MissingOperation`, `MalformedOperation`, `OutOfRangeOffset`, and as a `CharSet` is.
+/// # Errors
+///
+/// - `MissingOperation`, `MalformedOperation`: the operand is missing or not an integer in the range of `i32`.
+/// - `OutOfRangeOffset`: the offset is negative, or does not fit in 64 bits.
+/// - The errors of reading a `CharSet`.
 #[tactic(auto, unfolding(crate::specs::Computed::Parts::char_set))]
 fn char_set<T: Tape>(
     alloc: Global,
@@ -125,7 +132,7 @@ fn char_set<T: Tape>(
     }
 }
 
-/// The offset of the char set, or the number of a predefined one.
+/// Returns the offset of the charset, or the number of a predefined one.
 #[tactic(auto, unfolding(crate::specs::Computed::Parts::char_set_offset))]
 fn char_set_offset(dictionary: &Operations) -> Result<u32>
     ensures exact { (bytes : List ℕ) (place : ℕ) → Answers same result place (the_char_set_offset dictionary.now bytes place) }
@@ -135,7 +142,7 @@ fn char_set_offset(dictionary: &Operations) -> Result<u32>
     u32::try_from(offset).map_err(|_| Error::OutOfRangeOffset)
 }
 
-/// The char set at an offset, for so many glyphs.
+/// Reads the charset at an offset.
 #[tactic(auto, using(crate::proofs::CharSetIs::char_set_needs), unfolding(crate::specs::Computed::Parts::own_char_set))]
 fn own_char_set<T: Tape>(
     alloc: Global,
@@ -153,8 +160,8 @@ fn own_char_set<T: Tape>(
     Ok(read_given_at::<CharSet, T>(alloc, tape, place, glyphs)?)
 }
 
-/// The private dictionary of a dictionary and the local subroutines; empty ones where the private dictionary is
-/// lacking.
+/// Reads the Private DICT and the local subroutines of a Top DICT. Both are empty if there need not be a Private DICT
+/// and there is none.
 #[tactic(auto, unfolding(crate::specs::Computed::Parts::locals))]
 fn locals<T: Tape>(
     alloc: Global,
@@ -172,7 +179,7 @@ fn locals<T: Tape>(
     own_locals(alloc, tape, manner, start, dictionary)
 }
 
-/// The private dictionary of a dictionary, and the local subroutines.
+/// Reads the Private DICT of a Top DICT, and the local subroutines.
 #[tactic(auto, unfolding(crate::specs::Computed::Parts::own_locals))]
 fn own_locals<T: Tape>(
     alloc: Global,
@@ -189,7 +196,7 @@ fn own_locals<T: Tape>(
     Ok((local_dictionary, local_subroutines))
 }
 
-/// The private dictionary, and its offset.
+/// Reads the Private DICT, and returns its offset too.
 #[tactic(auto, unfolding(crate::specs::Computed::Parts::private))]
 fn private<T: Tape>(
     alloc: Global,
@@ -206,7 +213,7 @@ fn private<T: Tape>(
     Ok((offset, local_dictionary))
 }
 
-/// The local subroutines of a private dictionary at an offset; none where they are lacking.
+/// Reads the local subroutines of a Private DICT, or returns an empty list if they may be missing and are.
 #[tactic(auto, unfolding(crate::specs::Computed::Parts::own_subroutines))]
 fn own_subroutines<T: Tape>(
     alloc: Global,
@@ -225,7 +232,7 @@ fn own_subroutines<T: Tape>(
     subroutines(alloc, tape, start, offset, local_dictionary)
 }
 
-/// The local subroutines of a private dictionary at an offset.
+/// Reads the local subroutines of a Private DICT at an offset.
 #[tactic(auto, using(crate::proofs::IndexIs::needs), unfolding(crate::specs::Computed::Parts::subroutines))]
 fn subroutines<T: Tape>(
     alloc: Global,
@@ -241,7 +248,7 @@ fn subroutines<T: Tape>(
     Ok(read_at::<Subroutines, T>(alloc, tape, place)?)
 }
 
-/// What a font has for each of its dictionaries, kind by kind.
+/// The parts of all Top DICTs, by kind.
 #[derive(Drop)]
 pub(super) struct Parts {
     pub(super) encodings: Vec<Encoding>,
@@ -252,7 +259,7 @@ pub(super) struct Parts {
 }
 
 impl Parts {
-    /// No parts.
+    /// Returns empty lists.
     fn empty(alloc: Global) -> Self
         ensures { parts_shown result ≡ columns [] }
     {
@@ -265,7 +272,7 @@ impl Parts {
         }
     }
 
-    /// Takes one part more.
+    /// Appends one part.
     fn push(&mut self, part: Part) -> Result<()>
         ensures ok { OnOk result (parts_shown self.new ≡ more (parts_shown self.old) (part_shown part)) }
         ensures memory { IfErr result (λ e. e ≡ Error.Memory) }
@@ -280,7 +287,7 @@ impl Parts {
     }
 }
 
-/// Reads what a font has for each of its dictionaries.
+/// Reads the parts of all Top DICTs.
 pub(super) fn read_parts<T: Tape>(
     alloc: Global,
     tape: &mut T,

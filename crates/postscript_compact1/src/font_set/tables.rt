@@ -1,4 +1,4 @@
-//! What stands behind the header of a font.
+//! The tables after the header of a font.
 ghost use Rattle.std.specs.Prelude.{[], ◌∷◌, map, string_bytes};
 ghost use Rattle.postscript_base.specs.Error.{IsListed};
 ghost use Rattle.postscript_base.specs.Tape.{Reads};
@@ -11,7 +11,7 @@ use postscript_base::tape::read_at;
 use postscript_base::{Error, Result, Tape, Value};
 use std::alloc::Global;
 
-/// What stands behind the header of a font.
+/// The tables after the header of a font.
 #[derive(Drop)]
 pub(super) struct Tables {
     pub(super) names: Vec<String>,
@@ -20,7 +20,7 @@ pub(super) struct Tables {
     pub(super) subroutines: Subroutines,
 }
 
-/// Reads what stands behind the header.
+/// Reads the tables after the header.
 #[tactic(auto, unfolding(crate::specs::Computed::Order::behind))]
 pub(super) fn read_behind<T: Tape>(
     alloc: Global,
@@ -37,7 +37,7 @@ pub(super) fn read_behind<T: Tape>(
     read_tables(alloc, tape, place)
 }
 
-/// Reads names, dictionaries, strings and global subroutines, one behind the other.
+/// Reads names, Top DICTs, strings and global subroutines, one after the other.
 #[tactic(auto, unfolding(crate::specs::Computed::Order::tables))]
 fn read_tables<T: Tape>(alloc: Global, tape: &mut T, place: u64) -> Result<Tables>
     ensures exact { Reads tables_shown (T.state tape.old) result (T.state tape.new) (tables place) }
@@ -55,7 +55,7 @@ fn read_tables<T: Tape>(alloc: Global, tape: &mut T, place: u64) -> Result<Table
     })
 }
 
-/// Reads the names, each as a text.
+/// Reads the names as text.
 #[tactic(auto, using(crate::proofs::IndexIs::needs), unfolding(crate::specs::Computed::Order::names))]
 fn read_names<T: Tape>(alloc: Global, tape: &mut T, place: u64) -> Result<Vec<String>>
     ensures exact { Reads (λ names. map string_bytes names.items) (T.state tape.old) result (T.state tape.new) (the_names place) }
@@ -65,7 +65,7 @@ fn read_names<T: Tape>(alloc: Global, tape: &mut T, place: u64) -> Result<Vec<St
     names.into(alloc)
 }
 
-/// Reads the dictionaries.
+/// Reads the Top DICTs.
 #[tactic(auto, unfolding(crate::specs::Computed::Order::dictionaries))]
 fn read_dictionaries<T: Tape>(alloc: Global, tape: &mut T) -> Result<Vec<Operations>>
     ensures exact { Reads (λ dictionaries. dictionaries.items) (T.state tape.old) result (T.state tape.new) the_dictionaries }

@@ -1,4 +1,4 @@
-//! Char strings.
+//! The CharStrings INDEX.
 ghost use Rattle.std.specs.Prelude.{◌≡◌, ◌≢◌, [], ◌∷◌, IfOk, Err, pos};
 ghost use Rattle.postscript_base.specs.Error.{IsListed};
 ghost use Rattle.postscript_base.specs.Tape.{Reads};
@@ -12,7 +12,7 @@ use std::alloc::{AllocError, Global};
 use std::marker::Model;
 use std::ops::Deref;
 
-/// An INDEX of char strings: the code of each glyph.
+/// An INDEX of charstrings, one for each glyph.
 #[derive(Debug, Drop)]
 pub struct CharStrings(pub Index);
 
@@ -24,8 +24,8 @@ impl Model for CharStrings {
     ghost view = { λ char_strings. char_strings.0 };
 }
 
-/// The INDEX, so that `data`, `len`, `item` and `iter` are called on char strings; the item at a glyph's number is its
-/// code.
+/// Dereferences to the INDEX, so that `data`, `len`, `item` and `iter` can be called on it. Item `g` is the charstring
+/// of glyph `g`.
 impl Deref for CharStrings {
     type Target = Index;
 
@@ -37,18 +37,22 @@ impl Deref for CharStrings {
 }
 
 impl CharStrings {
-    /// Equal char strings, in memory of their own, as `Index::clone` takes it.
+    /// Returns a copy of the charstrings. It allocates as `Index::clone` does.
     ///
-    /// Refused: `Memory`.
+    /// # Errors
+    ///
+    /// - `Memory`: out of memory.
     pub fn clone(&self) -> Result<Self>
+        // The copy is equal to the original.
         ensures equal { IfOk result (λ char_strings. char_strings ≡ self.now) }
+        // The only error is `Memory`.
         ensures listed { IsListed (3 ∷ []) result }
     {
         Ok(CharStrings(self.0.clone()?))
     }
 }
 
-/// As `CharStrings::clone`, so that lists of them are cloned as well. Refused only where memory runs out.
+/// Clones as `CharStrings::clone` does, so that lists of these can be cloned. It fails only if out of memory.
 impl Clone for CharStrings {
     ghost use Rattle.std.specs.Prelude.{◌≡◌};
 
@@ -59,9 +63,12 @@ impl Clone for CharStrings {
     }
 }
 
-/// An INDEX of char strings (Technical Note 5176, "CharStrings INDEX"). The parameter is their type.
+/// Reads an INDEX of charstrings (Technical Note 5176, "CharStrings INDEX"). The parameter is the charstring type.
 ///
-/// Refused: `UnknownCharStringFormat` for another type than 2, with the tape as it was; else as an `Index` is.
+/// # Errors
+///
+/// - `UnknownCharStringFormat`: the type is not 2. The tape is then unchanged.
+/// - The errors of reading an `Index`.
 #[tactic(auto, unfolding(crate::specs::Kinds::char_strings))]
 impl Walue for CharStrings {
     type Parameter = i32;
@@ -85,9 +92,13 @@ impl Walue for CharStrings {
     ghost refusals = { 1 ∷ 2 ∷ 3 ∷ 5 ∷ 6 ∷ 12 ∷ [] };
 
     fn read<T: Tape>(alloc: Global, tape: &mut T, format: i32) -> Result<CharStrings>
+        // An honest tape gives exactly what `char_strings` gives, unless memory runs out.
         ensures exact { Reads same (T.state tape.old) result (T.state tape.new) (char_strings format) }
+        // The only errors are those with the codes 1 to 3, 5, 6 and 12 (`Error::code`).
         ensures listed { IsListed (1 ∷ 2 ∷ 3 ∷ 5 ∷ 6 ∷ 12 ∷ []) result }
+        // A type other than 2 is `UnknownCharStringFormat`.
         ensures refused { format ≢ pos 2 → result ≡ Err errors.UnknownCharStringFormat }
+        // A type other than 2 leaves the tape unchanged.
         ensures untouched { format ≢ pos 2 → tape.new ≡ tape.old }
     {
         if format != 2 {

@@ -1,4 +1,4 @@
-//! Dictionaries.
+//! An INDEX of dictionaries.
 ghost use Rattle.std.specs.Prelude.{◌≡◌, ℕ, List, [], ◌∷◌, IfOk, slice_get};
 ghost use Rattle.postscript_base.specs.Error.{IsListed};
 ghost use Rattle.postscript_base.specs.Tape.Outcome.{Answers, same};
@@ -24,7 +24,7 @@ impl Model for Dictionaries {
     ghost view = { λ dictionaries. dictionaries.0 };
 }
 
-/// The INDEX, so that `data`, `len`, `item` and `iter` are called on dictionaries.
+/// Dereferences to the INDEX, so that `data`, `len`, `item` and `iter` can be called on it.
 impl Deref for Dictionaries {
     type Target = Index;
 
@@ -36,23 +36,30 @@ impl Deref for Dictionaries {
 }
 
 impl Dictionaries {
-    /// Equal dictionaries, in memory of their own, as `Index::clone` takes it.
+    /// Returns a copy of the dictionaries. It allocates as `Index::clone` does.
     ///
-    /// Refused: `Memory`.
+    /// # Errors
+    ///
+    /// - `Memory`: out of memory.
     pub fn clone(&self) -> Result<Self>
+        // The copy is equal to the original.
         ensures equal { IfOk result (λ dictionaries. dictionaries ≡ self.now) }
+        // The only error is `Memory`.
         ensures listed { IsListed (3 ∷ []) result }
     {
         Ok(Dictionaries(self.0.clone()?))
     }
 
-    /// The dictionary at a place, counted from 0: what its item's bytes are (`Operations`). None where there is no
-    /// such item.
+    /// Reads the dictionary in item `i`, counted from 0 (see `Operations`). It returns `None` if there is no such item.
     ///
-    /// Refused: as the first number or operator that is bad, `MalformedNumber`, `OutOfRangeNumber`, `UnknownOperator`;
-    /// `Memory`.
+    /// # Errors
+    ///
+    /// - `MalformedNumber`, `OutOfRangeNumber`, `UnknownOperator`: the first bad number or operator.
+    /// - `Memory`: out of memory.
     pub fn operations(&self, alloc: Global, i: usize) -> Result<Option<Operations>>
+        // The result is exactly what `map_if` gives for item `i`, unless memory runs out.
         ensures exact { (bytes : List ℕ) (place : ℕ) → Answers same result place (map_if (slice_get self.now.items i) bytes place) }
+        // The only errors are `Memory`, `MalformedNumber`, `OutOfRangeNumber`, `UnknownOperator`.
         ensures listed { IsListed (3 ∷ 7 ∷ 8 ∷ 9 ∷ []) result }
     {
         match self.item(i) {
@@ -61,12 +68,16 @@ impl Dictionaries {
         }
     }
 
-    /// The dictionaries of all items, in order (Technical Note 5176, "Top DICT INDEX").
+    /// Reads the dictionaries of all items, in order (Technical Note 5176, "Top DICT INDEX").
     ///
-    /// Refused: as the first dictionary that is refused is, `MalformedNumber`, `OutOfRangeNumber`, `UnknownOperator`;
-    /// `Memory`.
+    /// # Errors
+    ///
+    /// - `MalformedNumber`, `OutOfRangeNumber`, `UnknownOperator`: the first bad number or operator.
+    /// - `Memory`: out of memory.
     pub fn into(self, alloc: Global) -> Result<Vec<Operations>>
+        // The result is exactly what `maps_of` gives for the items, unless memory runs out.
         ensures exact { (bytes : List ℕ) (place : ℕ) → Answers (λ maps. maps.items) result place (maps_of self.items bytes place) }
+        // The only errors are `Memory`, `MalformedNumber`, `OutOfRangeNumber`, `UnknownOperator`.
         ensures listed { IsListed (3 ∷ 7 ∷ 8 ∷ 9 ∷ []) result }
     {
         let mut maps = Vec::new(alloc);
@@ -77,9 +88,11 @@ impl Dictionaries {
     }
 }
 
-/// An INDEX of dictionaries, whose items are not looked at yet.
+/// Reads an INDEX of dictionaries. Its items are not parsed.
 ///
-/// Refused: as an `Index` is.
+/// # Errors
+///
+/// - The errors of reading an `Index`.
 impl Value for Dictionaries {
     ghost use Rattle.std.specs.Prelude.{[], ◌∷◌};
     ghost use Rattle.postscript_base.specs.Tape.Outcome.{same};
@@ -103,7 +116,7 @@ impl Value for Dictionaries {
     }
 }
 
-/// The dictionary that the bytes of an item are.
+/// Reads the dictionary in the bytes of an item.
 #[tactic(auto, unfolding(crate::specs::Kinds::map_of))]
 pub(crate) fn operations_of(alloc: Global, item: &[u8]) -> Result<Operations>
     ensures exact { (bytes : List ℕ) (place : ℕ) → Answers same result place (map_of item.now bytes place) }

@@ -1,4 +1,4 @@
-//! The names of fonts.
+//! The Name INDEX.
 ghost use Rattle.std.specs.Prelude.{◌≡◌, [], ◌∷◌, IfOk, map, string_bytes};
 ghost use Rattle.postscript_base.specs.Error.{IsListed};
 ghost use Rattle.postscript_compact1.specs.Texts.{text};
@@ -10,7 +10,7 @@ use std::alloc::Global;
 use std::marker::Model;
 use std::ops::Deref;
 
-/// An INDEX of the names of fonts.
+/// An INDEX of font names.
 #[derive(Debug, Drop)]
 pub struct Names(pub Index);
 
@@ -22,7 +22,7 @@ impl Model for Names {
     ghost view = { λ names. names.0 };
 }
 
-/// The INDEX, so that `data`, `len`, `item` and `iter` are called on names.
+/// Dereferences to the INDEX, so that `data`, `len`, `item` and `iter` can be called on it.
 impl Deref for Names {
     type Target = Index;
 
@@ -34,23 +34,31 @@ impl Deref for Names {
 }
 
 impl Names {
-    /// Equal names, in memory of their own, as `Index::clone` takes it.
+    /// Returns a copy of the names. It allocates as `Index::clone` does.
     ///
-    /// Refused: `Memory`.
+    /// # Errors
+    ///
+    /// - `Memory`: out of memory.
     pub fn clone(&self) -> Result<Self>
+        // The copy is equal to the original.
         ensures equal { IfOk result (λ names. names ≡ self.now) }
+        // The only error is `Memory`.
         ensures listed { IsListed (3 ∷ []) result }
     {
         Ok(Names(self.0.clone()?))
     }
 
-    /// The names as texts, in order (Technical Note 5176, "Name INDEX"). Bytes that are not UTF-8 are read as `bstr`
-    /// does, with U+FFFD for what is no character.
+    /// Returns the names as text, in order (Technical Note 5176, "Name INDEX"). Invalid UTF-8 is replaced by U+FFFD, as
+    /// `bstr` does.
     ///
-    /// Refused: `Memory`.
+    /// # Errors
+    ///
+    /// - `Memory`: out of memory.
     #[tactic(auto, unfolding(crate::specs::Texts::text))]
     pub fn into(self, alloc: Global) -> Result<Vec<String>>
+        // The result is the text of each item, in order.
         ensures texts { IfOk result (λ texts. map string_bytes texts.items ≡ map text self.items) }
+        // The only error is `Memory`.
         ensures listed { IsListed (3 ∷ []) result }
     {
         let mut texts = Vec::new(alloc);
@@ -62,9 +70,11 @@ impl Names {
     }
 }
 
-/// An INDEX of names.
+/// Reads an INDEX of names.
 ///
-/// Refused: as an `Index` is.
+/// # Errors
+///
+/// - The errors of reading an `Index`.
 impl Value for Names {
     ghost use Rattle.std.specs.Prelude.{[], ◌∷◌};
     ghost use Rattle.postscript_base.specs.Tape.Outcome.{same};

@@ -1,4 +1,4 @@
-//! An INDEX that is passed over (Technical Note 5176, "INDEX Data").
+//! Skipping an INDEX (Technical Note 5176, "INDEX Data").
 ghost use Rattle.std.specs.Prelude.{◌≡◌, [], ◌∷◌};
 ghost use Rattle.postscript_base.specs.Error.{IsListed};
 ghost use Rattle.postscript_base.specs.Tape.{Reads};
@@ -12,10 +12,13 @@ use postscript_base::{Error, Result, Tape, Value};
 use std::alloc::Global;
 use std::io::SeekFrom;
 
-/// Passes over the INDEX at a place, counted in bytes from the beginning, and answers how many items it has. No item is read: an
-/// offset takes four bytes of memory.
+/// Skips the INDEX at the offset `place` from the start of the tape, and returns its number of items. No item is read.
+/// Each offset takes four bytes of memory.
 ///
-/// Refused: `UnexpectedEof` or `Io` where the place lies past the end, and as an `Index` is.
+/// # Errors
+///
+/// - `UnexpectedEof` or `Io`: the offset is past the end.
+/// - The errors of reading an `Index`.
 #[tactic(auto, using(crate::proofs::Passed::count_needs), unfolding(postscript_base::specs::Tape::At::at))]
 pub(crate) fn pass_index_at<T: Tape>(alloc: Global, tape: &mut T, place: u64) -> Result<usize>
     ensures exact { Reads same (T.state tape.old) result (T.state tape.new) (at place index_count) }
@@ -25,9 +28,7 @@ pub(crate) fn pass_index_at<T: Tape>(alloc: Global, tape: &mut T, place: u64) ->
     pass_index(alloc, tape)
 }
 
-/// Passes over an INDEX, and answers how many items it has.
-///
-/// Refused: as an `Index` is.
+/// Skips an INDEX, and returns its number of items.
 #[tactic(auto, unfolding(crate::specs::Private::Passed::index_count))]
 fn pass_index<T: Tape>(alloc: Global, tape: &mut T) -> Result<usize>
     ensures exact { Reads same (T.state tape.old) result (T.state tape.new) index_count }
@@ -40,10 +41,7 @@ fn pass_index<T: Tape>(alloc: Global, tape: &mut T) -> Result<usize>
     pass_filled(alloc, tape, count)
 }
 
-/// Passes over what follows a count that is not 0, and answers the count: the size of an offset, the offsets, and as many bytes
-/// as the items are.
-///
-/// Refused: as an `Index` is.
+/// Skips the rest of an INDEX whose count is not 0, and returns the count.
 #[tactic(auto, unfolding(crate::specs::Private::Passed::filled_count))]
 fn pass_filled<T: Tape>(alloc: Global, tape: &mut T, count: u16) -> Result<usize>
     ensures exact { Reads same (T.state tape.old) result (T.state tape.new) (filled_count count) }
@@ -55,8 +53,7 @@ fn pass_filled<T: Tape>(alloc: Global, tape: &mut T, count: u16) -> Result<usize
     Ok(usize::from(count))
 }
 
-/// How many bytes the items are that offsets bound: the last offset less the first, which is 1. It is 0 where
-/// there are no offsets.
+/// Returns the total size of the items: the last offset minus the first, which is 1. It is 0 if there are no offsets.
 fn size_of_items(offsets: &[Offset]) -> u32
     ensures { result ≡ the_size_of_items offsets.now }
 {
@@ -66,9 +63,12 @@ fn size_of_items(offsets: &[Offset]) -> u32
     }
 }
 
-/// Goes behind so many bytes, where as many stand. They are not read: the tape tells where its end is.
+/// Skips `count` bytes without reading them. The end of the tape shows whether they are there.
 ///
-/// Refused: `UnexpectedEof` where fewer stand, `Io`.
+/// # Errors
+///
+/// - `UnexpectedEof`: fewer bytes are left.
+/// - `Io`: any other fault of the tape.
 #[tactic(auto, unfolding(crate::specs::Private::Passed::passed))]
 fn pass_bytes<T: Tape>(tape: &mut T, count: u32) -> Result<()>
     ensures exact { Reads (λ _. tt) (T.state tape.old) result (T.state tape.new) (passed count) }

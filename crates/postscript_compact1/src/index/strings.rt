@@ -1,4 +1,4 @@
-//! Strings.
+//! The String INDEX.
 ghost use Rattle.std.specs.Prelude.{◌≡◌, [], ◌∷◌, IfOk, string_bytes, option_map};
 ghost use Rattle.postscript_base.specs.Error.{IsListed};
 ghost use Rattle.postscript_compact1.specs.Texts.{string_of, text};
@@ -11,7 +11,7 @@ use std::alloc::Global;
 use std::marker::Model;
 use std::ops::Deref;
 
-/// How many standard strings there are.
+/// The number of standard strings.
 const STANDARD: usize = 391;
 
 /// An INDEX of strings.
@@ -26,7 +26,7 @@ impl Model for Strings {
     ghost view = { λ strings. strings.0 };
 }
 
-/// The INDEX, so that `data`, `len`, `item` and `iter` are called on strings. Item 0 has the identifier 391.
+/// Dereferences to the INDEX, so that `data`, `len`, `item` and `iter` can be called on it. Item 0 has the SID 391.
 impl Deref for Strings {
     type Target = Index;
 
@@ -38,21 +38,27 @@ impl Deref for Strings {
 }
 
 impl Strings {
-    /// Equal strings, in memory of their own, as `Index::clone` takes it.
+    /// Returns a copy of the strings. It allocates as `Index::clone` does.
     ///
-    /// Refused: `Memory`.
+    /// # Errors
+    ///
+    /// - `Memory`: out of memory.
     pub fn clone(&self) -> Result<Self>
+        // The copy is equal to the original.
         ensures equal { IfOk result (λ strings. strings ≡ self.now) }
+        // The only error is `Memory`.
         ensures listed { IsListed (3 ∷ []) result }
     {
         Ok(Strings(self.0.clone()?))
     }
 
-    /// The string of an identifier (Technical Note 5176, "String INDEX", Appendix A): below 391 the standard string,
-    /// from there on the text of item `sid - 391`, and None where there is no such item. Bytes that are not UTF-8 are
-    /// read as `bstr` does, with U+FFFD for what is no character.
+    /// Returns the string with an SID (Technical Note 5176, "String INDEX", Appendix A). Below 391 it is a standard
+    /// string. Otherwise it is the text of item `sid - 391`, and `None` if there is no such item. Invalid UTF-8 is
+    /// replaced by U+FFFD, as `bstr` does.
     ///
-    /// Refused: `Memory`.
+    /// # Errors
+    ///
+    /// - `Memory`: out of memory.
     ///
     /// ```rust
     /// pub fn notice(alloc: Global, font: &FontSet, dictionary: &Operations) -> Result<Option<String>> {
@@ -67,7 +73,9 @@ impl Strings {
     /// ```
     #[tactic(auto, unfolding(crate::specs::Texts::string_of))]
     pub fn get(&self, alloc: Global, sid: StringID) -> Result<Option<String>>
+        // Below 391 it is the standard string, and otherwise the text of item `sid - 391`, if any.
         ensures string { IfOk result (λ found. option_map string_bytes found ≡ string_of self.now.items sid) }
+        // The only error is `Memory`.
         ensures listed { IsListed (3 ∷ []) result }
     {
         if let Some(standard) = get_standard_string(sid) {
@@ -80,9 +88,11 @@ impl Strings {
     }
 }
 
-/// An INDEX of strings.
+/// Reads an INDEX of strings.
 ///
-/// Refused: as an `Index` is.
+/// # Errors
+///
+/// - The errors of reading an `Index`.
 impl Value for Strings {
     ghost use Rattle.std.specs.Prelude.{[], ◌∷◌};
     ghost use Rattle.postscript_base.specs.Tape.Outcome.{same};
@@ -106,7 +116,7 @@ impl Value for Strings {
     }
 }
 
-/// The text that bytes are.
+/// Decodes bytes as text.
 #[tactic(auto, unfolding(crate::specs::Texts::text))]
 fn text_of(alloc: Global, item: &[u8]) -> Result<String>
     ensures text { IfOk result (λ found. string_bytes found ≡ text item.now) }

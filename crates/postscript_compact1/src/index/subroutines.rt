@@ -1,4 +1,4 @@
-//! Subroutines of charstrings.
+//! The subroutines of charstrings.
 ghost use Rattle.std.specs.Prelude.{◌≡◌, [], ◌∷◌, IfOk};
 ghost use Rattle.postscript_base.specs.Error.{IsListed};
 ghost use Rattle.postscript_compact1.specs.Index.{empty};
@@ -9,7 +9,7 @@ use std::alloc::{AllocError, Global};
 use std::marker::Model;
 use std::ops::Deref;
 
-/// An INDEX of subroutines of charstrings.
+/// An INDEX of charstring subroutines.
 #[derive(Debug, Drop)]
 pub struct Subroutines(pub Index);
 
@@ -21,8 +21,8 @@ impl Model for Subroutines {
     ghost view = { λ subroutines. subroutines.0 };
 }
 
-/// The INDEX, so that `data`, `len`, `item` and `iter` are called on subroutines. `data` is what `Program::new` is
-/// handed.
+/// Dereferences to the INDEX, so that `data`, `len`, `item` and `iter` can be called on it. `Program::new` takes
+/// `data`.
 impl Deref for Subroutines {
     type Target = Index;
 
@@ -34,25 +34,30 @@ impl Deref for Subroutines {
 }
 
 impl Subroutines {
-    /// No subroutines. Never refused.
+    /// Returns an INDEX without subroutines.
     pub fn empty(alloc: Global) -> Self
+        // There are no subroutines.
         ensures { result ≡ empty }
     {
         Subroutines(Index::empty(alloc))
     }
 
-    /// Equal subroutines, in memory of their own, as `Index::clone` takes it.
+    /// Returns a copy of the subroutines. It allocates as `Index::clone` does.
     ///
-    /// Refused: `Memory`.
+    /// # Errors
+    ///
+    /// - `Memory`: out of memory.
     pub fn clone(&self) -> Result<Self>
+        // The copy is equal to the original.
         ensures equal { IfOk result (λ subroutines. subroutines ≡ self.now) }
+        // The only error is `Memory`.
         ensures listed { IsListed (3 ∷ []) result }
     {
         Ok(Subroutines(self.0.clone()?))
     }
 }
 
-/// As `Subroutines::clone`, so that lists of them are cloned as well. Refused only where memory runs out.
+/// Clones as `Subroutines::clone` does, so that lists of these can be cloned. It fails only if out of memory.
 impl Clone for Subroutines {
     ghost use Rattle.std.specs.Prelude.{◌≡◌};
 
@@ -63,9 +68,11 @@ impl Clone for Subroutines {
     }
 }
 
-/// An INDEX of subroutines (Technical Note 5176, "Local/Global Subrs INDEXes").
+/// Reads an INDEX of subroutines (Technical Note 5176, "Local/Global Subrs INDEXes").
 ///
-/// Refused: as an `Index` is.
+/// # Errors
+///
+/// - The errors of reading an `Index`.
 impl Value for Subroutines {
     ghost use Rattle.std.specs.Prelude.{[], ◌∷◌};
     ghost use Rattle.postscript_base.specs.Tape.Outcome.{same};

@@ -1,4 +1,4 @@
-//! Parts that are passed over.
+//! Skipping the parts of a font.
 ghost use Rattle.std.specs.Prelude.{[], ◌∷◌};
 ghost use Rattle.postscript_base.specs.Error.{IsListed};
 ghost use Rattle.postscript_base.specs.Tape.{Reads};
@@ -13,9 +13,7 @@ use postscript_base::compact1::{Operations, Operator};
 use postscript_base::{Result, Tape};
 use std::alloc::Global;
 
-/// Passes over what a font has for each of its dictionaries.
-///
-/// Refused: as `read_parts` is.
+/// Skips the parts of all Top DICTs. It fails as `read_parts` does.
 pub(in crate::font_set) fn pass_parts<T: Tape>(
     alloc: Global,
     tape: &mut T,
@@ -32,10 +30,8 @@ pub(in crate::font_set) fn pass_parts<T: Tape>(
     Ok(())
 }
 
-/// Passes over what a font has for one of its dictionaries. Its char set, its private dictionary and its local subroutines are
-/// read, and dropped.
-///
-/// Refused: as `read_part` is.
+/// Skips the parts of a Top DICT, and fails as `read_part` does. The charset, the Private DICT and the local
+/// subroutines are read, and dropped.
 #[tactic(auto, using(crate::proofs::Outcomes::refused_after), unfolding(crate::specs::Private::Passed::passed_part))]
 fn pass_part<T: Tape>(
     alloc: Global,
@@ -54,9 +50,7 @@ fn pass_part<T: Tape>(
     Ok(())
 }
 
-/// Passes over the char strings of a dictionary, and answers how many they are.
-///
-/// Refused: as `char_strings` is.
+/// Skips the charstrings of a Top DICT, and returns their number. It fails as `char_strings` does.
 #[tactic(auto, unfolding(crate::specs::Private::Passed::glyph_count))]
 fn pass_char_strings<T: Tape>(
     alloc: Global,
