@@ -1,21 +1,19 @@
-//! A reader of fonts in the Compact Font Format, and an interpreter of their charstrings.
+//! A parser for fonts in the Compact Font Format, and an interpreter for their charstrings.
 //!
-//! What the comments of the calls have in common:
+//! These rules hold for all functions:
 //!
-//! - `Refused:` names each `Error` that a call may answer: in the order in which they are tried, and the faults of
-//!   tapes and of memory last. Where the contract has a clause `listed`, no other is answered.
-//! - `Memory` is that memory ran out, and may come in place of any answer of a call that names it.
-//! - An honest tape is one of which contracts know the bytes and the place, as a `Cursor` over bytes
-//!   (`tape::ReadSeek`). On it the parts of fonts are read exactly: what is said of bytes is said of such a tape.
-//!   There `Io` is answered only where a place past the end is sought.
-//! - `clone` is handed no allocator. Of a type that is `Copy` it takes no memory; another type's asks the global allocator for
-//!   memory for the copy, as its comment says, and is refused with `Memory` where there is none.
-//! - Where a tape stands after a refusal is told only where a comment says so.
-//! - Places and sizes are counted in bytes, places from the beginning of the tape; operands of dictionaries are exact
-//!   decimals, operands of charstrings and widths are 16.16 bits; glyphs and items are counted from 0.
+//! - `# Errors` lists every `Error` that a function can return. If the contract has a clause `listed`, this is proved.
+//! - A function that lists `Memory` can fail with it on any input, if memory runs out.
+//! - A tape is honest if contracts know its bytes and its offset, as for a `Cursor` over bytes (`tape::ReadSeek`). On
+//!   an honest tape the parts of a font are read exactly. There `Io` occurs only for an offset past the end.
+//! - `clone` takes no allocator. For a `Copy` type it needs no memory. For other types it uses the global allocator, as
+//!   its comment says, and fails with `Memory` if that fails.
+//! - After an error the offset of the tape is unspecified, unless the comment gives it.
+//! - Offsets and sizes are in bytes, and offsets count from the start of the tape. Glyphs and items count from 0.
+//! - Operands of dictionaries are exact decimals. Operands of charstrings, and widths, are 16.16 fixed-point numbers.
 //!
-//! The examples use `std::alloc::Global`, `std::io::Cursor`, and of this crate `Result`, `Tape`, `Value` and the types
-//! that they name.
+//! The examples use `std::alloc::Global`, `std::io::Cursor`, and from this crate `Result`, `Tape`, `Value` and the
+//! types that they name.
 #![tactic(auto)]
 
 pub use postscript_base::{Error, Result, Tape, Value, Walue, error};
@@ -34,7 +32,7 @@ pub mod compact1 {
     pub use postscript_compact1::{char_set, encoding, font_set, index};
 }
 
-/// Tapes, and what is read from them.
+/// Tapes, and the values that are read from them.
 pub mod tape {
     pub use postscript_base::tape::{
         Linked, Opaque, ReadSeek, Source, Tape, Value, Walue, bytes_at, fixed, read_chain,
