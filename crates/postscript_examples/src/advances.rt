@@ -1,4 +1,4 @@
-//! Advances of glyphs.
+//! Advance widths of glyphs.
 ghost use Rattle.std.specs.Prelude.{◌≡◌, ◌⊎◌, ℕ, ℤ, pos, ◌*ℤ◌, List, Some, None, IfOk, IfErr, IfSome, IsOkAnd, ◌≤◌, ◌^◌};
 ghost use Rattle.std.specs.Int.RustNames.{unsigned_abs};
 ghost use Rattle.postscript_base.specs.Compact1.Dictionary.{Dictionary};
@@ -17,11 +17,17 @@ use postscript::type2::Operand;
 use postscript::{Error, Result};
 use std::alloc::Global;
 
-/// The advance of a glyph of one of a font's dictionaries, both counted from 0, in 65536ths of a unit: the nominal width of
-/// the private dictionary and what the charstring gives, or the default width where it gives none. None where there is no
-/// such glyph, or where the width in the dictionary is not a whole number of 32 bits.
+/// Returns the advance width of a glyph in one of a font's dictionaries, in 65536ths of a unit. Glyphs and dictionaries
+/// are counted from 0.
 ///
-/// Refused: as the glyph's run is; `Memory`.
+/// The advance is nominalWidthX of the Private DICT plus the difference that the charstring gives, or defaultWidthX if
+/// it gives none. It is `None` if there is no such glyph, or if the width in the dictionary is not an integer of 32
+/// bits.
+///
+/// # Errors
+///
+/// - The error of the glyph's run.
+/// - `Memory`: out of memory.
 pub fn advance(
     alloc: Global,
     font: &FontSet,
@@ -58,7 +64,7 @@ pub fn advance(
     )
 }
 
-/// The advance of a glyph over subroutines, by a private dictionary.
+/// Returns the advance width of a charstring with its subroutines and Private DICT.
 fn advance_over(
     alloc: Global,
     code: &[u8],
@@ -75,7 +81,7 @@ fn advance_over(
     Ok(advance_of(private, width))
 }
 
-/// The advance of a glyph whose charstring gives this width, or none.
+/// Returns the advance width of a glyph, by the width minus nominalWidthX that its charstring gives, if any.
 fn advance_of(private: &Operations, width: Option<Operand>) -> Option<i64>
     ensures { result ≡ the_advance private.now width }
 {
@@ -88,7 +94,7 @@ fn advance_of(private: &Operations, width: Option<Operand>) -> Option<i64>
     }
 }
 
-/// A whole width in 65536ths.
+/// Returns an integer width in 65536ths.
 fn in_bits(width: compact1::Operand) -> Option<i64>
     ensures exact { result ≡ the_bits (Some width) }
     ensures room { IfSome result (λ n. unsigned_abs n ≤ 2 ^ 47) }

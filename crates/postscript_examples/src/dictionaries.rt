@@ -1,4 +1,4 @@
-//! Dictionaries from their bytes, and what they hold.
+//! Parsing dictionaries, and reading their operands.
 ghost use Rattle.std.specs.Prelude.{◌≡◌, ◌≢◌, ℕ, IfOk, IfErr};
 ghost use Rattle.std.specs.Option.{option_map};
 ghost use Rattle.postscript_base.specs.Compact1.Defaults.{first_of, look};
@@ -10,7 +10,7 @@ use postscript::{Error, Result, Value};
 use std::alloc::Global;
 use std::io::Cursor;
 
-/// The dictionary that bytes are. It is answered exactly where they are one, running out of memory aside.
+/// Parses a dictionary. It succeeds exactly if the bytes are a dictionary, apart from running out of memory.
 pub fn dictionary_of(alloc: Global, bytes: &[u8]) -> Result<Operations>
     ensures found { IfOk result (λ map. IsDictionary bytes.now 0 map) }
     ensures only { IfErr result (λ e. e ≢ Error.Memory → (map : Dictionary) → IsDictionary bytes.now 0 map → ⊥) }
@@ -19,7 +19,7 @@ pub fn dictionary_of(alloc: Global, bytes: &[u8]) -> Result<Operations>
     Operations::read(alloc, &mut tape)
 }
 
-/// By how many degrees the letters lean, as `mantissa * 10^exponent`: what the dictionary says, else the default 0.
+/// Returns the italic angle in degrees as `mantissa * 10^exponent`. The default is 0.
 pub fn italic_angle(dictionary: &Operations) -> Option<(i64, i32)>
     ensures { result ≡ option_map (λ angle. (angle.mantissa, angle.exponent)) (first_of (look dictionary.now Operator.ItalicAngle)) }
 {
@@ -27,7 +27,7 @@ pub fn italic_angle(dictionary: &Operations) -> Option<(i64, i32)>
     Some((angle.mantissa(), angle.exponent()))
 }
 
-/// The operands of an operator as texts, each a whole number or with its power of ten, as `39625e-6`.
+/// Returns the operands of an operator as strings. Each is an integer, or has a power of ten, as in `39625e-6`.
 pub fn texts_of(alloc: Global, dictionary: &Operations, operator: Operator) -> Result<Vec<String>> {
     let mut texts = Vec::new(alloc);
     let Some(operands) = dictionary.get(operator) else {
@@ -39,7 +39,7 @@ pub fn texts_of(alloc: Global, dictionary: &Operations, operator: Operator) -> R
     Ok(texts)
 }
 
-/// An operand as a text.
+/// Returns an operand as a string.
 fn text_of(alloc: Global, operand: &Operand) -> Result<String> {
     Ok(format!(in alloc; "{operand}")?)
 }

@@ -1,4 +1,4 @@
-//! Whole OpenType files, and fonts in place.
+//! Whole OpenType files, and fonts that stay in their bytes.
 ghost use Rattle.std.specs.Prelude.{◌≡◌, ◌⊎◌, ℕ, ◌<◌, IfOk, IfErr, length};
 ghost use Rattle.postscript_base.specs.Index.Lent.{items_of};
 
@@ -9,7 +9,7 @@ use postscript_sfnt::{Advances, CharacterMap, FontFile};
 use postscript_view::{Advance, FontView};
 use std::alloc::Global;
 
-/// The names of a font's glyphs, in their order; None where a glyph has none.
+/// Returns the names of a font's glyphs in order, with `None` for a glyph without a name.
 pub fn glyph_names(alloc: Global, cff: &[u8]) -> Result<Vec<Option<&[u8]>>> {
     let font = FontView::read(alloc, cff)?;
     let set = font.char_set()?;
@@ -20,14 +20,14 @@ pub fn glyph_names(alloc: Global, cff: &[u8]) -> Result<Vec<Option<&[u8]>>> {
     Ok(names)
 }
 
-/// The advance of a glyph, as the table `CFF ` tells it: in glyph units, and exact.
+/// Returns the exact advance width of a glyph in glyph units, by the `CFF ` table.
 pub fn advance_of(alloc: Global, cff: &[u8], glyph: usize) -> Result<Advance> {
     let font = FontView::read(alloc, cff)?;
     font.advance(alloc, glyph)?
         .context("the font has no such glyph")
 }
 
-/// The glyph of a character, by the character map that the file prefers.
+/// Returns the glyph of a character, by the character map that the file prefers.
 pub fn glyph_of(file: &FontFile<'_>, character: char) -> Option<u16> {
     let map = CharacterMap::read(file.table(*b"cmap")?)?;
     match map.glyph_of(u32::from(character)) {
@@ -36,7 +36,7 @@ pub fn glyph_of(file: &FontFile<'_>, character: char) -> Option<u16> {
     }
 }
 
-/// The outline of a character's glyph. Its text is the path data of SVG, with y upwards.
+/// Returns the outline of a character's glyph. Displayed, it is SVG path data with y upwards.
 pub fn outline_of(alloc: Global, file: &FontFile<'_>, character: char) -> Result<Outline> {
     let cff = file.table(*b"CFF ").context("no table CFF")?;
     let glyph = glyph_of(file, character).context("no glyph for the character")?;
@@ -46,14 +46,14 @@ pub fn outline_of(alloc: Global, file: &FontFile<'_>, character: char) -> Result
     Ok(outline)
 }
 
-/// A glyph, and where it stands on its line, in font units from the beginning of the line.
+/// A glyph, and its position on the line, in font units from the start of the line.
 #[derive(Clone, Copy, Debug, PartialEq, Eq)]
 pub struct Placed {
     pub glyph: u16,
     pub x: u32,
 }
 
-/// A line of text: the glyph of each character, one behind the other by their advances.
+/// Lays out a line of text: the glyph of each character, one after the other by their advance widths.
 pub fn line_of(alloc: Global, file: &FontFile<'_>, text: &str) -> Result<Vec<Placed>> {
     let (hhea, hmtx) = (file.table(*b"hhea"), file.table(*b"hmtx"));
     let advances = Advances::read(hhea.context("no hhea")?, hmtx.context("no hmtx")?).context(
@@ -69,12 +69,12 @@ pub fn line_of(alloc: Global, file: &FontFile<'_>, text: &str) -> Result<Vec<Pla
     Ok(line)
 }
 
-/// The same font, whose glyphs call no subroutines.
+/// Returns the same font without subroutine calls in its glyphs.
 pub fn flat(alloc: Global, cff: &[u8]) -> Result<Vec<u8>> {
     Ok(postscript_write::flat_font(alloc, cff)?)
 }
 
-/// A font of the glyphs of these characters alone.
+/// Returns a font with only the glyphs of these characters.
 pub fn cut_to(alloc: Global, file: &FontFile<'_>, text: &str) -> Result<Vec<u8>> {
     let cff = file.table(*b"CFF ").context("no table CFF")?;
     let mut glyphs = Vec::new(alloc);
@@ -85,7 +85,7 @@ pub fn cut_to(alloc: Global, file: &FontFile<'_>, text: &str) -> Result<Vec<u8>>
     Ok(postscript_write::subset(alloc, cff, &glyphs)?)
 }
 
-/// Why a font is refused, in words; None where it is read. Any bytes are safe here.
+/// Returns why a font is rejected, as a message, or `None` if it is accepted. Any bytes are safe here.
 pub fn refusal_of(alloc: Global, cff: &[u8]) -> Result<Option<String>> {
     match FontView::read(alloc, cff) {
         Ok(_font) => Ok(None),

@@ -1,4 +1,4 @@
-//! Glyphs that need no subroutines any more.
+//! Flattened glyphs, which need no subroutines.
 ghost use Rattle.std.specs.Prelude.{◌≡◌, ◌⊎◌, [], None, Some, map, slice_get, IfOk, IfErr, IsOkAnd, OnOk};
 ghost use Rattle.postscript_base.specs.RefusalOf.{refusal_of};
 ghost use Rattle.postscript_compact1.specs.Index.{Index};
@@ -11,7 +11,7 @@ use postscript::type2::Program;
 use postscript::{Error, Result};
 use std::alloc::Global;
 
-/// The code of a glyph without calls: over any subroutines, and over none, it draws the same.
+/// Returns the code of a glyph without calls. With any subroutines, and with none, it draws the same.
 pub fn flat(alloc: Global, code: &[u8], global: &[Vec<u8>], local: &[Vec<u8>]) -> Result<Vec<u8>>
     ensures same { IfOk result (λ flat. (other : Lists) →
         drawn_by other flat.items ≡ drawn_by (subroutines global.now local.now) code.now) }
@@ -23,7 +23,7 @@ pub fn flat(alloc: Global, code: &[u8], global: &[Vec<u8>], local: &[Vec<u8>]) -
     Program::flatten(alloc, code, global, local)
 }
 
-/// The codes of glyphs without calls: a font's lists of subroutines can then be dropped.
+/// Returns the codes of several glyphs without calls. The subroutines of the font can then be dropped.
 pub fn each_flat(
     alloc: Global,
     codes: &[Vec<u8>],
@@ -43,8 +43,8 @@ pub fn each_flat(
     Ok(flat_codes)
 }
 
-/// The glyphs of one of a font's dictionaries, counted from 0, as codes without calls; none where there is no such
-/// dictionary.
+/// Returns the glyphs of one of a font's dictionaries, counted from 0, as codes without calls. The list is empty if
+/// there is no such dictionary.
 pub fn flat_glyphs_of(alloc: Global, font: &FontSet, dictionary: usize) -> Result<Vec<Vec<u8>>>
     ensures same { (codes local : Index) → HasGlyphs (font_shown font.now) dictionary codes local →
         IfOk result (λ flat. map (λ code. drawn_by (subroutines [] []) code.items) flat.items

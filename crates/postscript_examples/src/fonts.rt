@@ -1,4 +1,4 @@
-//! Fonts from their bytes.
+//! Parsing fonts.
 ghost use Rattle.std.specs.Prelude.{◌≡◌, ◌≢◌, ◌⊎◌, ℕ, [], None, IfOk, IfErr, IsOkAnd, OnOk, map, slice_get, string_bytes};
 ghost use Rattle.postscript_base.specs.RefusalOf.{refusal_of};
 ghost use Rattle.postscript_compact1.specs.Index.{Index};
@@ -13,7 +13,7 @@ use postscript::{Error, Result, Value};
 use std::alloc::Global;
 use std::io::Cursor;
 
-/// The font at the start of bytes. It is answered exactly where one stands, running out of memory aside.
+/// Parses the font at the start of the bytes. It succeeds exactly if there is one, apart from running out of memory.
 pub fn font_of(alloc: Global, bytes: &[u8]) -> Result<FontSet>
     ensures found { IfOk result (λ font. (next : ℕ) × IsFont bytes.now 0 (font_shown font) next) }
     ensures only { IfErr result (λ e. e ≢ Error.Memory → (font : Font) (next : ℕ) → IsFont bytes.now 0 font next → ⊥) }
@@ -22,7 +22,8 @@ pub fn font_of(alloc: Global, bytes: &[u8]) -> Result<FontSet>
     FontSet::read(alloc, &mut tape)
 }
 
-/// The names of the fonts that bytes hold. They are answered exactly where a font stands, running out of memory aside.
+/// Returns the names of the fonts in the bytes. It succeeds exactly if there is a font, apart from running out of
+/// memory.
 pub fn names_of(alloc: Global, bytes: &[u8]) -> Result<Vec<String>>
     ensures names { IfOk result (λ names. (font : Font) × (next : ℕ) × IsFont bytes.now 0 font next
         × (font.names ≡ map string_bytes names.items)) }
@@ -32,8 +33,8 @@ pub fn names_of(alloc: Global, bytes: &[u8]) -> Result<Vec<String>>
     Ok(font.names)
 }
 
-/// The operations and the width of each glyph of one of a font's dictionaries, counted from 0; none where there is no such
-/// dictionary.
+/// Returns the operations of each glyph in one of a font's dictionaries, and the width minus nominalWidthX.
+/// Dictionaries are counted from 0. The list is empty if there is no such dictionary.
 pub fn glyphs_of(alloc: Global, font: &FontSet, dictionary: usize) -> Result<Vec<Glyph>>
     ensures drawn { (codes local : Index) → HasGlyphs (font_shown font.now) dictionary codes local →
         IfOk result (λ glyphs. map drawn glyphs.items ≡ map (drawn_by (lists (font_shown font.now).global_subroutines local)) codes.items) }

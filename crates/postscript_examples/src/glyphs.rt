@@ -1,4 +1,4 @@
-//! Glyphs from their charstrings.
+//! Interpreting charstrings.
 ghost use Rattle.std.specs.Prelude.{◌≡◌, ◌⊎◌, None, Some, map, IfOk, IfErr, OnOk};
 ghost use Rattle.postscript_base.specs.RefusalOf.{refusal_of};
 ghost use Rattle.postscript_type2.specs.Program.Evaluation.{run_of};
@@ -10,10 +10,10 @@ use postscript::type2::{self, Operand, Operations, Operator, Program};
 use postscript::{Error, Result};
 use std::alloc::Global;
 
-/// The operations of a glyph, and its width.
+/// The operations of a glyph, and the width minus nominalWidthX, if the charstring gives one.
 pub type Glyph = (Operations, Option<Operand>);
 
-/// The operations of a glyph, and its width.
+/// Returns the operations of a glyph, and the width minus nominalWidthX, if the charstring gives one.
 pub fn glyph(alloc: Global, code: &[u8], global: &[Vec<u8>], local: &[Vec<u8>]) -> Result<Glyph>
     ensures drawn { IfOk result (λ glyph. drawn glyph ≡ drawn_by (subroutines global.now local.now) code.now) }
     ensures faultless { OnOk result (refused_by (subroutines global.now local.now) code.now ≡ None) }
@@ -27,7 +27,7 @@ pub fn glyph(alloc: Global, code: &[u8], global: &[Vec<u8>], local: &[Vec<u8>]) 
     }
 }
 
-/// The operations and the width of each of these glyphs. The first whose run is refused refuses them all.
+/// Does the same as [`glyph`] for each code. The first run that fails gives the error of the call.
 pub fn each_glyph(
     alloc: Global,
     codes: &[Vec<u8>],
@@ -47,7 +47,7 @@ pub fn each_glyph(
     Ok(glyphs)
 }
 
-/// How many operands a glyph's operations have, and its width, one operation at a time.
+/// Counts the operands of a glyph's operations, one operation at a time. It also returns the width minus nominalWidthX.
 pub fn operand_count(
     alloc: Global,
     code: &[u8],
@@ -65,7 +65,7 @@ pub fn operand_count(
     Ok((count, program.width()))
 }
 
-/// Passes the next operation, and answers its operator and how many operands it has.
+/// Moves past the next operation, and returns its operator and its number of operands.
 pub fn pass(program: &mut Program<'_>) -> Result<Option<(Operator, usize)>>
     ensures { Passes program.old result program.new }
 {
@@ -75,7 +75,7 @@ pub fn pass(program: &mut Program<'_>) -> Result<Option<(Operator, usize)>>
     }
 }
 
-/// The operators of a glyph.
+/// Returns the operators of a glyph.
 pub fn operators(
     alloc: Global,
     code: &[u8],

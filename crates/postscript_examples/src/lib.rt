@@ -1,4 +1,4 @@
-//! Examples of use. Each is proved from the library's public contracts alone.
+//! Examples of use. Each is proved from only the public contracts of the library.
 #![tactic(auto)]
 
 pub mod advances;

@@ -1,4 +1,4 @@
-//! Readers of one's own as tapes: one that is read safely, and one that is read exactly.
+//! User-defined readers as tapes: one that is read safely, and one that is read exactly.
 ghost use Rattle.std.specs.Prelude.{◌≡◌, ◌≢◌, ℕ, IfOk, IfErr};
 ghost use Rattle.postscript_base.specs.Tape.Cursor.{cursor_state};
 ghost use Rattle.postscript_compact1.specs.FontSet.Font.{Font};
@@ -12,7 +12,7 @@ use std::alloc::Global;
 use std::io;
 use std::io::{Cursor, Read, Seek, SeekFrom};
 
-/// A reader that counts how often it is asked for bytes. Nothing is known of it as a tape: its two bodies are these lines.
+/// A reader that counts its reads. Contracts know nothing about it as a tape, so its two functions are one line each.
 #[derive(Debug, Drop)]
 pub struct Counted<R> {
     pub reader: R,
@@ -42,7 +42,7 @@ impl<R: Read + Seek> ReadSeek for Counted<R> {
     }
 }
 
-/// A file that is held in memory. As a tape it has the bytes and the place of its cursor, so that it is read exactly.
+/// A file in memory. As a tape it has the bytes and the offset of its cursor, so it is read exactly.
 #[derive(Drop)]
 pub struct Held(pub Cursor<Vec<u8>>);
 
@@ -73,7 +73,8 @@ impl ReadSeek for Held {
     }
 }
 
-/// The font at the start of a held file. It is answered exactly where one stands, running out of memory aside.
+/// Parses the font at the start of a file in memory. It succeeds exactly if there is one, apart from running out of
+/// memory.
 pub fn held_font(alloc: Global, bytes: Vec<u8>) -> Result<FontSet>
     ensures found { IfOk result (λ font. (next : ℕ) × IsFont bytes.items 0 (font_shown font) next) }
     ensures only { IfErr result (λ e. e ≢ Error.Memory → (font : Font) (next : ℕ) → IsFont bytes.items 0 font next → ⊥) }

@@ -1,5 +1,5 @@
-//! Readers of one's own, made of the library's loops: offsets that rise, runs up to a count, numbers to the end, a text
-//! for each of a list, and a number at a place.
+//! User-defined readings made from the library's loops: increasing offsets, ranges up to a count, numbers to the end,
+//! a text for each size in a list, and a number at an offset.
 ghost use Rattle.std.specs.Prelude.{◌≡◌, ◌≤◌, ℕ, List, [], ◌∷◌, map, refl, length, IfOk};
 ghost use Rattle.postscript_base.specs.Error.{IsListed};
 ghost use Rattle.postscript_base.specs.Numbers.{number};
@@ -52,7 +52,7 @@ impl Linked for Rising {
     }
 }
 
-/// So many offsets that rise from 0.
+/// Reads `count` offsets that increase from 0.
 pub fn offsets<T: Tape>(alloc: Global, tape: &mut T, count: usize) -> Result<Vec<Rising>>
     ensures exact { Reads (λ offsets. map (λ offset. offset.0) offsets.items) (T.state tape.old) result (T.state tape.new)
         (chain rising greatest 0 count) }
@@ -61,7 +61,7 @@ pub fn offsets<T: Tape>(alloc: Global, tape: &mut T, count: usize) -> Result<Vec
     read_chain(alloc, tape, 0, count)
 }
 
-/// A run, which covers one glyph more than it says.
+/// A range. It covers one glyph more than its byte says.
 #[derive(Clone, Copy, Debug)]
 pub struct Run(pub u8);
 
@@ -99,7 +99,7 @@ impl Until for Run {
     }
 }
 
-/// Runs until so many glyphs are covered.
+/// Reads ranges until they cover `glyphs` glyphs.
 pub fn runs<T: Tape>(alloc: Global, tape: &mut T, glyphs: u64) -> Result<Vec<Run>>
     ensures exact { Reads (λ runs. map (λ run. run.0) runs.items) (T.state tape.old) result (T.state tape.new)
         (until is_covered covers uncovered glyphs) }
@@ -109,7 +109,7 @@ pub fn runs<T: Tape>(alloc: Global, tape: &mut T, glyphs: u64) -> Result<Vec<Run
     read_until(alloc, tape, glyphs)
 }
 
-/// Numbers of two bytes up to the end of the tape. The list is seen as it is.
+/// Reads numbers of two bytes up to the end of the tape.
 pub fn words<T: Tape>(alloc: Global, tape: &mut T) -> Result<Vec<u16>>
     ensures exact { Reads (λ words. words.items) (T.state tape.old) result (T.state tape.new) (to_end (number 2)) }
     ensures listed { IsListed (1 ∷ 2 ∷ 3 ∷ 4 ∷ 1 ∷ 2 ∷ []) result }
@@ -118,7 +118,7 @@ pub fn words<T: Tape>(alloc: Global, tape: &mut T) -> Result<Vec<u16>>
     read_to_end(alloc, tape)
 }
 
-/// The size of a text, which is read for it.
+/// The size of a text.
 #[derive(Clone, Copy, Debug)]
 pub struct Size(pub u16);
 
@@ -151,7 +151,7 @@ impl Source for Size {
     }
 }
 
-/// A text for each size, one after the other.
+/// Reads a text for each size, one after the other.
 pub fn texts<T: Tape>(alloc: Global, tape: &mut T, sizes: &[Size]) -> Result<Vec<Vec<u8>>>
     ensures exact { Reads (λ texts. map (λ text. text.items) texts.items) (T.state tape.old) result (T.state tape.new)
         (each (text_of 255) (map (λ size. size.0) sizes.now)) }
@@ -160,7 +160,7 @@ pub fn texts<T: Tape>(alloc: Global, tape: &mut T, sizes: &[Size]) -> Result<Vec
     read_each(alloc, tape, sizes, 255)
 }
 
-/// The number of two bytes at a place.
+/// Reads the number of two bytes at the offset `place`.
 pub fn word_at<T: Tape>(alloc: Global, tape: &mut T, place: u64) -> Result<u16>
     ensures exact { Reads same (T.state tape.old) result (T.state tape.new) (at place (number 2)) }
     ensures listed { IsListed (1 ∷ 2 ∷ 1 ∷ 2 ∷ []) result }
@@ -169,9 +169,13 @@ pub fn word_at<T: Tape>(alloc: Global, tape: &mut T, place: u64) -> Result<u16>
     read_at(alloc, tape, place)
 }
 
-/// The size of a private dictionary, where there is one.
+/// Reads the size of a Private DICT.
 ///
-/// Refused: `MissingOperation` of `Private` for the size 0, `UnexpectedEof`, `Io`.
+/// # Errors
+///
+/// - `MissingOperation` with `Private`: the size is 0.
+/// - `UnexpectedEof`: fewer than two bytes are left.
+/// - `Io`: any other fault of the tape.
 pub fn private_size<T: Tape>(alloc: Global, tape: &mut T) -> Result<u16>
     ensures exact { Reads same (T.state tape.old) result (T.state tape.new) the_size }
     ensures listed { IsListed (1 ∷ 2 ∷ 14 ∷ []) result }

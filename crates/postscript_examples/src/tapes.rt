@@ -1,4 +1,4 @@
-//! Readings of a cursor: each gives exactly what the bytes say.
+//! Reading from a cursor. Each reading gives exactly the result that follows from the bytes.
 ghost use Rattle.std.specs.Prelude.{◌≡◌, ◌≤◌, ◌<◌, length, take, vec_len, IsOkAnd};
 ghost use Rattle.postscript_base.specs.Numbers.{big_endian};
 
@@ -6,7 +6,7 @@ use postscript::{Error, Result, Tape};
 use std::alloc::Global;
 use std::io::Cursor;
 
-/// The number of the first two bytes.
+/// Reads the number in the first two bytes.
 #[tactic(auto, unfolding(postscript_base::specs::Numbers::number, postscript_base::specs::Numbers::slice))]
 pub fn first_number(alloc: Global, bytes: &[u8]) -> Result<u16>
     ensures found { 2 ≤ length bytes.now → result ≡ Ok (big_endian (take 2 bytes.now)) }
@@ -16,7 +16,7 @@ pub fn first_number(alloc: Global, bytes: &[u8]) -> Result<u16>
     tape.take(alloc)
 }
 
-/// The first byte, looked at and then taken.
+/// Reads the first byte twice: peeks at it, and then takes it.
 #[tactic(auto, unfolding(postscript_base::specs::Numbers::number, postscript_base::specs::Numbers::slice))]
 pub fn first_byte_twice(alloc: Global, bytes: Vec<u8>) -> Result<(u8, u8)>
     ensures { 1 ≤ vec_len bytes → IsOkAnd result (λ both. both.0 ≡ both.1) }
