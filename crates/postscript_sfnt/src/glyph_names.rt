@@ -1,4 +1,4 @@
-//! Names of glyphs.
+//! The `post` table.
 ghost use Rattle.std.specs.Prelude.{◌≡◌, ℕ, List, ◌+◌, ◌*◌, ◌<◌, ◌≤◌, length, slice_get, IfOk, MatchOption};
 ghost use Rattle.postscript_base.specs.Index.{number_at as the_number};
 ghost use Rattle.postscript_sfnt.specs.GlyphNames.{AreStrings, HasGlyphName, HasNames, HasNumberedName, IsString, count_of, start_of};
@@ -9,7 +9,8 @@ use macintosh::macintosh_name;
 use postscript_base::index::number::number_at;
 use std::alloc::{AllocError, Global};
 
-/// The names of glyphs that a table `post` of version 2.0 tells, lent. What is held besides are the places of its strings.
+/// The glyph names in a `post` table of version 2.0. They are borrowed from it: only the list of its strings is
+/// allocated.
 #[derive(Drop)]
 pub struct GlyphNames<'l> {
     table: &'l [u8],
@@ -20,7 +21,7 @@ pub struct GlyphNames<'l> {
     ghost strung: { AreStrings table.now strings.items },
 }
 
-/// The string that begins at a place, behind the byte that tells how long it is. None where it is cut.
+/// The string at an offset, after its length byte. `None` if it is truncated.
 fn string_at(table: &[u8], place: usize) -> Option<&[u8]>
     requires { place ≤ length table.now }
     ensures is { MatchOption result (length table.now < place + 1 + the_number table.now place 1)
@@ -37,7 +38,7 @@ fn string_at(table: &[u8], place: usize) -> Option<&[u8]>
     Some(&table[place + 1..place + 1 + size])
 }
 
-/// The strings behind one another, from the place of the first one on, up to the first that is cut.
+/// All strings from the first one on, up to the first truncated one.
 fn strings_from<'l>(
     alloc: Global,
     table: &'l [u8],
@@ -56,7 +57,7 @@ fn strings_from<'l>(
     Ok(strings)
 }
 
-/// The string of a number.
+/// The string with an index.
 fn string_in<'l>(strings: &[&'l [u8]], number: usize) -> Option<&'l [u8]>
     ensures { result ≡ slice_get strings.now number }
 {
@@ -70,10 +71,15 @@ fn string_in<'l>(strings: &[&'l [u8]], number: usize) -> Option<&'l [u8]>
 impl<'l> GlyphNames<'l> {
     ghost use Rattle.postscript_sfnt.specs.Lent.{post_of};
 
-    /// The names of a table `post`. None where its version is another one than 2.0, or where the numbers of its glyphs lie past its end.
+    /// Reads the glyph names of a `post` table.
     ///
-    /// Refused: where memory is.
+    /// Returns `Ok(None)` if its version is not 2.0, or if the name indices of its glyphs extend past its end.
+    ///
+    /// # Errors
+    ///
+    /// - `AllocError`: out of memory.
     pub fn read(alloc: Global, post: &'l [u8]) -> Result<Option<GlyphNames<'l>>, AllocError>
+        // `Ok(None)` if the version is not 2.0 or the indices do not fit, otherwise these names.
         ensures { IfOk result (λ read. MatchOption read (HasNames post.now → ⊥) (λ names. HasNames post.now × (post_of names ≡ post.now))) }
     {
         if post.len() < 34 || number_at(post, 0, 4) != 0x0002_0000 {
@@ -91,7 +97,7 @@ impl<'l> GlyphNames<'l> {
         }))
     }
 
-    /// The name of a number. None where there is no such string, or where it is cut.
+    /// The name with an index. `None` if there is no such string, or if it is truncated.
     fn numbered(&self, number: usize) -> Option<&'l [u8]>
         ensures { MatchOption result
             ((name : List ℕ) → HasNumberedName (post_of self.now) number name → ⊥)
@@ -106,8 +112,9 @@ impl<'l> GlyphNames<'l> {
         }
     }
 
-    /// The name of a glyph. None where the table has no number for it, or where its string is cut.
+    /// Returns the name of a glyph. Returns `None` if the table has no index for it, or if its string is truncated.
     pub fn get(&self, glyph: usize) -> Option<&'l [u8]>
+        // The standard name or the string with the glyph's index, or `None` if it has neither.
         ensures { MatchOption result
             ((name : List ℕ) → HasGlyphName (post_of self.now) glyph name → ⊥)
             (λ name. HasGlyphName (post_of self.now) glyph name.now) }

@@ -1,4 +1,4 @@
-//! Names of a font.
+//! The `name` table.
 ghost use Rattle.std.specs.Prelude.{◌≡◌, ℕ, ◌+◌, ◌*◌, ◌<◌, ◌≤◌, length, MatchOption};
 ghost use Rattle.postscript_base.specs.Index.{number_at as the_number};
 
@@ -9,10 +9,10 @@ mod utf16;
 pub use chars::NameChars;
 use postscript_base::index::number::number_at;
 
-/// A text of the table `name`, lent.
+/// A text of the `name` table, borrowed from it.
 #[derive(Clone, Copy)]
 pub enum Name<'l> {
-    /// UTF-16, the high byte of each unit first.
+    /// Big-endian UTF-16.
     Utf16(&'l [u8]),
     /// Mac OS Roman.
     MacRoman(&'l [u8]),
@@ -21,15 +21,16 @@ pub enum Name<'l> {
 impl<'l> Name<'l> {
     ghost use Rattle.postscript_sfnt.specs.NameChars.{name_left};
 
-    /// The characters in order.
+    /// Iterates over the characters in order.
     pub fn chars(&self) -> NameChars<'l>
+        // The iterator begins with the whole text.
         ensures { name_left result ≡ self.now }
     {
         NameChars { name: *self }
     }
 }
 
-/// The records of the table `name`.
+/// The records of the `name` table.
 #[derive(Clone, Copy)]
 pub struct Names<'l> {
     table: &'l [u8],
@@ -43,8 +44,9 @@ impl<'l> Names<'l> {
     ghost use Rattle.postscript_sfnt.specs.NameTable.{HasRecords, HasNoName, IsName, IsEither, IsTextAt, names_of, table_of, field_at, name_rank, name_rank_at, text_start, text_end};
     ghost use Rattle.postscript_sfnt.specs.Choice.{IsBest};
 
-    /// The records of the table `name`. None where they lie past its end.
+    /// Reads the records of a `name` table. Returns `None` if they extend past its end.
     pub fn read(name: &'l [u8]) -> Option<Names<'l>>
+        // `None` exactly if the records extend past the end, otherwise the records of this table.
         ensures { MatchOption result (HasRecords name.now → ⊥) (λ names. HasRecords name.now × (table_of names ≡ name.now)) }
     {
         if name.len() < 6 {
@@ -57,8 +59,9 @@ impl<'l> Names<'l> {
         Some(Names { table: name, count })
     }
 
-    /// The family: the typographic one (16), or where there is none the family (1).
+    /// Returns the family name: the typographic family (name 16), or the family (name 1) if there is none.
     pub fn family(&self) -> Option<Name<'l>>
+        // Name 16, or name 1 if there is no name 16, or `None` if the table has neither.
         ensures { MatchOption result
             (HasNoName (table_of self.now) 16 × HasNoName (table_of self.now) 1)
             (λ name. IsEither (table_of self.now) 16 1 name) }
@@ -69,8 +72,9 @@ impl<'l> Names<'l> {
         }
     }
 
-    /// The style: the typographic one (17), or where there is none the style (2).
+    /// Returns the style name: the typographic subfamily (name 17), or the subfamily (name 2) if there is none.
     pub fn style(&self) -> Option<Name<'l>>
+        // Name 17, or name 2 if there is no name 17, or `None` if the table has neither.
         ensures { MatchOption result
             (HasNoName (table_of self.now) 17 × HasNoName (table_of self.now) 2)
             (λ name. IsEither (table_of self.now) 17 2 name) }
@@ -81,9 +85,12 @@ impl<'l> Names<'l> {
         }
     }
 
-    /// The text of an identifier: of Windows in the English of the United States, or else of Unicode, of Windows in any
-    /// language, of Macintosh in Roman; the first record of each. Records whose text is cut are passed over.
+    /// Returns the text with a name identifier.
+    ///
+    /// The first choice is Windows in US English, then Unicode, Windows in any other language, and Macintosh Roman. The
+    /// first record of each kind counts. Records with a truncated text are skipped.
     pub fn get(&self, identifier: u16) -> Option<Name<'l>>
+        // The text in the first record of the highest rank, or `None` if no record has a rank.
         ensures { MatchOption result
             (HasNoName (table_of self.now) identifier)
             (λ name. IsName (table_of self.now) identifier name) }
@@ -102,7 +109,7 @@ impl<'l> Names<'l> {
         number_at(self.table, 6 + i * 12 + field * 2, 2)
     }
 
-    /// Where the text of a record begins and ends.
+    /// The offset of the text of a record, and the offset after it.
     fn span(&self, i: usize) -> (usize, usize)
         requires listed { i < self.now.count }
         ensures start { result.0 ≡ text_start self.now.table.now i }
@@ -156,7 +163,7 @@ impl<'l> Names<'l> {
         }
     }
 
-    /// The rank of a platform, an encoding and a language, 0 for those that are not taken.
+    /// The rank of a platform, an encoding and a language, 0 for unsupported ones.
     fn rank_of(platform: usize, encoding: usize, language: usize) -> usize
         ensures { result ≡ name_rank platform encoding language }
     {

@@ -1,14 +1,14 @@
-//! Which segment is the first that holds a character, for all characters at once.
+//! Finds, for all characters at once, the first segment that contains each.
 ghost use Rattle.std.specs.Prelude.{◌≡◌, ℕ, ◌+◌, ◌<◌, ◌≤◌, length, slice_index, IfOk};
 ghost use Rattle.postscript_sfnt.specs.Owners.{AreLinks, AreOwners, IsChain, IsFree};
 
 use super::END;
 use std::alloc::{AllocError, Global};
 
-/// What stands for no segment.
+/// Marks a character without a segment.
 const NONE: u32 = 4294967295;
 
-/// A link of each number up to `END` to itself.
+/// A list that links each number up to `END` to itself.
 #[tactic(auto, using(crate::proofs::Owning::identity_chain, crate::proofs::Owning::identity_links))]
 fn links(alloc: Global) -> Result<Vec<u32>, AllocError>
     ensures chain { IfOk result (λ links. IsChain links.items) }
@@ -21,7 +21,7 @@ fn links(alloc: Global) -> Result<Vec<u32>, AllocError>
     Ok(links)
 }
 
-/// No segment for each character.
+/// A list without a segment for any character.
 #[tactic(auto, using(crate::proofs::Owning::no_owners))]
 fn none(alloc: Global) -> Result<Vec<u32>, AllocError>
     ensures { IfOk result (λ owners. (first last : ℕ → ℕ) → AreOwners first last 0 owners.items) }
@@ -33,7 +33,7 @@ fn none(alloc: Global) -> Result<Vec<u32>, AllocError>
     Ok(owners)
 }
 
-/// The first character from one on that is not held, or `END`. Links on the way are made to lead further.
+/// The first free character from one on, or `END`. Links on the way are shortened.
 fn free_from(links: &mut [u32], from: usize) -> usize
     requires within { from ≤ 0x110000 }
     requires chain { IsChain links.old }
@@ -51,7 +51,7 @@ fn free_from(links: &mut [u32], from: usize) -> usize
     char
 }
 
-/// Gives a segment the characters that it holds and none before it does.
+/// Assigns to a segment its characters that no earlier segment contains.
 #[tactic(auto, using(crate::proofs::Owning::painted_owners))]
 fn paint(owners: &mut [u32], links: &mut [u32], firsts: &[u32], lasts: &[u32], i: usize)
     requires listed { i < length firsts.now }
@@ -75,8 +75,10 @@ fn paint(owners: &mut [u32], links: &mut [u32], firsts: &[u32], lasts: &[u32], i
     }
 }
 
-/// For each character of Unicode the first of some segments that holds it, or the greatest number of 32 bits, by the first and the
-/// last character of each segment. It takes about as many steps as there are segments and characters, whatever their order.
+/// Returns, for each character of Unicode, the first segment that contains it, or `NONE`.
+///
+/// Segments are given by their first and last characters. The number of steps is about the number of segments and
+/// characters, whatever the order of the segments.
 pub(crate) fn owners(alloc: Global, firsts: &[u32], lasts: &[u32]) -> Result<Vec<u32>, AllocError>
     requires paired { length lasts.now ≡ length firsts.now }
     requires counted { length firsts.now < 4294967296 }

@@ -37,14 +37,14 @@ const NAMES: [&str; 258] = [
     "cacute", "Ccaron", "ccaron", "dcroat",
 ];
 
-/// The name of a glyph of the standard Macintosh set, which has 258.
+/// The name of a glyph in the standard Macintosh set, which has 258 names.
 pub(crate) fn macintosh_name(index: usize) -> Option<&'static str>
     ensures { option_copied result ≡ the_name index }
 {
     name_in(&NAMES, index)
 }
 
-/// The name at a place of a table, if there is one.
+/// The name with an index in a list, if there is one.
 fn name_in(table: &[&'static str], place: usize) -> Option<&'static str>
     ensures { option_copied result ≡ slice_get (map (λ text. text.now) table.now) place }
 {

@@ -4,7 +4,7 @@ use crate::names::Name;
 use crate::names::roman::roman;
 use crate::names::utf16::first_char;
 
-/// The characters that are left of a name. From [`Name::chars`].
+/// An iterator over the characters of a name. It is made by [`Name::chars`].
 #[derive(Drop)]
 pub struct NameChars<'l> {
     pub(crate) name: Name<'l>,
@@ -20,7 +20,7 @@ impl<'l> Iterator for NameChars<'l> {
 
     ghost remaining = { λ left. at_most (bytes_left left) };
 
-    /// The next character. None once all were given; a single byte at the end of UTF-16 is none.
+    /// Returns the next character, or `None` at the end. In UTF-16 a single byte at the end is ignored.
     fn next(&mut self) -> Option<char> {
         match self.name {
             Name::Utf16(bytes) => {

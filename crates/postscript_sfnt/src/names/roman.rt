@@ -14,7 +14,7 @@ const UPPER: [char; 128] = [
     '\u{F8FF}', 'Ò', 'Ú', 'Û', 'Ù', 'ı', 'ˆ', '˜', '¯', '˘', '˙', '˚', '¸', '˝', '˛', 'ˇ',
 ];
 
-/// The character of a byte: those below 128 are as in ASCII.
+/// Decodes a byte. Bytes below 128 are as in ASCII.
 pub(crate) fn roman(byte: u8) -> char
     ensures { byte < 128 → result ≡ byte }
 {

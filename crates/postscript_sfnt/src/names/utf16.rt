@@ -1,10 +1,10 @@
-//! UTF-16, the high byte of each unit first.
+//! Big-endian UTF-16.
 ghost use Rattle.std.specs.Prelude.{◌≡◌, ◌+◌, ◌-◌, ◌*◌, ◌<◌, ◌≤◌, length};
 ghost use Rattle.postscript_sfnt.specs.Texts.{BeginsUtf16, pair};
 
 use postscript_base::index::number::number_at;
 
-/// The first character, and how many bytes it takes: a surrogate without its partner is U+FFFD.
+/// Decodes the first character and returns it with its size in bytes. A surrogate without its partner is U+FFFD.
 pub(crate) fn first_char(bytes: &[u8]) -> (char, usize)
     requires { 2 ≤ length bytes.now }
     ensures begins { BeginsUtf16 bytes.now result.0 result.1 }
@@ -19,7 +19,7 @@ pub(crate) fn first_char(bytes: &[u8]) -> (char, usize)
     (alone(unit), 2)
 }
 
-/// The character of two surrogates.
+/// Combines two surrogates.
 fn paired(high: usize, low: usize) -> char
     requires high { (0xd800 ≤ high) × (high < 0xdc00) }
     requires low { (0xdc00 ≤ low) × (low < 0xe000) }
@@ -32,7 +32,7 @@ fn paired(high: usize, low: usize) -> char
     }
 }
 
-/// The character of a unit, U+FFFD for a surrogate.
+/// The character of a single unit, U+FFFD for a surrogate.
 fn alone(unit: usize) -> char
     requires { unit < 0x10000 }
     ensures plain { (unit < 0xd800) → result ≡ unit }
