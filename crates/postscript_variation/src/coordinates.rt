@@ -7,16 +7,16 @@ use crate::axes::{Axes, Axis};
 use crate::maps::Maps;
 use crate::normalize::shortened;
 
-/// A user coordinate that is asked for along the axes of a tag.
+/// A user coordinate for the axes with a tag, as wght=700.
 #[derive(Clone, Copy, Debug, Drop, PartialEq, Eq)]
 pub struct Setting {
-    /// Four characters, the first one highest.
+    /// The big-endian number of the four characters of the tag.
     pub tag: u32,
-    /// In units of 2 ^ -16.
+    /// The user coordinate, in units of 2 ^ -16.
     pub value: i32,
 }
 
-/// The value of a setting, where it is of the tag; else another value.
+/// The value of a setting if it has the tag, otherwise `value`.
 fn chosen(settings: &[Setting], k: usize, tag: u32, value: i32) -> i32
     ensures { result ≡ the_chosen (slice_get settings.now k) tag value }
 {
@@ -32,7 +32,7 @@ fn chosen(settings: &[Setting], k: usize, tag: u32, value: i32) -> i32
     }
 }
 
-/// What is asked for along an axis: the value of the last setting of its tag, or its default.
+/// The requested value along an axis: the last setting with its tag, or its default.
 #[tactic(auto, using(crate::proofs::Asking::by_one_more))]
 fn value_of(settings: &[Setting], axis: &Axis) -> i32
     ensures { result ≡ asked settings.now axis.now.tag axis.now.default }
@@ -44,7 +44,7 @@ fn value_of(settings: &[Setting], axis: &Axis) -> i32
     value
 }
 
-/// What a normalized coordinate along an axis becomes by `avar`, where there is one.
+/// Applies `avar`, if there is one, to a normalized coordinate.
 fn mapped(maps: Option<Maps<'_>>, axis: usize, at: i32) -> i32
     ensures exact { result ≡ mapped_with maps.entry axis at }
     ensures least { negsuc 131071 ≤ℤ at → negsuc 131071 ≤ℤ result }
@@ -66,10 +66,13 @@ fn coordinate_of(found: &Axis, axis: usize, maps: Option<Maps<'_>>, settings: &[
 impl<'l> Axes<'l> {
     ghost use Rattle.postscript_variation.specs.Coordinates.{AreCoordinates, coordinate_along};
 
-    /// The normalized coordinate along an axis, in units of 2 ^ -14, behind `avar` where there is one: of the value of the last setting
-    /// of its tag, or of its default. 0 where there is no such axis.
+    /// Returns the normalized coordinate along an axis, in units of 2 ^ -14, after `avar` if there is one.
+    ///
+    /// The user coordinate is the last setting with the tag of the axis, or its default. Returns 0 if there is no such
+    /// axis.
     #[tactic(auto, using(crate::proofs::Asking::along))]
     pub fn normalized(&self, axis: usize, maps: Option<Maps<'_>>, settings: &[Setting]) -> i16
+        // The result is exactly what `coordinate_along` computes (specs/Coordinates.antt).
         ensures { result ≡ coordinate_along self.now maps.entry settings.now axis }
     {
         match self.get(axis) {
@@ -78,10 +81,13 @@ impl<'l> Axes<'l> {
         }
     }
 
-    /// The normalized coordinates along the axes, in their order, one in each place of a list; 0 in those past the axes.
+    /// Fills a list with the normalized coordinates along the axes, in their order. Entries after the last axis are set
+    /// to 0.
     #[tactic(auto, using(crate::proofs::Asking::one_more))]
     pub fn normalize(&self, maps: Option<Maps<'_>>, settings: &[Setting], coordinates: &mut [i16])
+        // The length of the list is unchanged.
         ensures len { length coordinates.new ≡ length coordinates.old }
+        // Each entry is what `coordinate_along` computes for the axis with its index.
         ensures exact { AreCoordinates self.now maps.entry settings.now coordinates.new (length coordinates.new) }
     {
         for axis in 0..coordinates.len() {

@@ -9,7 +9,7 @@ use crate::error::{Error, Result};
 use crate::store::Store;
 use postscript_base::index::number::number_at;
 
-/// The variations of a font's metrics.
+/// The variations of the metrics of a font: an `MVAR` table.
 #[derive(Clone, Copy)]
 pub struct MetricVariations<'l> {
     bytes: &'l [u8],
@@ -22,7 +22,7 @@ pub struct MetricVariations<'l> {
     ghost room: { 12 + count * size ≤ length bytes.now },
 }
 
-/// The store at the place that the table tells; none where that is 0.
+/// The store at an offset, or none if the offset is 0.
 fn named_store(mvar: &[u8], place: usize) -> Result<Option<Store<'_>>>
     ensures exact { MatchResult result
         (λ store. IsNamedStore mvar.now place store)
@@ -40,16 +40,23 @@ fn named_store(mvar: &[u8], place: usize) -> Result<Option<Store<'_>>>
 impl<'l> MetricVariations<'l> {
     ghost use Rattle.postscript_variation.specs.LentMetrics.{AreMetricsOf, HasNoMetric, MetricVariesBy};
 
-    /// The variations that the table `MVAR` tells. Answered exactly where its records and its store stand.
+    /// Reads the metric variations of an `MVAR` table. It succeeds exactly if the records and the store are well
+    /// formed.
     ///
-    /// Refused: `Cut` where they are cut; `UnknownFormat` for a major version other than 1, for records of fewer than 8 bytes, and for
-    /// a store of a format other than 1.
+    /// # Errors
+    ///
+    /// - `Cut`: the table, its records or its store is truncated.
+    /// - `UnknownFormat`: the major version is not 1, records have fewer than 8 bytes, or the format of the store is
+    ///   not 1.
     pub fn read(mvar: &'l [u8]) -> Result<MetricVariations<'l>>
+        // Succeeds exactly if the records and the store are well formed, and gives these.
         ensures exact { MatchResult result
             (λ metrics. AreMetricsOf mvar.now metrics)
             (λ e. (size count list axes regions tables : ℕ) → AreRecords mvar.now size count
             → NamesStore mvar.now (the_number mvar.now 10 2) list axes regions tables → ⊥) }
+        // An error is justified: `Cut` by truncated bytes, `UnknownFormat` by version, size or store.
         ensures why { IfErr result (λ e. NoMetrics e mvar.now) }
+        // Conversely, if one of these causes is present, exactly that error is returned.
         ensures each { (e : Error) → NoMetrics e mvar.now → result ≡ Err e }
     {
         if mvar.len() < 12 {
@@ -85,11 +92,15 @@ impl<'l> MetricVariations<'l> {
         None
     }
 
-    /// What the metric of a tag varies by at normalized coordinates in units of 2 ^ -14, one for each axis, in units of 2 ^ -16. The tag is
-    /// the number of its four characters, the first one highest; of records of one tag the first counts. None where the table tells nothing
-    /// of it.
+    /// Returns the variation of a metric, in units of 2 ^ -16.
+    ///
+    /// `tag` is the big-endian number of its four characters. If several records have the tag, the first one counts.
+    /// `coordinates` are normalized coordinates in units of 2 ^ -14, one for each axis.
+    ///
+    /// Returns `None` if the table has no record, no store or no delta set for the metric.
     #[tactic(auto, using(crate::proofs::Tags::varied, crate::proofs::Tags::unnamed, crate::proofs::Tags::storeless))]
     pub fn variation(&self, tag: u32, coordinates: &[i16]) -> Option<i64>
+        // The exact sum of the metric's delta set, or `None` exactly if the table has none for it.
         ensures { MatchOption result (HasNoMetric self.now tag) (λ total. MetricVariesBy self.now tag coordinates.now total) }
     {
         let i = self.record_of(tag as usize)?;
