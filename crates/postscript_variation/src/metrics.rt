@@ -54,7 +54,7 @@ impl<'l> MetricVariations<'l> {
             (λ metrics. AreMetricsOf mvar.now metrics)
             (λ e. (size count list axes regions tables : ℕ) → AreRecords mvar.now size count
             → NamesStore mvar.now (the_number mvar.now 10 2) list axes regions tables → ⊥) }
-        // An error is justified: `Cut` by truncated bytes, `UnknownFormat` by version, size or store.
+        // An error is justified: `Cut` by truncation, `UnknownFormat` by version, size or store.
         ensures why { IfErr result (λ e. NoMetrics e mvar.now) }
         // Conversely, if one of these causes is present, exactly that error is returned.
         ensures each { (e : Error) → NoMetrics e mvar.now → result ≡ Err e }
