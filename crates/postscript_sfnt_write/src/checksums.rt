@@ -2,9 +2,11 @@
 ghost use Rattle.std.specs.Prelude.{◌≡◌, ◌<◌, ◌%◌, ◌^◌, length, sum};
 ghost use Rattle.postscript_sfnt_write.specs.Checksum.{checksum as the_checksum, words};
 
-/// The checksum of a table: the sum of its numbers of four bytes, modulo 2^32. The last one is filled with zeros. Never refused.
+/// Returns the checksum of a table: the sum of its big-endian numbers of four bytes, modulo 2^32. Zeros fill up the
+/// last number.
 #[tactic(auto, unfolding(crate::specs::Checksum::words))]
 pub fn checksum(table: &[u8]) -> u32
+    // The result is exactly what `checksum` computes from the bytes (specs/Checksum.antt).
     ensures { result ≡ the_checksum table.now }
 {
     let mut sum = 0u32;
@@ -16,7 +18,7 @@ pub fn checksum(table: &[u8]) -> u32
     sum.wrapping_add(last_word(rest))
 }
 
-/// The number of less than four bytes, filled with zeros; 0 where there are none.
+/// The number of fewer than four bytes, filled up with zeros.
 #[tactic(auto, unfolding(crate::specs::Checksum::words))]
 fn last_word(bytes: &[u8]) -> u32
     requires { length bytes.now < 4 }

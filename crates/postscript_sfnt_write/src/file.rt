@@ -1,4 +1,4 @@
-//! OpenType files, written (ISO/IEC 14496-22, 4.5).
+//! Writes OpenType files (ISO/IEC 14496-22, 4.5).
 ghost use Rattle.std.specs.Prelude.{◌≡◌, ℕ, ◌+◌, ◌*◌, ◌%◌, ◌^◌, ◌<◌, ◌++◌, length, true, IsTrue, ◌↔◌, OnOk, IfOk, IfErr};
 ghost use Rattle.postscript_sfnt_write.specs.Checksum.{checksum as the_checksum};
 ghost use Rattle.postscript_sfnt_write.specs.Files.{AreLent, AreListed, ArePacked, CanStand, IsAdjusted, IsSearched, Opens, Refuses};
@@ -10,33 +10,33 @@ use crate::error::{Error, Result};
 use crate::numbers::{put_uint16, put_uint32};
 use std::alloc::{AllocError, Global};
 
-/// The version of a file with a table `CFF `.
+/// The version of a file with a `CFF ` table.
 const OTTO: u32 = 0x4f54544f;
 
-/// What the numbers of a whole file add up to.
+/// The checksum of a whole file.
 const WHOLE: u32 = 0xb1b0afba;
 
-/// The tag of the table `head`.
+/// The tag of the `head` table.
 const HEAD: u32 = 0x68656164;
 
-/// The most bytes that a file may have.
+/// The maximum size of a file in bytes.
 const MOST: usize = 0xffff_ffff;
 
-/// A table of a file. Its tag is the number of its four bytes, the high byte first.
+/// A table of a file. Its tag is the big-endian number of its four characters.
 #[derive(Clone, Copy)]
 pub struct Table<'t> {
     pub tag: u32,
     pub bytes: &'t [u8],
 }
 
-/// Whether the table has a number for the whole file.
+/// Whether the table contains the checksum adjustment of the file.
 fn adjusts(table: &Table<'_>) -> bool
     ensures { result ≡ the_adjusts table.now }
 {
     table.tag == HEAD && table.bytes.len() > 11
 }
 
-/// How many bytes a table takes.
+/// The size of a table with its padding.
 fn room_of(size: usize) -> usize
     requires { size < 2 ^ 32 }
     ensures { result ≡ the_room_of size }
@@ -44,7 +44,7 @@ fn room_of(size: usize) -> usize
     (size + 3) / 4 * 4
 }
 
-/// Whether tags rise strictly.
+/// Whether tags are in strictly ascending order.
 fn rise(tables: &[Table<'_>]) -> bool
     ensures { IsTrue result ↔ TagsRise tables.now }
 {
@@ -56,7 +56,7 @@ fn rise(tables: &[Table<'_>]) -> bool
     true
 }
 
-/// Whether a file of the tables has less than 2^32 bytes.
+/// Whether a file with these tables has fewer than 2^32 bytes.
 fn fits(tables: &[Table<'_>]) -> bool
     requires { length tables.now < 4096 }
     ensures { IsTrue result ↔ (size_of tables.now < 2 ^ 32) }
@@ -74,7 +74,7 @@ fn fits(tables: &[Table<'_>]) -> bool
     true
 }
 
-/// Zeros up to a multiple of four, behind so many bytes.
+/// The padding after a table of a given size.
 fn zeros(size: usize) -> &'static [u8]
     ensures { result.now ≡ the_zeros size }
 {
@@ -86,7 +86,7 @@ fn zeros(size: usize) -> &'static [u8]
     }
 }
 
-/// The checksum of a table, where the number for the whole file is 0.
+/// The checksum of a table, with 0 as the checksum adjustment.
 fn recorded(table: &Table<'_>) -> u32
     ensures { result ≡ the_checksum (in_file 0 table.now) }
 {
@@ -97,7 +97,7 @@ fn recorded(table: &Table<'_>) -> u32
     }
 }
 
-/// Appends the header of a file of so many tables.
+/// Appends the header of a file with a given number of tables.
 #[tactic(auto, unfolding(crate::specs::Layout::header_text))]
 fn put_header(out: &mut Vec<u8>, count: u16, selector: u32) -> std::result::Result<(), AllocError>
     requires counted { count < 4096 }
@@ -113,7 +113,7 @@ fn put_header(out: &mut Vec<u8>, count: u16, selector: u32) -> std::result::Resu
     put_uint16(out, (count * 16).saturating_sub(range))
 }
 
-/// Appends the record of a table that stands at a place, and answers its checksum.
+/// Appends the record of a table at an offset, and returns its checksum.
 #[tactic(auto, unfolding(crate::specs::Layout::record_text))]
 fn put_record(
     out: &mut Vec<u8>,
@@ -133,7 +133,7 @@ fn put_record(
     Ok(sum)
 }
 
-/// Appends the records of tables that stand one behind the other, behind these, and answers the sum of their checksums.
+/// Appends the records of tables that follow the records, and returns the sum of their checksums.
 fn put_records(out: &mut Vec<u8>, tables: &[Table<'_>]) -> std::result::Result<u32, AllocError>
     requires counted { length tables.now < 4096 }
     requires fits { size_of tables.now < 2 ^ 32 }
@@ -150,7 +150,7 @@ fn put_records(out: &mut Vec<u8>, tables: &[Table<'_>]) -> std::result::Result<u
     Ok(sum)
 }
 
-/// Appends a table, with this number for the whole file, and zeros up to a multiple of four bytes.
+/// Appends a table with this checksum adjustment, and its padding.
 #[tactic(auto, unfolding(crate::specs::Layout::table_text))]
 fn put_table(
     out: &mut Vec<u8>,
@@ -183,7 +183,7 @@ fn put_tables(
     Ok(())
 }
 
-/// The logarithm of the greatest power of two that is no greater than a number; 0 for none.
+/// The logarithm of the greatest power of two up to a number, or 0 for 0.
 fn selector_of(count: u16) -> u32
     requires { count < 4096 }
     ensures { IsSelector count result }
@@ -194,7 +194,7 @@ fn selector_of(count: u16) -> u32
     }
 }
 
-/// A file of tables.
+/// Writes a file of tables.
 fn written(alloc: Global, tables: &[Table<'_>]) -> std::result::Result<Vec<u8>, AllocError>
     requires counted { length tables.now < 4096 }
     requires fits { size_of tables.now < 2 ^ 32 }
@@ -211,19 +211,35 @@ fn written(alloc: Global, tables: &[Table<'_>]) -> std::result::Result<Vec<u8>, 
     Ok(file)
 }
 
-/// A file of tables, whose tags rise strictly: the directory, and the tables behind it, each from a multiple of four bytes on. In
-/// the table `head` the number `checkSumAdjustment`, its bytes 8 to 11, is that of the file. The version is `OTTO`.
+/// Writes a font file with these tables, whose tags must be in strictly ascending order.
 ///
-/// Refused: `TagsDoNotRise`; `TooManyTables` for 4,096 tables or more; `TooLarge` for a file of 2^32 bytes or more; `Memory`.
+/// The directory is first, then the tables follow, each at a multiple of four bytes. In the `head` table the bytes 8 to 11
+/// are replaced by the `checkSumAdjustment` of the file. The version is `OTTO`.
+///
+/// # Errors
+///
+/// - `TagsDoNotRise`: the tags are not in strictly ascending order.
+/// - `TooManyTables`: there are 4,096 tables or more.
+/// - `TooLarge`: the file would have 2^32 bytes or more.
+/// - `Memory`: out of memory.
 pub fn file_of(alloc: Global, tables: &[Table<'_>]) -> Result<Vec<u8>>
+    // The file has one face of version `OTTO`, and its directory counts exactly the given tables.
     ensures opens { IfOk result (λ file. Opens file.items (length tables.now)) }
+    // Record `i` of the directory has the tag, the checksum and the length of table `i`.
     ensures listed { IfOk result (λ file. AreListed file.items tables.now) }
+    // The face that is read from the file has exactly these tables in order, byte for byte.
     ensures lent { IfOk result (λ file. AreLent file.items tables.now) }
+    // Tables are at multiples of four, in order, without gaps apart from zeros as padding.
     ensures packed { IfOk result (λ file. ArePacked file.items (length tables.now)) }
+    // The header has the right `searchRange`, `entrySelector` and `rangeShift` if tables exist.
     ensures searched { 0 < length tables.now → IfOk result (λ file. IsSearched file.items (length tables.now)) }
+    // With a `head` table of 12 bytes or more, the checksum of the whole file is 0xB1B0AFBA.
     ensures adjusted { IfOk result (λ file. IsAdjusted file.items tables.now) }
+    // The size is the sum of the header, the records and the padded tables.
     ensures size { IfOk result (λ file. length file.items ≡ size_of tables.now) }
+    // A success means ascending tags, fewer than 4,096 tables and fewer than 2^32 bytes.
     ensures stand { OnOk result (CanStand tables.now) }
+    // An error is justified by the tags, the number of tables or the size, or it is `Memory`.
     ensures refused { IfErr result (λ e. Refuses e tables.now) }
 {
     if !rise(tables) {

@@ -1,4 +1,4 @@
-//! OpenType files, written (ISO/IEC 14496-22).
+//! Writes OpenType files and tables (ISO/IEC 14496-22).
 #![tactic(auto)]
 
 mod checksums;

@@ -1,4 +1,4 @@
-//! Character maps, written (ISO/IEC 14496-22, 5.2.1).
+//! Writes character maps (ISO/IEC 14496-22, 5.2.1).
 ghost use Rattle.std.specs.Prelude.{◌≡◌, ℕ, ◌+◌, ◌*◌, ◌^◌, ◌<◌, ◌≤◌, [], ◌∷◌, ◌++◌, List, length, IsTrue, ◌↔◌, OnOk, IfOk, IfErr};
 ghost use Rattle.postscript_sfnt_write.specs.Mappings.{AreTold, CharsRise, IsReadable, RefusesMap};
 ghost use Rattle.postscript_sfnt_write.specs.Grouping.{MappingsFit, AreBelow, MappingFits, GroupFits, GroupsFit, IsLarge, IsSmall, encoding_text, end, format12_text, goes_on as the_goes_on, group_of as the_group_of, group_text, grouped, groups as the_groups, groups_text, head4_text, large_text, row_number, row_text, rows_text};
@@ -8,10 +8,10 @@ use crate::error::{Error, Result};
 use crate::numbers::{put_uint16, put_uint32};
 use std::alloc::{AllocError, Global};
 
-/// The most mappings that a table has room for.
+/// The maximum number of mappings in a table.
 const MOST: usize = 357_913_939;
 
-/// The most segments that a map of format 4 is written with.
+/// The maximum number of segments that a subtable of format 4 is written with.
 const SEGMENTS: usize = 8001;
 
 /// A character and its glyph.
@@ -21,7 +21,7 @@ pub struct Mapping {
     pub glyph: u16,
 }
 
-/// Sequential characters that have sequential glyphs (SequentialMapGroup).
+/// Consecutive characters with consecutive glyphs (SequentialMapGroup).
 #[derive(Clone, Copy, Debug, Drop, PartialEq, Eq)]
 struct Group {
     start: u32,
@@ -29,13 +29,13 @@ struct Group {
     glyph: u16,
 }
 
-/// The character that ends all segments, with no glyph.
+/// The character of the last segment, without a glyph.
 const END: Mapping = Mapping {
     char: 0xffff,
     glyph: 0,
 };
 
-/// The rows of numbers of format 4.
+/// The arrays of format 4.
 #[derive(Clone, Copy, Debug, Drop, PartialEq, Eq)]
 enum Row {
     End,
@@ -45,7 +45,7 @@ enum Row {
 }
 
 impl Row {
-    /// The number that a group has in the row.
+    /// The number of a group in the array.
     fn number(self, group: &Group) -> u16
         ensures { result ≡ row_number self group.now }
     {
@@ -58,7 +58,7 @@ impl Row {
     }
 }
 
-/// Whether characters rise strictly.
+/// Whether characters are in strictly ascending order.
 fn chars_rise(mappings: &[Mapping]) -> bool
     ensures { IsTrue result ↔ CharsRise mappings.now }
 {
@@ -70,7 +70,7 @@ fn chars_rise(mappings: &[Mapping]) -> bool
     true
 }
 
-/// Whether a character with a glyph goes on where the group ends.
+/// Whether the character and its glyph continue the group.
 fn goes_on(group: &Group, mapping: &Mapping) -> bool
     ensures exact { result ≡ the_goes_on group.now mapping.now }
     ensures fits { MappingFits mapping.now }
@@ -79,7 +79,7 @@ fn goes_on(group: &Group, mapping: &Mapping) -> bool
         && mapping.glyph as u64 + group.start as u64 == group.glyph as u64 + mapping.char as u64
 }
 
-/// The group of one character.
+/// A group of one character.
 fn group_of(mapping: Mapping) -> Group
     ensures exact { result ≡ the_group_of mapping }
     ensures fits { MappingFits mapping }
@@ -91,7 +91,7 @@ fn group_of(mapping: Mapping) -> Group
     }
 }
 
-/// The group that is open behind a character: the one before it, longer, or a new one.
+/// The open group after a character: the group before it, extended, or a new one.
 #[tactic(auto, unfolding(crate::specs::Grouping::grouped))]
 fn next_group(
     groups: &mut Vec<Group>,
@@ -113,7 +113,7 @@ fn next_group(
     Ok(group_of(*mapping))
 }
 
-/// The groups of characters behind an open one.
+/// The groups of the characters after an open group.
 fn groups_from(
     alloc: Global,
     first: Group,
@@ -167,7 +167,7 @@ fn put_groups(out: &mut Vec<u8>, groups: &[Group]) -> std::result::Result<(), Al
     Ok(())
 }
 
-/// A map of format 12.
+/// Appends a subtable of format 12.
 #[tactic(auto, unfolding(crate::specs::Grouping::format12_text))]
 fn put_format12(out: &mut Vec<u8>, groups: &[Group]) -> std::result::Result<(), AllocError>
     requires { 16 + length groups.now * 12 < 2 ^ 32 }
@@ -182,7 +182,7 @@ fn put_format12(out: &mut Vec<u8>, groups: &[Group]) -> std::result::Result<(), 
     put_groups(out, groups)
 }
 
-/// Appends the numbers of groups in a row of format 4.
+/// Appends an array of format 4.
 fn put_row(out: &mut Vec<u8>, row: Row, groups: &[Group]) -> std::result::Result<(), AllocError>
     ensures { OnOk result (out.new.items ≡ out.old.items ++ row_text row groups.now) }
 {
@@ -192,7 +192,7 @@ fn put_row(out: &mut Vec<u8>, row: Row, groups: &[Group]) -> std::result::Result
     Ok(())
 }
 
-/// Appends the rows of format 4.
+/// Appends the arrays of format 4.
 #[tactic(auto, unfolding(crate::specs::Grouping::rows_text))]
 fn put_rows(out: &mut Vec<u8>, groups: &[Group]) -> std::result::Result<(), AllocError>
     ensures { OnOk result (out.new.items ≡ out.old.items ++ rows_text groups.now) }
@@ -204,7 +204,7 @@ fn put_rows(out: &mut Vec<u8>, groups: &[Group]) -> std::result::Result<(), Allo
     put_row(out, Row::Offset, groups)
 }
 
-/// Appends the beginning of a map of format 4 of so many segments.
+/// Appends the header of a subtable of format 4 with a given number of segments.
 #[tactic(auto, unfolding(crate::specs::Grouping::head4_text))]
 fn put_head4(out: &mut Vec<u8>, count: u16, selector: u32) -> std::result::Result<(), AllocError>
     requires counted { count < 8002 }
@@ -222,7 +222,7 @@ fn put_head4(out: &mut Vec<u8>, count: u16, selector: u32) -> std::result::Resul
     put_uint16(out, count * 2 - range)
 }
 
-/// Appends a map of format 4.
+/// Appends a subtable of format 4.
 fn put_format4(out: &mut Vec<u8>, groups: &[Group]) -> std::result::Result<(), AllocError>
     requires some { 0 < length groups.now }
     requires most { length groups.now < 8002 }
@@ -235,7 +235,7 @@ fn put_format4(out: &mut Vec<u8>, groups: &[Group]) -> std::result::Result<(), A
     put_rows(out, groups)
 }
 
-/// Appends a record of a platform, an encoding and the place of its map.
+/// Appends an encoding record with the offset of its subtable.
 #[tactic(auto, unfolding(crate::specs::Grouping::encoding_text))]
 fn put_encoding(
     out: &mut Vec<u8>,
@@ -250,7 +250,7 @@ fn put_encoding(
     put_uint32(out, place)
 }
 
-/// Characters below U+FFFF, and behind them that one with no glyph, which ends all segments.
+/// Adds the last segment's character to characters below U+FFFF.
 fn with_end(alloc: Global, mappings: &[Mapping]) -> std::result::Result<Vec<Mapping>, AllocError>
     ensures { IfOk result (λ all. all.items ≡ mappings.now ++ end ∷ []) }
 {
@@ -271,7 +271,7 @@ fn segments(alloc: Global, mappings: &[Mapping]) -> std::result::Result<Vec<Grou
     groups(alloc, all.as_slice())
 }
 
-/// A table `cmap` of one map of format 4.
+/// Writes a `cmap` table with one subtable of format 4.
 #[tactic(auto, unfolding(crate::specs::Grouping::small_text))]
 fn small(alloc: Global, segments: &[Group]) -> std::result::Result<Vec<u8>, AllocError>
     requires some { 0 < length segments.now }
@@ -287,7 +287,7 @@ fn small(alloc: Global, segments: &[Group]) -> std::result::Result<Vec<u8>, Allo
     Ok(table)
 }
 
-/// The segments of the characters below U+FFFF, or none of them where there are too many.
+/// The segments of the characters below U+FFFF, or only the last segment if there are too many.
 fn low_segments(alloc: Global, mappings: &[Mapping]) -> std::result::Result<Vec<Group>, AllocError>
     ensures some { IfOk result (λ segments. 0 < length segments.items) }
     ensures most { IfOk result (λ segments. length segments.items < 8002) }
@@ -300,7 +300,7 @@ fn low_segments(alloc: Global, mappings: &[Mapping]) -> std::result::Result<Vec<
     segments(alloc, &[])
 }
 
-/// The records of a map of format 4, and of one of format 12 behind it.
+/// The encoding records of a subtable of format 4 and of one of format 12 after it.
 #[tactic(auto, unfolding(crate::specs::Grouping::large_text))]
 fn large_head(alloc: Global, behind: u32) -> std::result::Result<Vec<u8>, AllocError>
     ensures { IfOk result (λ table. table.items ≡ large_text behind) }
@@ -315,7 +315,7 @@ fn large_head(alloc: Global, behind: u32) -> std::result::Result<Vec<u8>, AllocE
     Ok(table)
 }
 
-/// A table `cmap` of a map of format 4, of characters below U+FFFF, and one of format 12.
+/// Writes a `cmap` table with a subtable of format 4, for characters below U+FFFF, and one of format 12.
 fn large(alloc: Global, low: &[Group], all: &[Group]) -> std::result::Result<Vec<u8>, AllocError>
     requires some { 0 < length low.now }
     requires most { length low.now < 8002 }
@@ -329,7 +329,7 @@ fn large(alloc: Global, low: &[Group], all: &[Group]) -> std::result::Result<Vec
     Ok(table)
 }
 
-/// Whether characters, which rise, are all below U+FFFF.
+/// Whether ascending characters are all below U+FFFF.
 fn are_below(mappings: &[Mapping]) -> bool
     requires { CharsRise mappings.now }
     ensures { IsTrue result → AreBelow mappings.now }
@@ -337,7 +337,7 @@ fn are_below(mappings: &[Mapping]) -> bool
     mappings.is_empty() || mappings[mappings.len() - 1].char < 0xffff
 }
 
-/// The table of characters that rise, of both formats.
+/// Writes a table of both formats.
 fn of_both(alloc: Global, mappings: &[Mapping]) -> std::result::Result<Vec<u8>, AllocError>
     requires rise { CharsRise mappings.now }
     requires room { 16 + length mappings.now * 12 < 2 ^ 32 }
@@ -350,7 +350,7 @@ fn of_both(alloc: Global, mappings: &[Mapping]) -> std::result::Result<Vec<u8>, 
     Ok(table)
 }
 
-/// The table of segments.
+/// Writes a table of segments.
 #[tactic(auto, using(crate::proofs::Groups::some_groups))]
 fn of_segments(
     alloc: Global,
@@ -369,14 +369,24 @@ fn of_segments(
     Ok(table)
 }
 
-/// The table `cmap` of characters that rise strictly, each with its glyph: of format 4 where all are below U+FFFF and make 8,000
-/// segments at most, and else of formats 4 and 12. A glyph 0 is none.
+/// Writes a `cmap` table of characters in strictly ascending order, each with its glyph. Glyph 0 means no glyph.
 ///
-/// Refused: `CharactersDoNotRise`; `TooLarge` where 32 bits do not count the bytes of so many groups; `Memory`.
+/// The subtable has format 4 if all characters are below U+FFFF and form at most 8,000 segments. Otherwise the table
+/// has subtables of formats 4 and 12.
+///
+/// # Errors
+///
+/// - `CharactersDoNotRise`: the characters are not in strictly ascending order.
+/// - `TooLarge`: with a group for each character the format 12 subtable would have 2^32 bytes or more.
+/// - `Memory`: out of memory.
 pub fn cmap(alloc: Global, mappings: &[Mapping]) -> Result<Vec<u8>>
+    // A reader finds a supported subtable in the table, and the subtable is whole.
     ensures read { IfOk result (λ cmap. IsReadable cmap.items) }
+    // That subtable maps each character to its given glyph, and all others to 0.
     ensures told { IfOk result (λ cmap. AreTold cmap.items mappings.now) }
+    // A success means that the characters are in strictly ascending order.
     ensures rise { OnOk result (CharsRise mappings.now) }
+    // An error is justified by the order or the number of characters, or it is `Memory`.
     ensures refused { IfErr result (λ e. RefusesMap e mappings.now) }
 {
     if !chars_rise(mappings) {

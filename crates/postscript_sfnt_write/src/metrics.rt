@@ -1,4 +1,4 @@
-//! Metrics, written (ISO/IEC 14496-22, 5.2.3, 5.2.4, 5.2.6 and 5.2.8).
+//! Writes metrics (ISO/IEC 14496-22, 5.2.3, 5.2.4, 5.2.6 and 5.2.8).
 ghost use Rattle.std.specs.Prelude.{◌≡◌, ℕ, ◌+◌, ◌*◌, ◌<◌, ◌≤◌, ◌++◌, length, take, drop, replicate, OnOk, IfOk, IfErr};
 ghost use Rattle.postscript_base.specs.Index.{number_at as the_number};
 ghost use Rattle.postscript_sfnt.specs.Metrics.{IsGlyphs, IsWord};
@@ -10,7 +10,7 @@ use crate::error::{Error, Result};
 use crate::numbers::{put_uint16, put_uint32};
 use std::alloc::{AllocError, Global};
 
-/// The advance and the left side bearing of a glyph, in units of the em.
+/// The advance width and the left side bearing of a glyph, in font units.
 #[derive(Clone, Copy, Debug, Drop, PartialEq, Eq)]
 pub struct Metric {
     pub advance: u16,
@@ -27,18 +27,26 @@ fn put_metric(out: &mut Vec<u8>, metric: Metric) -> std::result::Result<(), Allo
     put_uint16(out, metric.bearing.cast_unsigned())
 }
 
-/// The table `hmtx` of the metrics of glyphs, each with an advance of its own. Refused where memory is.
+/// Writes an `hmtx` table with an advance width for each glyph.
+///
+/// # Errors
+///
+/// - `AllocError`: out of memory.
 pub fn hmtx(alloc: Global, metrics: &[Metric]) -> std::result::Result<Vec<u8>, AllocError>
+    // The table has four bytes for each glyph.
     ensures size { IfOk result (λ table. length table.items ≡ length metrics.now * 4) }
+    // With an `hhea` table of this number of metrics it can be read, unless there are none.
     ensures read { IfOk result (λ table. CanBeRead table.items metrics.now) }
+    // The advance width that is read for each glyph is the given one.
     ensures advances { IfOk result (λ table. TellsAdvances table.items metrics.now) }
+    // The left side bearing of each glyph follows its advance width.
     ensures bearings { IfOk result (λ table. TellsBearings table.items metrics.now) }
 {
     let table = put_metrics(alloc, metrics)?;
     Ok(table)
 }
 
-/// Metrics one behind the other.
+/// Writes metrics one after the other.
 fn put_metrics(alloc: Global, metrics: &[Metric]) -> std::result::Result<Vec<u8>, AllocError>
     ensures text { IfOk result (λ table. table.items ≡ metrics_text metrics.now) }
     ensures fit { OnOk result (MetricsFit metrics.now) }
@@ -50,7 +58,7 @@ fn put_metrics(alloc: Global, metrics: &[Metric]) -> std::result::Result<Vec<u8>
     Ok(table)
 }
 
-/// A table with another number of two bytes at a place.
+/// Replaces the number of two bytes at an offset.
 fn with_number(
     alloc: Global,
     table: &[u8],
@@ -67,12 +75,18 @@ fn with_number(
     Ok(new)
 }
 
-/// The table `hhea` with another number of metrics in `hmtx`, and else as it was.
+/// Returns an `hhea` table with another number of metrics in `hmtx`, and otherwise unchanged.
 ///
-/// Refused: `Cut` where the table has less than 36 bytes; `Memory`.
+/// # Errors
+///
+/// - `Cut`: the table has fewer than 36 bytes.
+/// - `Memory`: out of memory.
 pub fn with_number_of_metrics(alloc: Global, hhea: &[u8], metrics: u16) -> Result<Vec<u8>>
+    // The new table has this number of metrics.
     ensures told { IfOk result (λ new. IsWord new.items 34 metrics) }
+    // The length and all other bytes are unchanged.
     ensures kept { IfOk result (λ new. KeepsBut 34 hhea.now new.items) }
+    // The only errors are `Memory`, and `Cut` for a table of fewer than 36 bytes.
     ensures refused { IfErr result (λ e. IsCutBelow 36 hhea.now e) }
 {
     if hhea.len() < 36 {
@@ -82,12 +96,18 @@ pub fn with_number_of_metrics(alloc: Global, hhea: &[u8], metrics: u16) -> Resul
     Ok(new)
 }
 
-/// The table `maxp` with another number of glyphs, and else as it was.
+/// Returns a `maxp` table with another number of glyphs, and otherwise unchanged.
 ///
-/// Refused: `Cut` where the table has less than 6 bytes; `Memory`.
+/// # Errors
+///
+/// - `Cut`: the table has fewer than 6 bytes.
+/// - `Memory`: out of memory.
 pub fn with_number_of_glyphs(alloc: Global, maxp: &[u8], glyphs: u16) -> Result<Vec<u8>>
+    // The new table has this number of glyphs.
     ensures told { IfOk result (λ new. IsGlyphs new.items glyphs) }
+    // The length and all other bytes are unchanged.
     ensures kept { IfOk result (λ new. KeepsBut 4 maxp.now new.items) }
+    // The only errors are `Memory`, and `Cut` for a table of fewer than 6 bytes.
     ensures refused { IfErr result (λ e. IsCutBelow 6 maxp.now e) }
 {
     if maxp.len() < 6 {
@@ -97,12 +117,18 @@ pub fn with_number_of_glyphs(alloc: Global, maxp: &[u8], glyphs: u16) -> Result<
     Ok(new)
 }
 
-/// The table `post` of version 3.0, which has no names of glyphs, and else as it was.
+/// Returns the first 32 bytes of a `post` table as version 3.0, which has no glyph names. Only the version is changed.
 ///
-/// Refused: `Cut` where the table has less than 32 bytes; `Memory`.
+/// # Errors
+///
+/// - `Cut`: the table has fewer than 32 bytes.
+/// - `Memory`: out of memory.
 pub fn without_names(alloc: Global, post: &[u8]) -> Result<Vec<u8>>
+    // The version of the new table is 3.0.
     ensures version { IfOk result (λ new. the_number new.items 0 4 ≡ 0x00030000) }
+    // After the version the new table has the bytes of the old one up to offset 32.
     ensures kept { IfOk result (λ new. drop 4 new.items ≡ drop 4 (take 32 post.now)) }
+    // The only errors are `Memory`, and `Cut` for a table of fewer than 32 bytes.
     ensures refused { IfErr result (λ e. IsCutBelow 32 post.now e) }
 {
     if post.len() < 32 {

@@ -1,4 +1,4 @@
-//! Numbers, written.
+//! Big-endian numbers.
 ghost use Rattle.std.specs.Prelude.{◌≡◌, ◌++◌, OnOk};
 ghost use Rattle.postscript_sfnt_write.specs.Numbers.{uint16 as the_uint16, uint32 as the_uint32};
 
