@@ -213,7 +213,7 @@ fn written(alloc: Global, tables: &[Table<'_>]) -> std::result::Result<Vec<u8>, 
 
 /// Writes a font file with these tables, whose tags must be in strictly ascending order.
 ///
-/// The directory is first, then the tables follow, each at a multiple of four bytes. In the `head` table the bytes 8 to 11
+/// The tables follow the directory, each at a multiple of four bytes. In the `head` table the bytes 8 to 11
 /// are replaced by the `checkSumAdjustment` of the file. The version is `OTTO`.
 ///
 /// # Errors
