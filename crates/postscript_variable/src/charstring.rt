@@ -11,33 +11,37 @@ use postscript_type2::Subroutines;
 use postscript_type2::shared::Phase;
 use std::alloc::Global;
 
-/// What a charstring blends with: for each item variation data of the variation store (ItemVariationData), in their order,
-/// the scalars of its regions at the coordinates that are drawn, in units of 1 / 65536; and the number of the one that the
-/// Private DICT names by `vsindex`, 0 where it names none. A font without a variation store has none.
+/// The data for `blend` at a location of the font.
+///
+/// It has, for each item variation data of the variation store (ItemVariationData) in order, the scalars of its regions
+/// in units of 1 / 65536. It also has the number that the Private DICT gives by `vsindex`, or 0. A font without a
+/// variation store has no scalars.
 #[derive(Clone, Copy)]
 pub struct Blends<'l> {
     /// The scalars of each item variation data.
     pub tables: &'l [Vec<u32>],
-    /// The number of the item variation data that is in use at first.
+    /// The number of the item variation data in use at first.
     pub index: usize,
 }
 
-/// A charstring of CFF2, with the subroutines that it may call, and what it blends with. All are lent.
+/// A CFF2 charstring with its subroutines and the data for `blend`. All are borrowed.
 #[derive(Clone, Copy)]
 pub struct Charstring<'l> {
     /// The bytes of the charstring.
     pub code: &'l [u8],
     /// The subroutines.
     pub subroutines: Subroutines<'l>,
-    /// What it blends with.
+    /// The data for `blend`.
     pub blends: Blends<'l>,
 }
 
 impl<'l> Charstring<'l> {
-    /// The program of the charstring, before its first operation. Never refused.
+    /// Returns a program that runs the charstring, before its first operation.
     pub fn program(self, alloc: Global) -> Program<'l>
+        // The program returns the operations and the end that the charstring has by the rules.
         ensures meant { (answers : List Answer) × (end : End) × IsRunFrom self.entry answers end ×
             (result.answers ≡ answers) × (result.end ≡ end_of end) }
+        // The program is at the beginning of the computed run.
         ensures value { result ≡ begun (run_from self.entry) }
     {
         Program {

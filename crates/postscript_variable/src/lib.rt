@@ -1,4 +1,4 @@
-//! Charstrings of CFF2 (OpenType 1.9, "CFF2 CharString Format").
+//! Runs the charstrings of CFF2 fonts (OpenType 1.9, "CFF2 CharString Format").
 #![tactic(auto)]
 
 mod blend;

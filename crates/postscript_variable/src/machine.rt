@@ -1,4 +1,4 @@
-//! The machine of a program: one number or operator at a time.
+//! The machine of a program, which runs one number or operator at a time.
 ghost use Rattle.std.specs.Prelude.{◌≡◌, ◌<◌, ◌+◌, ◌-◌, ◌^◌, length, [], ◌∷◌, suc, Ok, OnOk, IfOk, IfErr, IfSome};
 ghost use Rattle.postscript_type2.specs.declared.refused.Refused.TheVariants as cases;
 ghost use Rattle.postscript_type2.specs.Program.Effects.{last_of};
@@ -17,29 +17,29 @@ use postscript_type2::{Operand, Operator};
 use std::alloc::Global;
 use std::mem;
 
-/// What a number or an operator costs: a unit for each of its bytes, those of a mask with them, and what it costs beside.
+/// The cost of a number or an operator: a unit for each byte, with the bytes of a mask, and an additional cost.
 #[derive(Clone, Copy)]
 pub(crate) struct Cost {
     pub(crate) bytes: usize,
     pub(crate) beside: usize,
 }
 
-/// What the machine does next.
+/// The result of a step of the machine.
 #[derive(Drop)]
 pub(crate) enum Event<'l> {
-    /// All is used up: the end, without fault.
+    /// The code is used up: the run ends without a fault.
     UsedUp,
-    /// A subroutine is used up: its caller goes on.
+    /// A subroutine is used up: the run goes on in its caller.
     Back,
     /// A number or an operator was read, and the run goes on.
     Continued(Cost),
-    /// An operator is answered with the last so many operands, which stand on the stack until that is cleared, and with the bytes of
+    /// An operator with the number of its operands, which are on the stack until it is cleared, and with the bytes of
     /// its mask.
     Operation(Operator, usize, &'l [u8], Cost),
 }
 
-/// How far a machine comes within its limit: to an operator that is answered, with so many operands, the last ones on the
-/// stack; to an end without fault; or no further.
+/// The progress of a machine within its limit: an operator with the number of its operands at the top of the stack, the
+/// end without a fault, or a pause.
 #[derive(Clone, Copy)]
 pub(crate) enum Reach {
     At(Operator, usize),
@@ -47,10 +47,10 @@ pub(crate) enum Reach {
     Paused,
 }
 
-/// How many calls may nest ("CFF2 CharString Implementation Limits").
+/// The maximum depth of nested calls ("CFF2 CharString Implementation Limits").
 const NESTED_CALLS: usize = 10;
 
-/// What is run over, the routine that is run, its callers, how many more calls may nest, and the state reached.
+/// The data of the run, the current routine, its callers, the number of further nested calls, and the state.
 #[derive(Drop)]
 pub(crate) struct Machine<'l> {
     pub(crate) font: Font<'l>,
@@ -60,7 +60,7 @@ pub(crate) struct Machine<'l> {
     pub(crate) state: State<'l>,
 }
 
-/// Takes a cost off the limit, or all of it where the cost is more.
+/// Subtracts a cost from the limit, down to 0.
 #[inline(always)]
 fn spend(limit: &mut u64, cost: Cost)
     ensures { limit.new ≡ limit.old - cost_of cost }
@@ -99,7 +99,7 @@ impl<'l> Machine<'l> {
         }
     }
 
-    /// Puts a number of so many bytes onto the stack.
+    /// Pushes a number of `size` bytes onto the stack.
     #[inline(always)]
     fn push(&mut self, number: Operand, size: usize) -> Result<Event<'l>>
         requires nested { IsNested self.old }
@@ -117,7 +117,7 @@ impl<'l> Machine<'l> {
         }))
     }
 
-    /// What an operator costs beside its bytes.
+    /// The cost of an operator in addition to its bytes.
     #[inline(always)]
     fn beside(&self, command: Command) -> usize
         ensures { result ≡ cost_beside command self.now.state.stack.items }
@@ -128,7 +128,7 @@ impl<'l> Machine<'l> {
         }
     }
 
-    /// Enters a routine, where one more call may nest.
+    /// Enters a routine, if the depth allows it.
     #[inline(always)]
     fn enter(&mut self, code: &'l [u8]) -> Result<()>
         requires { 0 < self.old.left }
@@ -145,7 +145,7 @@ impl<'l> Machine<'l> {
         Ok(())
     }
 
-    /// Does what an operator of so many bytes does that was read.
+    /// Runs an operator of `size` bytes.
     #[inline(always)]
     fn operate(&mut self, command: Command, size: usize) -> Result<Event<'l>>
         requires nested { IsNested self.old }
@@ -211,7 +211,7 @@ impl<'l> Machine<'l> {
         }
     }
 
-    /// Clears the stack of what was answered.
+    /// Clears the stack after an operation.
     #[inline(always)]
     pub(crate) fn empty(&mut self)
         requires nested { IsNested self.old }
@@ -222,7 +222,7 @@ impl<'l> Machine<'l> {
         self.state.stack.clear();
     }
 
-    /// Puts the numbers at the front onto the stack, while it has room and the limit lasts.
+    /// Pushes the numbers at the front onto the stack, up to its maximum and the limit.
     #[inline(always)]
     fn pass_numbers(&mut self, limit: &mut u64) -> Result<()>
         requires nested { IsNested self.old }
@@ -235,7 +235,7 @@ impl<'l> Machine<'l> {
         Ok(())
     }
 
-    /// Runs up to the next operator that is answered; what it takes stands on the stack. None at an end without fault.
+    /// Runs up to the next operation, with its operands on the stack. `None` at an end without a fault.
     #[inline(always)]
     pub(crate) fn reach(&mut self) -> Result<Option<(Operator, usize)>>
         requires nested { IsNested self.old }
@@ -253,7 +253,7 @@ impl<'l> Machine<'l> {
         }
     }
 
-    /// The same while the limit lasts.
+    /// The same within a limit.
     #[inline(always)]
     pub(crate) fn reach_within(&mut self, limit: &mut u64) -> Result<Reach>
         requires nested { IsNested self.old }
@@ -278,7 +278,7 @@ impl<'l> Machine<'l> {
         }
     }
 
-    /// The last so many operands on the stack.
+    /// The last `count` operands on the stack.
     #[inline(always)]
     pub(crate) fn operands(&self, count: usize) -> &[Operand]
         ensures { result.now ≡ last_of self.now.state.stack.items count }

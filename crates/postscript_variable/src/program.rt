@@ -1,4 +1,4 @@
-//! The programs.
+//! Programs.
 ghost use Rattle.std.specs.Borrow.{sem};
 ghost use Rattle.std.specs.Prelude.{◌≡◌};
 ghost use Rattle.postscript_base.specs.Error.{IsListed};
@@ -12,7 +12,7 @@ use postscript_type2::shared::Phase;
 use postscript_type2::{Operand, Operator};
 use std::marker::Model;
 
-/// A program: a charstring of CFF2 that is run, one operation at a time.
+/// A running CFF2 charstring, which returns one operation at a time.
 #[derive(Drop)]
 pub struct Program<'l> {
     pub(crate) machine: Machine<'l>,
@@ -37,21 +37,42 @@ impl<'l> Model for Program<'l> {
 }
 
 impl<'l> Program<'l> {
-    /// The next operation, with its operands in 16.16 bits lent, the lowest first, until the program is used again; None at the
-    /// end. Once it has answered None it answers None from then on. It asks for memory only where the stack of operands or of
-    /// callers grows. It keeps to no limit: `step_within` does.
+    /// Runs to the next operation, and returns its operator and its operands as 16.16 numbers, the lowest first.
     ///
-    /// Refused: with what the run is refused with by the rules (`specs/Meaning.antt`): `UnexpectedEof` where the input ends early,
-    /// `UnknownOperator`, `ExpectedInteger` where no whole number is on top that an operator asks for, `ExpectedMoreOperands` where a
-    /// `blend` names more than there are, `MalformedOperands`, `InvalidOperand` where a `vsindex` stands behind a `blend` or names no
-    /// item variation data, or a `blend` has none, `MissingSubroutine`, `TooDeep`, `Overflow` of the stack or of a blended value,
-    /// `TooManyStems`; or `Memory`. Once it has been refused it is refused with `AlreadyFailed` from then on.
+    /// The operands are borrowed until the program is used again. At the end it returns `None`, and `None` again from
+    /// then on. It allocates only if the stack of operands or of callers grows. There is no limit: use
+    /// [`Program::step_within`] for one.
+    ///
+    /// # Errors
+    ///
+    /// By the rules of a run (`specs/Meaning.antt`):
+    ///
+    /// - `UnexpectedEof`: the code ends inside an operator, a number or a mask.
+    /// - `UnknownOperator`: there is no such operator.
+    /// - `ExpectedInteger`: the top of the stack is not a whole number, as the operator needs.
+    /// - `ExpectedMoreOperands`: a `blend` counts more operands than there are.
+    /// - `MalformedOperands`: the operator does not take this number of operands.
+    /// - `InvalidOperand`: a `vsindex` is after a `blend` or has no item variation data, or a `blend` has none.
+    /// - `MissingSubroutine`: there is no such subroutine.
+    /// - `TooDeep`: more than ten calls are nested.
+    /// - `Overflow`: the stack is full, or a blended value is out of range.
+    /// - `TooManyStems`: there are 2^32 stems or more.
+    ///
+    /// Besides these:
+    ///
+    /// - `Memory`: out of memory.
+    /// - `AlreadyFailed`: an earlier call failed.
     #[inline(always)]
     pub fn step(&mut self) -> Result<Option<(Operator, &[Operand])>>
+        // Each call returns the next operation, the end or the error of the run, or `Memory`.
         ensures* steps { sem 𝓛 (LendsNext self.entry result) }
+        // The operation is the first one that is left, with its operands.
         ensures head { IsHead self.old result }
+        // The only errors are the ones listed above.
         ensures listed { IsListed step_refusals result }
+        // After the end, the result is `None` again.
         ensures ended { self.old ≡ ended → result ≡ Ok None }
+        // After an error, the result is `AlreadyFailed`.
         ensures failed { self.old ≡ failed → result ≡ Err Error.AlreadyFailed }
     {
         match self.phase {

@@ -1,4 +1,4 @@
-//! A routine: code, and the place that is reached in it.
+//! A routine: code and an offset in it.
 ghost use Rattle.std.specs.Option.{ok_or};
 ghost use Rattle.std.specs.Prelude.{◌≡◌, ◌∷◌, ◌+◌, ◌-◌, ◌<◌, ◌≤◌, ◌^◌, OnOk, IfOk, IfErr, IfSome, length, take, drop, option_map};
 ghost use Rattle.postscript_type2.specs.declared.refused.Refused.TheVariants as cases;
@@ -10,7 +10,7 @@ use crate::command::Command;
 use postscript_type2::shared::{Refused, Result, Routine, begins_number, is_alone, make_room};
 use postscript_type2::{Operand, number};
 
-/// What is read at a place, and the place behind it.
+/// A value that is read, and the offset after it.
 type At<T> = (T, usize);
 
 /// A number, as its 16.16 bits, or an operator.
@@ -20,7 +20,7 @@ pub(crate) enum Token {
     Operator(Command),
 }
 
-/// The operator of a code, which ends just before a place.
+/// The operator of a code that ends just before an offset.
 #[inline(always)]
 fn known(code: u16, place: usize) -> Result<At<Command>>
     ensures { result ≡ ok_or (option_map (λ command. (command, place)) (command_of code)) cases.UnknownOperator }
@@ -31,7 +31,7 @@ fn known(code: u16, place: usize) -> Result<At<Command>>
     }
 }
 
-/// Reads the operator that a first byte begins, whose second one would stand at this place.
+/// Reads the operator with this first byte. `place` is the offset of the second byte, if there is one.
 #[inline(always)]
 fn command_at(code: &[u8], first: u8, place: usize) -> Result<At<Command>>
     requires { place ≤ length code.now }
@@ -47,7 +47,7 @@ fn command_at(code: &[u8], first: u8, place: usize) -> Result<At<Command>>
     }
 }
 
-/// Reads the number or the operator that stands at a place, where its first byte is this one.
+/// Reads the number or operator at an offset, given its first byte.
 #[inline(always)]
 fn token_at(code: &[u8], first: u8, place: usize) -> Result<At<Token>>
     requires room { place < length code.now }
@@ -66,13 +66,13 @@ fn token_at(code: &[u8], first: u8, place: usize) -> Result<At<Token>>
     }
 }
 
-/// How many operands a stack holds ("CFF2 CharString Implementation Limits").
+/// The maximum number of operands on the stack ("CFF2 CharString Implementation Limits").
 pub(crate) const OPERANDS: usize = 513;
 
-/// For how many operands a stack takes memory at once, before its first one.
+/// The number of operands that memory is allocated for at the beginning.
 const ROOM: usize = 256;
 
-/// The number that stands at a place, and the place behind it. None where an operator stands there, or nothing that is whole.
+/// The number at an offset, and the offset after it. `None` if there is an operator or a truncated number.
 #[inline(always)]
 fn number_at(code: &[u8], place: usize) -> Option<At<Operand>>
     requires { place < length code.now }
@@ -89,7 +89,7 @@ fn number_at(code: &[u8], place: usize) -> Option<At<Operand>>
     number::at(code, place)
 }
 
-/// A place before which a number may begin: bytes are left there, the stack has room, and the limit lasts.
+/// The offset before which a number may begin: within the code, the size of the stack and the limit.
 #[inline(always)]
 fn last_place(code: &[u8], place: usize, held: usize, limit: u64) -> usize
     requires { place ≤ length code.now }
@@ -102,8 +102,7 @@ fn last_place(code: &[u8], place: usize, held: usize, limit: u64) -> usize
     place + (room.min(bytes) as u64).min(limit) as usize
 }
 
-/// Puts the numbers that stand at a place onto the stack, one after another, while it has room and the limit lasts. Answers the place
-/// behind them.
+/// Pushes the numbers at an offset onto the stack, up to its maximum and the limit. Returns the offset after them.
 #[inline(always)]
 fn numbers_at(code: &[u8], place: usize, stack: &mut Vec<Operand>, limit: u64) -> Result<usize>
     requires { place ≤ length code.now }
@@ -125,7 +124,7 @@ fn numbers_at(code: &[u8], place: usize, stack: &mut Vec<Operand>, limit: u64) -
     Ok(next)
 }
 
-/// Takes so many bytes, which are there.
+/// Takes `count` bytes, which must be there.
 #[inline(always)]
 pub(crate) fn take<'l>(routine: &mut Routine<'l>, count: usize) -> &'l [u8]
     requires { count ≤ length routine.old }
@@ -137,7 +136,7 @@ pub(crate) fn take<'l>(routine: &mut Routine<'l>, count: usize) -> &'l [u8]
     &code[place..place + count]
 }
 
-/// Reads what stands at the front, and how many bytes it has, if bytes are left.
+/// Reads the number or operator at the front, with its size, if bytes are left.
 #[inline(always)]
 pub(crate) fn next_token(routine: &mut Routine<'_>) -> Result<Option<(Token, usize)>>
     ensures reads { ReadsFront routine.old result routine.new }
@@ -152,8 +151,7 @@ pub(crate) fn next_token(routine: &mut Routine<'_>) -> Result<Option<(Token, usi
     Ok(Some((token, next - place)))
 }
 
-/// Puts the numbers at the front onto the stack, one after another, while it has room and the limit lasts. Answers what is left of
-/// the limit.
+/// Pushes the numbers at the front onto the stack, up to its maximum and the limit. Returns the rest of the limit.
 #[inline(always)]
 pub(crate) fn numbers(
     routine: &mut Routine<'_>,

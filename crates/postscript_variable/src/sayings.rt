@@ -1,4 +1,4 @@
-//! What a charstring says, whole.
+//! All operations of a charstring at once.
 ghost use Rattle.std.specs.Prelude.{◌≡◌, ◌⊎◌, ◌∷◌, map, IfOk, IfErr, OnOk};
 ghost use Rattle.postscript_base.specs.declared.error.Error.TheVariants as errors;
 ghost use Rattle.postscript_base.specs.Error.{IsListed};
@@ -20,21 +20,21 @@ use postscript_base::{Error, Result};
 use postscript_type2::{Operand, Operator, shared};
 use std::alloc::Global;
 
-/// An operator that is answered, with all that it says: its operands, and the hints of a mask.
+/// An operation in full: an operator with its operands, and the hints of a mask.
 #[derive(Drop)]
 pub struct Saying<'l> {
     /// The operator.
     pub operator: Operator,
-    /// At a mask, the operands before it: those of the stems that no operator declared. They are none at every other operator.
+    /// At a mask, the operands before it for stems that no operator declared. Empty at every other operator.
     pub stems: Vec<Operand>,
-    /// The operands that it takes, in 16.16 bits, the lowest first.
+    /// Its operands as 16.16 numbers, the lowest first.
     pub operands: Vec<Operand>,
     /// The bytes of its mask.
     pub mask: &'l [u8],
 }
 
 impl<'l> Machine<'l> {
-    /// The last so many operands on the stack, copied.
+    /// Copies the last `count` operands on the stack.
     fn copied(&self, alloc: Global, count: usize) -> shared::Result<Vec<Operand>>
         ensures ok { IfOk result (λ operands. operands.items ≡ last_of self.now.state.stack.items count) }
         ensures err { IfErr result (λ e. e ≡ cases.Memory) }
@@ -55,7 +55,7 @@ impl<'l> Machine<'l> {
         }
     }
 
-    /// What an operator says that was answered.
+    /// The operation of an operator, copied from the stack.
     fn saying(
         &self,
         alloc: Global,
@@ -76,7 +76,7 @@ impl<'l> Machine<'l> {
     }
 }
 
-/// All that a machine still says.
+/// All operations that are left in a machine.
 fn all_sayings<'l>(alloc: Global, machine: &mut Machine<'l>) -> shared::Result<Vec<Saying<'l>>>
     requires { IsNested machine.old }
     ensures told { IfOk result (λ sayings. map said_of sayings.items ≡ (still_of machine.old).says) }
@@ -97,14 +97,20 @@ fn all_sayings<'l>(alloc: Global, machine: &mut Machine<'l>) -> shared::Result<V
 }
 
 impl<'l> Charstring<'l> {
-    /// All that the charstring says, up to its end: each operator that draws, declares stems or masks, with its operands, the stems that
-    /// a mask implies, and the bytes of a mask (`specs/Told.antt`). The operators and their operands are those that `Program::step`
-    /// answers. It keeps to no limit.
+    /// Runs the charstring to its end, and returns all operations: each operator that draws, declares stems or masks.
     ///
-    /// Refused: with what the run is refused with, as `Program::step` is; `Memory`.
+    /// An operation has its operands, the stems that a mask implies, and the bytes of a mask (`specs/Told.antt`). The
+    /// operators and operands are the same as from [`Program::step`]. There is no limit.
+    ///
+    /// # Errors
+    ///
+    /// - The errors of [`Program::step`] apart from `AlreadyFailed`.
     pub fn sayings(self, alloc: Global) -> Result<Vec<Saying<'l>>>
+        // The run ends without a fault by the rules, and these are all of its operations in order.
         ensures said { IfOk result (λ sayings. Says self.entry (map said_of sayings.items)) }
+        // An error is `Memory`, or the run stops with this error by the rules.
         ensures refused { IfErr result (λ e. (e ≡ errors.Memory) ⊎ StopsWith self.entry (refusal_of e)) }
+        // The only errors are the ones of `Program::step` without `AlreadyFailed`.
         ensures listed { IsListed sayings_refusals result }
     {
         let mut machine = Machine::over(alloc, self);

@@ -1,4 +1,4 @@
-//! What an operator does with the stack.
+//! The effect of an operator on the stack.
 ghost use Rattle.std.specs.Prelude.{◌≡◌, ◌≤◌, ◌*◌, ℕ, suc, List, length, nat_lt, IfOk};
 ghost use Rattle.postscript_type2.specs.Program.Charstrings.{lists_of};
 ghost use Rattle.postscript_variable.specs.Effects.{effect, path_move, stem_move, mask_move, answer_move, index_move, blend_over, call_move};
@@ -11,14 +11,14 @@ use crate::command::Command;
 use postscript_type2::shared::{Refused, Result, stems_after, whole_operand};
 use postscript_type2::{Operand, Operator, Subroutines};
 
-/// What a charstring is run over: the subroutines, and the scalars of the regions of each item variation data.
+/// The subroutines, and the scalars of the regions of each item variation data.
 #[derive(Clone, Copy)]
 pub(crate) struct Font<'l> {
     pub(crate) subroutines: Subroutines<'l>,
     pub(crate) tables: &'l [Vec<u32>],
 }
 
-/// The operands, the top last; the stems so far; the scalars in use; and whether a blend came.
+/// The operands, with the top last, the number of stems, the scalars in use, and whether a `blend` was run.
 #[derive(Drop)]
 pub(crate) struct State<'l> {
     pub(crate) stack: Vec<Operand>,
@@ -27,8 +27,8 @@ pub(crate) struct State<'l> {
     pub(crate) is_blended: bool,
 }
 
-/// What an operator does: it goes on; it is answered as an operator of Type 2 charstrings, with so many operands, the last ones,
-/// and so many bytes of a mask are its own; or it calls a routine.
+/// The effect of an operator: `Keeps` goes on with the run. `Clears` returns an operator of Type 2 charstrings, with a
+/// number of operands at the top and a number of bytes for its mask. `Calls` calls a routine.
 #[derive(Drop)]
 pub(crate) enum Effect<'l> {
     Keeps,
@@ -36,7 +36,7 @@ pub(crate) enum Effect<'l> {
     Calls(&'l [u8]),
 }
 
-/// Whether operands are fewer than n defaults and a delta of each for each region.
+/// Whether there are too few operands for `n` defaults and a delta of each for each region.
 #[inline(always)]
 fn has_fewer(operands: usize, n: usize, regions: usize) -> bool
     ensures { result ≡ nat_lt operands (n * suc regions) }
@@ -45,7 +45,7 @@ fn has_fewer(operands: usize, n: usize, regions: usize) -> bool
 }
 
 impl<'l> State<'l> {
-    /// An operator that draws.
+    /// Runs an operator that draws.
     fn path(&mut self, operator: Operator) -> Result<Effect<'l>>
         ensures value { Does (path_move operator (state_of self.old)) result self.new }
         ensures room { IfOk result (λ effect. mask_of effect ≡ 0) }
@@ -57,7 +57,7 @@ impl<'l> State<'l> {
         }
     }
 
-    /// An operator that declares stems.
+    /// Runs an operator that declares stems.
     #[inline(always)]
     fn stem(&mut self, operator: Operator) -> Result<Effect<'l>>
         ensures value { Does (stem_move operator (state_of self.old)) result self.new }
@@ -72,7 +72,7 @@ impl<'l> State<'l> {
         Ok(Effect::Clears(operator, count, 0))
     }
 
-    /// A mask, where so many bytes are behind its operator.
+    /// Runs a mask operator with `behind` bytes after it.
     #[inline(always)]
     fn mask(&mut self, operator: Operator, behind: usize) -> Result<Effect<'l>>
         ensures value { (bytes : List ℕ) → length bytes ≡ behind → Does (mask_move operator bytes (state_of self.old)) result self.new }
@@ -91,7 +91,7 @@ impl<'l> State<'l> {
         Ok(Effect::Clears(operator, count, mask))
     }
 
-    /// An operator that is answered.
+    /// Runs an operator that is returned to the caller.
     fn answer(&mut self, operator: Operator, behind: usize) -> Result<Effect<'l>>
         ensures value { (bytes : List ℕ) → length bytes ≡ behind →
             Does (answer_move (kind operator) operator bytes (state_of self.old)) result self.new }
@@ -180,7 +180,7 @@ impl<'l> State<'l> {
         }
     }
 
-    /// What the operator does, where so many bytes are behind it.
+    /// Runs an operator with `behind` bytes after it.
     #[inline(always)]
     pub(crate) fn act(
         &mut self,

@@ -1,4 +1,4 @@
-//! Operations that are lent, while the limit lasts.
+//! Operations within a limit.
 ghost use Rattle.std.specs.Borrow.{sem};
 ghost use Rattle.std.specs.Prelude.{◌≡◌, ◌≢◌, ◌<◌};
 ghost use Rattle.postscript_base.specs.Error.{IsListed};
@@ -14,22 +14,31 @@ use postscript_type2::Within;
 use postscript_type2::shared::Phase;
 
 impl<'l> Program<'l> {
-    /// The next operation, as `step` lends it, where the limit lasts up to it. Each number and each operator that is read takes
-    /// a unit of the limit for each of its bytes, and a `blend` one more for each operand on the stack (`specs/Costs.antt`); one
-    /// is read only while some of the limit is left, and takes the rest of it where it costs more. Where it answers `Paused` the
-    /// program still answers what it did before: any call goes on from there. A run that costs less than the limit is never
-    /// paused. Calls of `step` may be mixed with it; they keep to no limit.
+    /// Runs to the next operation, as [`Program::step`] does, within a limit of `*limit` units.
     ///
-    /// Memory is asked for as `step` does.
+    /// A number or an operator costs a unit for each of its bytes, and `blend` one more for each operand on the stack
+    /// (`specs/Costs.antt`). It is run only while the limit is above 0. If it costs more than the rest of the limit, it
+    /// takes all of the rest.
     ///
-    /// Refused: as `step` is.
+    /// After `Paused` nothing is lost: any later call goes on from there. A run that costs less than the limit is never
+    /// paused. Calls of `step` may be mixed in, and have no limit. The call allocates as `step` does.
+    ///
+    /// # Errors
+    ///
+    /// - The errors of [`Program::step`].
     #[inline(always)]
     pub fn step_within(&mut self, limit: &mut u64) -> Result<Within<'_>>
+        // Each call returns the next operation or the end, or pauses at 0, and subtracts its cost.
         ensures* steps { sem 𝓛 (LendsWithin self.entry limit.old result limit.new) }
+        // The operation is the first one that is left, with its operands.
         ensures head { IsHeadWithin self.old result }
+        // The only errors are the ones of `step`.
         ensures listed { IsListed step_refusals result }
+        // After the end, the result is the end again.
         ensures ended { self.old ≡ ended → result ≡ Ok Within.End }
+        // After an error, the result is `AlreadyFailed`.
         ensures failed { self.old ≡ failed → result ≡ Err Error.AlreadyFailed }
+        // If the rest of the run costs less than the limit, there is no pause.
         ensures suffices { cost self.old.costs < limit.old → result ≢ Ok Within.Paused }
     {
         match self.phase {
