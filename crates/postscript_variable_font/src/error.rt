@@ -1,20 +1,20 @@
-//! Why no place is made.
+//! Errors.
 ghost use Rattle.std.specs.Prelude.{◌≡◌};
 ghost use Rattle.postscript_variable_font.specs.declared.error.Error.TheVariants as errors;
 
 use std::alloc::{AllocError, AllocFailed};
 use thiserror::Error;
 
-/// What a call answers, or what it is refused with.
+/// The result of a call of this crate.
 pub type Result<T> = std::result::Result<T, Error>;
 
-/// A refusal.
+/// The reason why a call fails.
 #[derive(Debug, Drop, Error)]
 pub enum Error {
-    /// Memory was asked for and refused.
+    /// Out of memory.
     #[error("out of memory")]
     Memory,
-    /// The item variation data of this number do not stand in the store.
+    /// The item variation data with this number are missing or truncated.
     #[error("there are no item variation data {0}")]
     MissingData(usize),
 }

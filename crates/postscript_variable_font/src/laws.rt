@@ -1,16 +1,20 @@
-//! Laws of the definitions.
+//! Laws of the definitions. The functions do nothing: their clauses are the laws.
 ghost use Rattle.postscript_variable_font.specs.Nearness.{BlendsAreNear, ExactSumsAre};
 ghost use Rattle.postscript_variable_font.specs.OneRun.{HasOneRun};
 
-/// A law: the charstring of a glyph at a place has one run. It does nothing and is never refused.
+/// States that the charstring of a glyph at a location has only one run.
 pub fn one_run()
+    // Two charstrings of the same glyph at the same location have the same run.
     ensures { HasOneRun }
 {}
 
-/// Laws: with n regions, a blended value at a place is away from the exact interpolated one by n / 2 units of 1 / 65536 at most, and by
-/// half a unit more for each 65536 of a delta and each fraction among the axis scalars of its region; and there is an exact one
-/// (`specs/Nearness.antt`). It does nothing and is never refused.
+/// States that a blended value is close to the exact interpolated one (`specs/Nearness.antt`).
+///
+/// With `n` regions it is at most `n / 2` units of 1 / 65536 away, and half a unit more for each 65536 of a delta and
+/// each fraction among the axis scalars of its region. There is always an exact value.
 pub fn blends_are_near()
+    // The sum of the deltas is within the given number of half units of the exact sum.
     ensures near { BlendsAreNear }
+    // There is an exact sum for any deltas with the scalars of a location.
     ensures exact { ExactSumsAre }
 {}

@@ -1,4 +1,4 @@
-//! Glyphs of variable fonts with a table CFF2, at places of the design space (OpenType 1.9, "CFF2", "OpenType Font Variations Common
+//! Locations and glyphs of variable fonts with a `CFF2` table (OpenType 1.9, "CFF2", "OpenType Font Variations Common
 //! Table Formats").
 #![tactic(auto)]
 

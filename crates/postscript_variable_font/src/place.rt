@@ -1,4 +1,4 @@
-//! Places of the design space.
+//! Locations in the design space.
 ghost use Rattle.std.specs.Prelude.{◌≡◌, IfOk, IfErr};
 ghost use Rattle.postscript_variable_font.specs.Places.{AreScalars, AreTables, NoPlace, IsPlaceOf, NoPlaceOf};
 ghost use Rattle.postscript_variation.specs.Lent.{delta_count, table_count};
@@ -8,8 +8,10 @@ use crate::error::{Error, Result};
 use postscript_variation::{Data, Store};
 use std::alloc::Global;
 
-/// A place of the design space of a font: the scalar of each region that each item variation data of the font's store name,
-/// in units of 1 / 65536. It is made once, and serves each glyph.
+/// A location in the design space of a font.
+///
+/// It has the scalars of all regions of all item variation data of the font, in units of 1 / 65536. One location serves
+/// all glyphs.
 #[derive(Drop)]
 pub struct Place {
     /// The scalars of each item variation data.
@@ -50,12 +52,18 @@ fn tables(alloc: Global, store: &Store<'_>, coordinates: &[i16]) -> Result<Vec<V
 }
 
 impl Place {
-    /// The place of normalized coordinates, in units of 2 ^ -14, one for each axis: those that lack are 0, the default. A font
-    /// without a variation store has no scalars.
+    /// Computes the location with these normalized coordinates, in units of 2 ^ -14, one for each axis.
     ///
-    /// Refused: `MissingData` for the first item variation data that do not stand in the store; `Memory`.
+    /// Missing coordinates count as 0, the default. Without a variation store the location has no scalars.
+    ///
+    /// # Errors
+    ///
+    /// - `MissingData`: item variation data of the store are missing or truncated. The first such number is given.
+    /// - `Memory`: out of memory.
     pub fn of(alloc: Global, store: Option<&Store<'_>>, coordinates: &[i16]) -> Result<Place>
+        // The location has the scalars of all item variation data of the store, if there is one.
         ensures found { IfOk result (λ place. IsPlaceOf store.entry coordinates.now place) }
+        // An error is `Memory` or the first missing data. Without a store there is no error.
         ensures why { IfErr result (λ e. NoPlaceOf store.entry e) }
     {
         match store {
