@@ -1,4 +1,4 @@
-//! Charstrings that are drawn.
+//! Drawing of charstrings.
 ghost use Rattle.std.specs.Prelude.{◌≡◌, ◌≢◌, ◌<◌, Err, OnOk, OnErr, IfOk, IfErr};
 ghost use Rattle.postscript_drawing.specs.DrawnProgram.{DrawsFront};
 ghost use Rattle.postscript_drawing.specs.declared.error.Error.TheVariants as errors;
@@ -14,31 +14,43 @@ use postscript_type2::Within;
 use postscript_variable::{Charstring, Program};
 use std::alloc::Global;
 
-/// For how many segments there is room at first: most glyphs have fewer.
+/// The number of segments that memory is allocated for at the beginning: most glyphs have fewer.
 const ROOM: usize = 64;
 
-/// Draws what a program still answers into a sink, with the origin of the glyph at a point: gives the sink the segments, one after
-/// another, as the run comes to them, as `postscript_drawing::draw_program` does for a Type 2 charstring. The program is at its end
-/// then. At the end an open contour is closed. Takes no memory but the program's.
+/// Draws the rest of a program into a sink, with the origin of the glyph at a point.
 ///
-/// The limit bounds how long it takes: `Program::step_within` says what the run takes of it, and what is left is told. A run that
+/// The sink is given the segments in the order of the run, as by `postscript_drawing::draw_program` for a Type 2
+/// charstring. At the end an open contour is closed, and the program is at its end. Only the program allocates.
+///
+/// The run is within a limit of `*limit` units, which is reduced by its cost as in `Program::step_within`. A run that
 /// costs less than the limit is never stopped.
 ///
-/// Refused: `TooLong` where the limit is used up before the end; `Full` where the sink takes no more; `Font` with what the program
-/// is refused with, as `Program::step` is, with `Overflow` where a coordinate leaves the range, and with `Memory`. The sink has
-/// been given the segments up to there.
+/// # Errors
+///
+/// After an error the sink has the segments up to there.
+///
+/// - `TooLong`: the limit is used up before the end.
+/// - `Full`: the sink accepts no further segment.
+/// - `Font`: an error of `Program::step`, or `Overflow` if a coordinate is out of range.
 pub fn draw_program<S: Sink>(
     program: &mut Program<'_>,
     origin: Point,
     limit: &mut u64,
     sink: &mut S,
 ) -> Result<()>
+    // On success the sink was given exactly the segments of the operations, in order.
     ensures drawn { OnOk result (Gives S.after (S.state sink.old) (S.state sink.new) (IsOutlineOf origin program.old)) }
+    // An error is justified: by memory, a full sink, a limit of 0, the run or a coordinate.
     ensures why { IfErr result (λ e. IsRefused origin program.old limit.new e) }
+    // On an error the sink was given the first segments of the operations.
     ensures front { OnErr result (DrawsFront S.after origin (S.state sink.old) (S.state sink.new) program.old.answers) }
+    // The error `Full` means that the sink accepts no further segment.
     ensures full { result ≡ Err errors.Full → S.refuses (S.state sink.new) }
+    // On success the program is at its end.
     ensures ended { OnOk result (program.new ≡ ended) }
+    // The cost of everything that was read is subtracted, on success of the whole rest.
     ensures spends { IsSpent limit.old program.old.costs limit.new result }
+    // If the rest of the run costs less than the limit, the error is not `TooLong`.
     ensures suffices { cost program.old.costs < limit.old → result ≢ Err errors.TooLong }
 {
     let mut pen = Pen {
@@ -57,40 +69,58 @@ pub fn draw_program<S: Sink>(
     }
 }
 
-/// Gives the outline of a charstring to a sink, as `draw_program` gives that of its program from the origin of the glyph, in 16.16
-/// bits, in the units of the font.
+/// Draws the outline of a charstring into a sink, from the origin of the glyph, as [`draw_program`] does for a program.
 ///
-/// Refused: as `draw_program` is. The sink has been given a front of the segments.
+/// Coordinates are 16.16 numbers in font units.
+///
+/// # Errors
+///
+/// After an error the sink has the first segments.
+///
+/// - The errors of [`draw_program`].
 pub fn draw<S: Sink>(
     alloc: Global,
     charstring: Charstring<'_>,
     limit: &mut u64,
     sink: &mut S,
 ) -> Result<()>
+    // On success the sink was given exactly the segments of the charstring, in order.
     ensures drawn { OnOk result
         (Gives S.after (S.state sink.old) (S.state sink.new) (IsOutlineOf the_origin (begun (run_from charstring.entry)))) }
+    // An error is justified: by memory, a full sink, a limit of 0, the run or a coordinate.
     ensures why { IfErr result (λ e. IsRefused the_origin (begun (run_from charstring.entry)) limit.new e) }
+    // On an error the sink was given the first segments of the charstring.
     ensures front { OnErr result (DrawsFront S.after the_origin (S.state sink.old) (S.state sink.new) (run_from charstring.entry).answers) }
+    // The error `Full` means that the sink accepts no further segment.
     ensures full { result ≡ Err errors.Full → S.refuses (S.state sink.new) }
+    // The cost of everything that was read is subtracted, on success of the whole run.
     ensures spends { IsSpent limit.old (run_from charstring.entry).costs limit.new result }
+    // If the run costs less than the limit, the error is not `TooLong`.
     ensures suffices { cost (run_from charstring.entry).costs < limit.old → result ≢ Err errors.TooLong }
 {
     let mut program = charstring.program(alloc);
     draw_program(&mut program, Point::ORIGIN, limit, sink)
 }
 
-/// The segments of the outline of a charstring, as `draw` gives them.
+/// Returns the segments of the outline of a charstring, as [`draw`] gives them.
 ///
-/// Refused: as `draw` is, but never with `Full`: where its list asks for memory that is refused it is `Font` with `Memory`.
+/// # Errors
+///
+/// - The errors of [`draw`] apart from `Full`. If the list cannot grow, the error is `Font` with `Memory`.
 pub fn outline_of(
     alloc: Global,
     charstring: Charstring<'_>,
     limit: &mut u64,
 ) -> Result<Vec<Segment>>
+    // The list has exactly the segments of the charstring, in order.
     ensures drawn { IfOk result (λ segments. IsOutlineOf the_origin (begun (run_from charstring.entry)) segments.items) }
+    // An error is justified: by memory, a limit of 0, the run or a coordinate.
     ensures why { IfErr result (λ e. IsRefused the_origin (begun (run_from charstring.entry)) limit.new e) }
+    // The error is never `Full`.
     ensures memory { result ≢ Err errors.Full }
+    // The cost of everything that was read is subtracted, on success of the whole run.
     ensures spends { IsSpent limit.old (run_from charstring.entry).costs limit.new result }
+    // If the run costs less than the limit, the error is not `TooLong`.
     ensures suffices { cost (run_from charstring.entry).costs < limit.old → result ≢ Err errors.TooLong }
 {
     let mut segments = Vec::with_capacity(alloc, ROOM)?;

@@ -1,4 +1,4 @@
-//! Glyphs that are drawn.
+//! Drawing of glyphs.
 ghost use Rattle.std.specs.Prelude.{◌≡◌, ◌≢◌, Err, OnOk, OnErr, IfErr};
 ghost use Rattle.postscript_drawing.specs.declared.error.Error.TheVariants as errors;
 ghost use Rattle.postscript_variable_drawing.specs.Drawn.{Gives};
@@ -12,11 +12,18 @@ use postscript_variable_font::laws::one_run;
 use postscript_variable_font::{Place, charstring};
 use std::alloc::Global;
 
-/// Gives the outline of a glyph of a font at a place of its design space to a sink, as `draw` gives that of its charstring. The
-/// limit bounds how long it takes, and what is left of it is told; a glyph whose run costs less than the limit is never stopped.
+/// Draws a glyph of a font at a location into a sink, as [`draw`] does for its charstring.
 ///
-/// Refused: `NoSuchGlyph` where the font has no such glyph, or no Font DICT for it that stands (`Font::part`); else as `draw` is. The sink
-/// has been given a front of the segments.
+/// The run is within a limit of `*limit` units, which is reduced by its cost. A glyph whose run costs less than the
+/// limit is never stopped.
+///
+/// # Errors
+///
+/// After an error the sink has the segments up to there.
+///
+/// - `NoSuchGlyph`: there is no such glyph, or its Font DICT is missing or malformed
+///   ([`Font::part`](postscript_cff2::Font::part)).
+/// - The errors of [`draw`].
 pub fn draw_glyph<S: Sink>(
     alloc: Global,
     font: &Font<'_>,
@@ -25,11 +32,17 @@ pub fn draw_glyph<S: Sink>(
     limit: &mut u64,
     sink: &mut S,
 ) -> Result<()>
+    // On success the sink was given exactly the segments of the glyph's charstring, in order.
     ensures drawn { OnOk result (Gives S.after (S.state sink.old) (S.state sink.new) (DrawsGlyph font.now glyph place.now)) }
+    // An error is justified: the glyph has no charstring, or drawing its charstring fails.
     ensures why { IfErr result (λ e. IsGlyphUndrawn font.now glyph place.now limit.new e) }
+    // On an error the sink was given the first segments of the glyph, or none.
     ensures front { OnErr result (DrawsGlyphFront S.after (S.state sink.old) (S.state sink.new) font.now glyph place.now) }
+    // The error `Full` means that the sink accepts no further segment.
     ensures full { result ≡ Err errors.Full → S.refuses (S.state sink.new) }
+    // The cost of everything that was read is subtracted, and a missing glyph costs nothing.
     ensures spends { SpendsOnGlyph font.now glyph place.now limit.old limit.new result }
+    // If the run of the glyph costs less than the limit, the error is not `TooLong`.
     ensures suffices { SufficesFor font.now glyph place.now limit.old → result ≢ Err errors.TooLong }
 {
     one_run();

@@ -1,7 +1,8 @@
 //! Laws of the definitions.
 ghost use Rattle.postscript_variable_drawing.specs.Fitting.{RunsFit};
 
-/// A law: each operation of a run has as many operands as its operator takes. It does nothing and is never refused.
+/// States that each operation of a run has a number of operands that its operator takes. The call does nothing.
 pub fn runs_fit()
+    // Each operation of a run has a number of operands that its operator takes.
     ensures { RunsFit }
 {}

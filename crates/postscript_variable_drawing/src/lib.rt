@@ -1,5 +1,5 @@
-//! Glyphs of variable fonts drawn: the segments that the operations of a charstring of CFF2 draw, by the pen that draws those of
-//! Type 2 charstrings (OpenType 1.9, "CFF2 CharString Format", "Path Construction Operators").
+//! Draws the glyphs of variable fonts (OpenType 1.9, "CFF2 CharString Format", "Path Construction Operators"). The pen
+//! is the one for Type 2 charstrings.
 #![tactic(auto)]
 
 mod drawing;
