@@ -10,8 +10,8 @@ pub fn one_run()
 
 /// States that a blended value is close to the exact interpolated one (`specs/Nearness.antt`).
 ///
-/// With `n` regions it is at most `n / 2` units of 1 / 65536 away, and half a unit more for each 65536 of a delta and
-/// each fraction among the axis scalars of its region. There is always an exact value.
+/// With `n` regions it is at most `n / 2` units of 1 / 65536 away. It may be half a unit more for each 65536 of a delta
+/// and each fraction among the axis scalars of its region. There is always an exact value.
 pub fn blends_are_near()
     // The sum of the deltas is within the given number of half units of the exact sum.
     ensures near { BlendsAreNear }
