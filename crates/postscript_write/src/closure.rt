@@ -1,4 +1,4 @@
-//! The glyphs that are kept with those that are named: what accented ones are drawn with.
+//! The glyphs of a subset: the named ones, and the components of `seac` glyphs.
 ghost use Rattle.std.specs.Prelude.{◌≡◌, ◌<◌, ◌↔◌, ℕ, [], ◌∷◌, List, true, length, IfOk, IfErr, OnOk};
 ghost use Rattle.std.specs.List.{Contains};
 ghost use Rattle.postscript_drawing.specs.Components.{glyphs_of};
@@ -15,7 +15,7 @@ use crate::sources::unmarked;
 use postscript_view::FontView;
 use std::alloc::Global;
 
-/// Appends a glyph and marks it, where it is not marked.
+/// Appends and marks a glyph that is not marked.
 fn reach(marks: &mut Vec<bool>, glyphs: &mut Vec<usize>, glyph: usize) -> Result<()>
     requires there { glyph < length marks.old.items }
     requires marked { AreMarkedAs marks.old.items glyphs.old.items }
@@ -29,7 +29,7 @@ fn reach(marks: &mut Vec<bool>, glyphs: &mut Vec<usize>, glyph: usize) -> Result
     Ok(())
 }
 
-/// The same with each of some more.
+/// The same with each glyph of a list.
 fn reach_all(marks: &mut Vec<bool>, glyphs: &mut Vec<usize>, added: &[usize]) -> Result<()>
     requires marked { AreMarkedAs marks.old.items glyphs.old.items }
     ensures grown { OnOk result (Grow marks.old.items glyphs.old.items added.now marks.new.items glyphs.new.items) }
@@ -68,7 +68,7 @@ fn reach_components(
     reach_all(marks, glyphs, &components)
 }
 
-/// Appends the components of the glyphs, theirs, and so on. Each glyph comes once, since it is marked.
+/// Appends the components of the glyphs, their components, and so on. Marks keep each glyph from being repeated.
 fn follow(
     alloc: Global,
     font: &FontView<'_>,
@@ -92,7 +92,7 @@ fn follow(
     Ok(())
 }
 
-/// The glyphs that are named, `.notdef`, and those that these are drawn with.
+/// The named glyphs, `.notdef`, and all their components.
 pub(crate) fn closed_over(alloc: Global, font: &FontView<'_>, named: &[usize]) -> Result<Vec<usize>>
     requires some { 0 < length named.now }
     ensures closed { IfOk result (λ closed. (glyph : ℕ) → (is_kept closed.items glyph ≡ true) ↔ IsReached font.now named.now glyph) }

@@ -1,4 +1,4 @@
-//! The components of accented glyphs, which are kept with them (Technical Note 5177, Appendix C).
+//! The components of `seac` glyphs, which are kept with them (Technical Note 5177, Appendix C).
 ghost use Rattle.std.specs.Prelude.{◌≡◌, ◌⊎◌, ◌++◌, ℕ, List, Option, Some, IfOk, IfErr, OnOk, MatchOption, option_to_list};
 ghost use Rattle.postscript_drawing.specs.Accents.{IsAccent, run_by};
 ghost use Rattle.postscript_drawing.specs.declared.accent.Accent.{Accent as AnAccent};
@@ -17,7 +17,7 @@ use postscript_type2::{Operand, Program};
 use postscript_view::{FontView, Glyph};
 use std::alloc::Global;
 
-/// Runs a program up to its end.
+/// Runs a program to its end.
 fn run_to_end(program: &mut Program<'_>) -> postscript_base::Result<()>
     ensures taken { OnOk result (told_at_end program.new ≡ taken_by program.old.end) }
     ensures refused { IfErr result (λ e. (e ≡ causes.Memory) ⊎ (fault_of program.old.end ≡ Some (refusal_of e))) }
@@ -30,7 +30,7 @@ fn run_to_end(program: &mut Program<'_>) -> postscript_base::Result<()>
     }
 }
 
-/// What operands of `endchar` name, where they name a base and an accent.
+/// The codes of base and accent in the operands of `endchar`, if it has them.
 fn named_by(operands: &[Operand]) -> Option<Accent>
     ensures { MatchOption result ((accent : AnAccent) → IsAccent operands.now accent → ⊥) (λ accent. IsAccent operands.now accent) }
 {
@@ -40,8 +40,8 @@ fn named_by(operands: &[Operand]) -> Option<Accent>
     }
 }
 
-/// What the run of a glyph names, where it is accented. A run that is refused names nothing: that is told where its code is
-/// written.
+/// The codes of base and accent of a `seac` glyph, by its run. A run that fails gives none: its error is reported when
+/// its charstring is written.
 fn said_by(alloc: Global, glyph: &Glyph<'_, '_>) -> Result<Option<Accent>>
     ensures said { IfOk result (λ found. IsSaid found (run_by glyph.now)) }
     ensures memory { IfErr result (λ e. e ≡ errors.Refused causes.Memory) }
@@ -54,7 +54,7 @@ fn said_by(alloc: Global, glyph: &Glyph<'_, '_>) -> Result<Option<Accent>>
     }
 }
 
-/// What a glyph of a font names, where it is accented.
+/// The codes of base and accent of a glyph, if it is a `seac` glyph.
 fn accent_of(alloc: Global, font: &FontView<'_>, glyph: usize) -> Result<Option<Accent>>
     ensures said { IfOk result (λ found. IsSaidOf font.now glyph found) }
     ensures memory { IfErr result (λ e. e ≡ errors.Refused causes.Memory) }
@@ -65,7 +65,7 @@ fn accent_of(alloc: Global, font: &FontView<'_>, glyph: usize) -> Result<Option<
     }
 }
 
-/// The glyph of a code, where the font has one: all names are looked through.
+/// The glyph with a code, if the font has one, by a search through all names.
 fn look_up(font: &FontView<'_>, code: u8) -> Result<Option<usize>>
     ensures found { IfOk result (λ found. IsFound font.now code found) }
     ensures untold { IfErr result (λ e. IsUntold font.now e) }
@@ -83,7 +83,7 @@ fn look_up(font: &FontView<'_>, code: u8) -> Result<Option<usize>>
     }
 }
 
-/// None of the codes has been looked up.
+/// A list of codes without any result.
 pub(crate) fn none_known(alloc: Global) -> Result<Vec<Option<Option<usize>>>>
     ensures known { IfOk result (λ known. (font : FontView) → AreKnown font known.items) }
     ensures memory { IfErr result (λ e. e ≡ errors.Refused causes.Memory) }
@@ -91,7 +91,7 @@ pub(crate) fn none_known(alloc: Global) -> Result<Vec<Option<Option<usize>>>>
     Ok(vec![in alloc; None; 256]?)
 }
 
-/// The glyph of a code, where the font has one. It is looked up once, and then known.
+/// The glyph with a code, if the font has one. Each code is searched once.
 fn found_by(
     font: &FontView<'_>,
     code: u8,
@@ -111,7 +111,7 @@ fn found_by(
     Ok(found)
 }
 
-/// Appends a glyph, where there is one.
+/// Appends a glyph, if there is one.
 fn push_some(components: &mut Vec<usize>, found: Option<usize>) -> Result<()>
     ensures pushed { OnOk result (components.new.items ≡ components.old.items ++ option_to_list found) }
     ensures memory { IfErr result (λ e. e ≡ errors.Refused causes.Memory) }
@@ -122,7 +122,7 @@ fn push_some(components: &mut Vec<usize>, found: Option<usize>) -> Result<()>
     Ok(())
 }
 
-/// Appends the base and the accent: those that the font has.
+/// Appends the base and the accent, if the font has them.
 fn push_both(
     font: &FontView<'_>,
     accent: &Accent,
@@ -141,7 +141,7 @@ fn push_both(
     push_some(components, above)
 }
 
-/// Appends the components of a glyph: those that the font has.
+/// Appends the components of a glyph that the font has.
 pub(crate) fn push_components(
     alloc: Global,
     font: &FontView<'_>,

@@ -1,4 +1,4 @@
-//! Dictionaries, written (Technical Note 5176, "DICT Data").
+//! Writes DICT data (Technical Note 5176, "DICT Data").
 ghost use Rattle.std.specs.Prelude.{All, ◌≡◌, ◌↔◌, ◌≢◌, ◌⊎◌, IsTrue, None, ◌≤◌, ◌<◌, ◌+◌, ◌*◌, ◌^◌, ◌++◌, List, [], ◌∷◌, length, IfErr, IfOk, IfSome, OnOk, ℕ, map};
 ghost use Rattle.std.specs.List.{Contains};
 ghost use Rattle.postscript_base.specs.Tape.Outcome.{Got, RefusedAs};
@@ -18,7 +18,7 @@ use postscript_base::{Error, Result, Value};
 use std::alloc::Global;
 use std::io::Cursor;
 
-/// The operator of the next operation. None where the end cuts it.
+/// The operator of the next operation. `None` if it is truncated.
 fn next_operator(alloc: Global, tape: &mut Cursor<&[u8]>) -> Result<Option<Operator>>
     ensures found { IfOk result (λ found. IfSome found (λ operator. (operands : List Decimal)
         × (operation tape.old.inner.now tape.old.pos ≡ Got (operator, operands) tape.new.pos))) }
@@ -66,7 +66,7 @@ fn put_integers(out: &mut Vec<u8>, numbers: &[usize]) -> Result<()>
     Ok(())
 }
 
-/// The code of one byte of an operator that names places or a string.
+/// The code of an operator of one byte with an offset or an SID.
 #[tactic(auto, unfolding(postscript_base::specs::Compact1::Operators::operator_of))]
 fn code_of(operator: Operator) -> Option<u8>
     ensures code { IfSome result (λ code. IsCode code operator) }
@@ -89,7 +89,7 @@ fn code_of(operator: Operator) -> Option<u8>
     }
 }
 
-/// The second byte of the code of another operator that names places or a string.
+/// The second byte of an operator of two bytes with an offset or an SID.
 #[tactic(auto, unfolding(postscript_base::specs::Compact1::Operators::operator_of))]
 fn second_of(operator: Operator) -> Option<u8>
     ensures code { IfSome result (λ second. IsEscaped second operator) }
@@ -108,7 +108,7 @@ fn second_of(operator: Operator) -> Option<u8>
     }
 }
 
-/// Appends an operation of an operator of one byte.
+/// Appends an operation with an operator of one byte.
 fn put_short(out: &mut Vec<u8>, numbers: &[usize], operator: Operator, code: u8) -> Result<()>
     requires { IsCode code operator }
     ensures sized { OnOk result (length out.new.items ≡ length out.old.items + (5 * length numbers.now + 1)) }
@@ -122,7 +122,7 @@ fn put_short(out: &mut Vec<u8>, numbers: &[usize], operator: Operator, code: u8)
     Ok(())
 }
 
-/// Appends an operation of an operator of two bytes.
+/// Appends an operation with an operator of two bytes.
 fn put_escaped(out: &mut Vec<u8>, numbers: &[usize], operator: Operator, second: u8) -> Result<()>
     requires { IsEscaped second operator }
     ensures sized { OnOk result (length out.new.items ≡ length out.old.items + (5 * length numbers.now + 2)) }
@@ -137,9 +137,13 @@ fn put_escaped(out: &mut Vec<u8>, numbers: &[usize], operator: Operator, second:
     Ok(())
 }
 
-/// Appends an operation, where the bytes so far are operations: integers, and an operator that names places or a string.
+/// Appends an operation to operations: integers, and an operator with an offset or an SID.
 ///
-/// Refused: `MissingOperation` for another operator; `OutOfRangeOffset` for a number of more than 31 bits; `Memory`.
+/// # Errors
+///
+/// - `MissingOperation`: the operator is not such an operator.
+/// - `OutOfRangeOffset`: a number has more than 31 bits.
+/// - `Memory`: out of memory.
 pub fn put_operation(out: &mut Vec<u8>, numbers: &[usize], operator: Operator) -> Result<()>
     ensures refused { IfErr result (λ e. e ≢ errors.Memory → IsWritable operator → AreHeld numbers.now → ⊥) }
     ensures sized { OnOk result (length out.new.items ≡ length out.old.items + operation_size numbers.now operator) }
@@ -155,7 +159,7 @@ pub fn put_operation(out: &mut Vec<u8>, numbers: &[usize], operator: Operator) -
     }
 }
 
-/// A place that an operator of a dictionary names, or the identifier of a string, as its offset.
+/// An operator of a DICT with an offset or an SID, and with a size if it has one.
 #[derive(Clone, Copy)]
 pub(crate) struct Place {
     pub(crate) operator: Operator,
@@ -163,7 +167,7 @@ pub(crate) struct Place {
     pub(crate) offset: usize,
 }
 
-/// Appends the operation of a place.
+/// Appends the operation of an offset.
 fn put_place(out: &mut Vec<u8>, place: &Place) -> Result<()>
     ensures refused { IfErr result (λ e. e ≢ errors.Memory → IsHeld place.now → ⊥) }
     ensures sized { OnOk result (length out.new.items ≡ length out.old.items + place_size place.now) }
@@ -177,7 +181,7 @@ fn put_place(out: &mut Vec<u8>, place: &Place) -> Result<()>
     }
 }
 
-/// Appends the operations of places to those that the bytes are.
+/// Appends the operations of offsets to operations.
 fn put_places(out: &mut Vec<u8>, places: &[Place]) -> Result<()>
     ensures refused { IfErr result (λ e. e ≢ errors.Memory → All IsHeld places.now → ⊥) }
     ensures sized { OnOk result (length out.new.items ≡ length out.old.items + places_size places.now) }
@@ -191,7 +195,7 @@ fn put_places(out: &mut Vec<u8>, places: &[Place]) -> Result<()>
     Ok(())
 }
 
-/// Whether an operator is one of these.
+/// Whether an operator is in a list.
 fn is_among(operator: Operator, operators: &[Operator]) -> bool
     ensures { IsTrue result ↔ Contains operators.now operator }
 {
@@ -203,7 +207,7 @@ fn is_among(operator: Operator, operators: &[Operator]) -> bool
     false
 }
 
-/// Appends an operation, where its operator is none of these.
+/// Appends an operation unless its operator is in a list.
 fn put_unless(
     out: &mut Vec<u8>,
     operation: &[u8],
@@ -220,7 +224,7 @@ fn put_unless(
     Ok(())
 }
 
-/// The whole operations that bytes are, as they are spelled, without those of some operators.
+/// The whole operations of a DICT as they are encoded, without some operators.
 pub(crate) fn without(alloc: Global, text: &[u8], left_out: &[Operator]) -> Result<Vec<u8>>
     ensures left { IfOk result (λ out. IsWithout text.now left_out.now out.items) }
     ensures text { IfOk result (λ out. IsLeftText text.now left_out.now 0 out.items) }
@@ -237,7 +241,7 @@ pub(crate) fn without(alloc: Global, text: &[u8], left_out: &[Operator]) -> Resu
     Ok(out)
 }
 
-/// The bytes of whole operations, and behind them the operations of places.
+/// The bytes of whole operations, followed by the operations of offsets.
 fn followed_by(rest: Vec<u8>, places: &[Place]) -> Result<Vec<u8>>
     ensures refused { IfErr result (λ e. e ≢ errors.Memory → All IsHeld places.now → ⊥) }
     ensures sized { IfOk result (λ out. length out.items ≡ length rest.items + places_size places.now) }
@@ -250,7 +254,7 @@ fn followed_by(rest: Vec<u8>, places: &[Place]) -> Result<Vec<u8>>
     Ok(out)
 }
 
-/// The operators of places.
+/// The operators of offsets.
 fn operators_of(alloc: Global, places: &[Place]) -> Result<Vec<Operator>>
     ensures are { IfOk result (λ operators. operators.items ≡ map (λ place. place.operator) places.now) }
     ensures memory { IfErr result (λ e. e ≡ errors.Memory) }
@@ -262,7 +266,7 @@ fn operators_of(alloc: Global, places: &[Place]) -> Result<Vec<Operator>>
     Ok(operators)
 }
 
-/// A dictionary with places in the place of those that it names by the same operators.
+/// A DICT with new offsets instead of the old ones of the same operators.
 pub(crate) fn with_places(alloc: Global, text: &[u8], places: &[Place]) -> Result<Vec<u8>>
     ensures placed { IfOk result (λ out. (old : Dictionary) → IsDictionary text.now 0 old →
         (new : Dictionary) × IsDictionary out.items 0 new × IsPlaced old places.now new) }

@@ -1,4 +1,4 @@
-//! What writing is refused with.
+//! Errors.
 ghost use Rattle.std.specs.Prelude.{◌≡◌, ◌≢◌};
 ghost use Rattle.postscript_base.specs.declared.error.Error.TheVariants as causes;
 ghost use Rattle.postscript_write.specs.declared.error.Error.TheVariants as errors;
@@ -7,40 +7,40 @@ use postscript_base::Error as Cause;
 use std::alloc::{AllocError, AllocFailed};
 use thiserror::Error;
 
-/// What a call answers, or the error that it is refused with.
+/// The result of a call of this crate.
 pub type Result<T> = std::result::Result<T, Error>;
 
-/// A refusal.
+/// The reason why no font is written.
 #[derive(Debug, Drop, Error)]
 pub enum Error {
-    /// The font is refused, or its char set or encoding. Also memory that was refused (`Memory`).
+    /// The font, its charset or its encoding is malformed. Also `Memory`: out of memory.
     #[error("{0}")]
     Refused(Cause),
-    /// The run of the glyph of this number is refused, and this is why.
+    /// The charstring of the glyph with this number fails, for this reason.
     #[error("glyph {0}: {1}")]
     Glyph(usize, Cause),
-    /// The font set has several fonts, or none.
+    /// The font set does not have exactly one font.
     #[error("the font set has not one font")]
     SeveralFonts,
-    /// The font has no glyph of this number.
+    /// The font has no glyph with this number.
     #[error("there is no glyph {0}")]
     MissingGlyph(usize),
-    /// FDSelect gives the glyph of this number no font dictionary that stands.
+    /// FDSelect gives the glyph with this number no Font DICT of the font.
     #[error("glyph {0} has no font dictionary")]
     MissingPart(usize),
-    /// The char set has no identifier for the glyph of this number.
+    /// The charset has no SID or CID for the glyph with this number.
     #[error("glyph {0} has no name")]
     MissingName(usize),
-    /// No glyphs are named.
+    /// The list of glyphs is empty.
     #[error("no glyphs are named")]
     NoGlyphs,
-    /// What is to be written is too large: the codes, names and strings, and four times the bytes that the font is read from, are
-    /// 2,000,000,000 bytes or more together.
+    /// The font is too large. The limit is 2,000,000,000 bytes for the sum of the new charstrings, the names, the
+    /// strings, and four times the size of the input.
     #[error("the font is too large to be written")]
     TooLarge,
 }
 
-/// A refusal of a font: `Refused`. Never refused.
+/// Converts an error of reading to `Refused`.
 impl From<Cause> for Error {
     ghost from_gives = { λ fault e. e ≡ errors.Refused fault };
 
@@ -49,7 +49,7 @@ impl From<Cause> for Error {
     }
 }
 
-/// Memory that was refused: `Refused`. Never refused.
+/// Converts a failed allocation to `Refused`.
 impl From<AllocError> for Error {
     ghost from_gives = { λ _ e. e ≡ errors.Refused causes.Memory };
 
@@ -58,7 +58,7 @@ impl From<AllocError> for Error {
     }
 }
 
-/// Memory that was refused to a call that hands its value back: `Refused`. Never refused.
+/// Converts a failed allocation that returns its value to `Refused`.
 impl<T: Drop> From<AllocFailed<T>> for Error {
     ghost from_gives = { λ _ e. e ≡ errors.Refused causes.Memory };
 
@@ -67,7 +67,7 @@ impl<T: Drop> From<AllocFailed<T>> for Error {
     }
 }
 
-/// The refusal where nothing but memory can be refused.
+/// The error of a step that can only run out of memory.
 pub(crate) fn of_memory(fault: Cause) -> Error
     ensures memory { (fault ≢ causes.Memory → ⊥) → result ≡ errors.Refused causes.Memory }
 {

@@ -1,4 +1,4 @@
-//! Fonts that are made of glyphs of other fonts.
+//! Fonts without subroutines, and subsets.
 ghost use Rattle.std.specs.Prelude.{◌≡◌, ◌<◌, ◌^◌, [], true, false, Err, length, IfOk, IfErr, OnOk};
 ghost use Rattle.postscript_base.specs.Index.Lent.{items_of};
 ghost use Rattle.postscript_base.specs.Tape.Outcome.{Got};
@@ -44,22 +44,36 @@ fn only_font<'l>(alloc: Global, bytes: &'l [u8]) -> Result<FontView<'l>>
     Ok(font)
 }
 
-/// The font that the bytes begin with, written anew without subroutines. Each glyph, over any subroutines, draws what it drew,
-/// with the same advance, name or CID, and codes. Names, strings and dictionaries say the same, except of places. Where
-/// `FontSet::read_lenient` reads the font, it reads what is written too.
+/// Writes the font at the beginning of the bytes again, desubroutinized (no calls).
 ///
-/// Refused: `Glyph` with the first glyph whose run is refused, and why; `Refused` where the font, its char set or its encoding is
-/// refused, or where memory is; `MissingPart` where FDSelect gives a glyph no font dictionary; `SeveralFonts` where there is
-/// not one font; `TooLarge` where the new codes, the names and the strings, and four times the bytes that the font is read from, are
-/// 2,000,000,000 bytes or more together.
+/// Each glyph draws the same outline, also with any other subroutines, and keeps its advance width, its name or CID,
+/// and its codes. Names, strings and DICTs keep their content, apart from offsets. If `FontSet::read_lenient` reads the
+/// font, it also reads the new one.
+///
+/// # Errors
+///
+/// - `Glyph`: the charstring of a glyph fails. The error has the first such glyph and the cause.
+/// - `Refused`: the font, its charset or its encoding is malformed, or out of memory.
+/// - `MissingPart`: FDSelect gives a glyph no Font DICT.
+/// - `SeveralFonts`: the font set does not have exactly one font.
+/// - `TooLarge`: the new charstrings, the names, the strings, and four times the input have 2,000,000,000 bytes or more
+///   together.
 pub fn flat_font(alloc: Global, bytes: &[u8]) -> Result<Vec<u8>>
+    // Each glyph is drawn with the same segments and width as before, or not at all as before.
     ensures drawn { IfOk result (λ flat. KeepsDrawings the_every bytes.now flat.items) }
+    // Each glyph has its old code without calls, its advance width, and its name or CID.
     ensures same { IfOk result (λ flat. KeepsGlyphs the_every bytes.now flat.items) }
+    // The new font has the old glyphs under their numbers and no subroutines, and is well formed.
     ensures written { IfOk result (λ flat. IsWritten IsKeptFont the_every bytes.now flat.items) }
+    // The output has no bytes outside the parts of the font.
     ensures whole { IfOk result (λ flat. IsWholeFont flat.items) }
+    // The sizes stay below the limit of `TooLarge`.
     ensures small { IfOk result (λ flat. IsSmall bytes.now flat.items) }
+    // If the lenient reading accepts the old font, it accepts the new one.
     ensures lenient { IfOk result (λ flat. HasLenientFont bytes.now → HasLenientFont flat.items) }
+    // A success means that the font set has exactly one font.
     ensures one { OnOk result (the_fonts bytes.now 0 ≡ Got 1 0) }
+    // An error is justified by the font set, the font or the first bad glyph, or it is `Memory`.
     ensures refused { IfErr result (λ e. IsRefusedBy the_every bytes.now e) }
 {
     let font = only_font(alloc, bytes)?;
@@ -67,17 +81,27 @@ pub fn flat_font(alloc: Global, bytes: &[u8]) -> Result<Vec<u8>>
     font_of(alloc, &font, &sources, true)
 }
 
-/// The glyphs that `subset` and `subset_keeping` keep of the font that the bytes begin with, in ascending order, none twice:
-/// `.notdef`, those that are named, and the base and the accent of each one that is kept and accented. The first of them is glyph 0
-/// of what `subset` writes, the second is glyph 1, and so on.
+/// Returns the glyphs that [`subset`] and [`subset_keeping`] keep, in ascending order.
 ///
-/// Refused: `NoGlyphs` where none is named; `MissingGlyph` with a number that no glyph has; `Refused` where the font or its char
-/// set is refused, or where memory is; `SeveralFonts` where there is not one font.
+/// They are `.notdef`, the glyphs in `named`, and the components of each kept `seac` glyph (a glyph whose `endchar` has
+/// four operands). The first one is glyph 0 in the font that [`subset`] writes, the second one is glyph 1, and so on.
+///
+/// # Errors
+///
+/// - `NoGlyphs`: `named` is empty.
+/// - `MissingGlyph`: the font has no glyph with this number.
+/// - `Refused`: the font or its charset is malformed, or out of memory.
+/// - `SeveralFonts`: the font set does not have exactly one font.
 pub fn kept_glyphs(alloc: Global, bytes: &[u8], named: &[usize]) -> Result<Vec<usize>>
+    // The list has `.notdef`, the named glyphs and all components of listed ones, ascending.
     ensures kept { IfOk result (λ kept. AreKept named.now bytes.now kept.items) }
+    // A success means that the font set has exactly one font.
     ensures one { OnOk result (the_fonts bytes.now 0 ≡ Got 1 0) }
+    // An error is justified by the list, the font set or the font, or it is `Memory`.
     ensures refused { IfErr result (λ e. IsChoiceRefusedBy named.now bytes.now e) }
+    // A success means that the font has all named glyphs.
     ensures there { OnOk result ((font : View) → IsLaidOut bytes.now 0 font → AreThere named.now (length font.char_strings)) }
+    // Without named glyphs the error is `NoGlyphs`.
     ensures none { named.now ≡ [] → result ≡ Err errors.NoGlyphs }
 {
     if named.len() == 0 {
@@ -88,7 +112,7 @@ pub fn kept_glyphs(alloc: Global, bytes: &[u8], named: &[usize]) -> Result<Vec<u
     kept_of(alloc, &closed, font.char_strings.len())
 }
 
-/// What `subset` answers, or `subset_keeping`, where glyphs keep their numbers.
+/// Makes a subset. `retain_gids` is set if glyphs keep their numbers.
 fn subset_by(alloc: Global, bytes: &[u8], named: &[usize], retain_gids: bool) -> Result<Vec<u8>>
     ensures written { IfOk result (λ flat. IsSubset (IsFontBy retain_gids) (choice_by retain_gids) named.now bytes.now flat.items) }
     ensures whole { IfOk result (λ flat. IsWholeFont flat.items) }
@@ -108,46 +132,80 @@ fn subset_by(alloc: Global, bytes: &[u8], named: &[usize], retain_gids: bool) ->
     font_of(alloc, &font, &sources, retain_gids)
 }
 
-/// The font that the bytes begin with, with these glyphs alone: `.notdef`, those that are named, and the base and the accent of each
-/// one that is kept and accented (Technical Note 5177, Appendix C), in ascending order, without subroutines. The order in which they
-/// are named, and whether one is named twice, does not matter. Each glyph is drawn as before, with its components, with the same
-/// advance and name or CID. A component that no glyph of the font is, is not kept, and the glyph cannot be drawn, as before.
-/// Names and dictionaries say the same, except of places; an encoding of the font's own gives way to the standard one. Strings that
-/// neither a glyph nor an operator of the font's dictionary names are left out, and the others get new identifiers, but in a CID-keyed
-/// font (Technical Note 5176, sections 9, 10 and 13). Where `FontSet::read_lenient` reads the font, it reads what is written too.
+/// Writes the font at the beginning of the bytes with only some glyphs, desubroutinized.
 ///
-/// Refused: `NoGlyphs` where none is named; `MissingGlyph` with a number that no glyph has; `MissingName` where the char set
-/// has no identifier for a glyph; and as `flat_font` is, but only for these glyphs.
+/// The glyphs are the ones of [`kept_glyphs`]: `.notdef`, the glyphs in `named`, and the components of each kept `seac`
+/// glyph (Technical Note 5177, Appendix C). They are in ascending order. The order of `named` and repeated numbers do
+/// not matter.
+///
+/// Each glyph is drawn as before, with its components, its advance width, and its name or CID. A component that the
+/// font lacks is not kept, and such a glyph still cannot be drawn. Names and DICTs keep their content, apart from
+/// offsets. A custom encoding is replaced by the standard encoding.
+///
+/// Only strings of a kept glyph or of an operator of the Top DICT are written, and they get new SIDs. A CID-keyed font keeps
+/// all strings (Technical Note 5176, sections 9, 10 and 13). If `FontSet::read_lenient` reads the font, it also reads the
+/// new one.
+///
+/// # Errors
+///
+/// - `NoGlyphs`: `named` is empty.
+/// - `MissingGlyph`: the font has no glyph with this number.
+/// - `MissingName`: the charset has no SID or CID for a kept glyph.
+/// - The errors of [`flat_font`], but only for the kept glyphs.
 pub fn subset(alloc: Global, bytes: &[u8], named: &[usize]) -> Result<Vec<u8>>
+    // Each kept glyph is drawn with the same segments and width as before.
     ensures drawn { IfOk result (λ flat. DrawsKept the_chosen named.now bytes.now flat.items) }
+    // Each kept glyph has its old code without calls, its advance width, and its name or CID.
     ensures same { IfOk result (λ flat. GlyphsKept the_chosen named.now bytes.now flat.items) }
+    // The new font is well formed and has exactly the kept glyphs, in ascending order.
     ensures written { IfOk result (λ flat. IsSubset IsCutFont the_chosen named.now bytes.now flat.items) }
+    // The output has no bytes outside the parts of the font.
     ensures whole { IfOk result (λ flat. IsWholeFont flat.items) }
+    // The sizes stay below the limit of `TooLarge`.
     ensures small { IfOk result (λ flat. IsSmall bytes.now flat.items) }
+    // If the lenient reading accepts the old font, it accepts the new one.
     ensures lenient { IfOk result (λ flat. HasLenientFont bytes.now → HasLenientFont flat.items) }
+    // A success means that the font set has exactly one font.
     ensures one { OnOk result (the_fonts bytes.now 0 ≡ Got 1 0) }
+    // An error is justified by the list, the font or the first bad kept glyph, or is `Memory`.
     ensures refused { IfErr result (λ e. IsSubsetRefusedBy named.now the_chosen bytes.now e) }
+    // A success means that the font has all named glyphs.
     ensures there { OnOk result ((font : View) → IsLaidOut bytes.now 0 font → AreThere named.now (length font.char_strings)) }
+    // Without named glyphs the error is `NoGlyphs`.
     ensures none { named.now ≡ [] → result ≡ Err errors.NoGlyphs }
 {
     subset_by(alloc, bytes, named, false)
 }
 
-/// As `subset`, but each glyph keeps its number: the glyphs between those that are kept are empty (`endchar`), and keep their
-/// names or CIDs. The encoding and the strings stay as they are.
+/// Writes the same glyphs as [`subset`], but each keeps its number.
 ///
-/// Refused: `NoGlyphs` where none is named; `MissingGlyph` with a number that no glyph has; and as `flat_font` is, but only for
-/// these glyphs.
+/// All other glyphs are empty (`endchar`), and keep their names or CIDs. The encoding and the strings are unchanged.
+///
+/// # Errors
+///
+/// - `NoGlyphs`: `named` is empty.
+/// - `MissingGlyph`: the font has no glyph with this number.
+/// - The errors of [`flat_font`], but only for the kept glyphs.
 pub fn subset_keeping(alloc: Global, bytes: &[u8], named: &[usize]) -> Result<Vec<u8>>
+    // Each kept glyph is drawn with the same segments and width as before.
     ensures drawn { IfOk result (λ flat. DrawsKept the_keeping named.now bytes.now flat.items) }
+    // Each kept glyph has its old code without calls, its advance width, and its name or CID.
     ensures same { IfOk result (λ flat. GlyphsKept the_keeping named.now bytes.now flat.items) }
+    // The new font is well formed and has all glyph numbers: kept glyphs, and empty ones.
     ensures written { IfOk result (λ flat. IsSubset IsKeptFont the_keeping named.now bytes.now flat.items) }
+    // The output has no bytes outside the parts of the font.
     ensures whole { IfOk result (λ flat. IsWholeFont flat.items) }
+    // The sizes stay below the limit of `TooLarge`.
     ensures small { IfOk result (λ flat. IsSmall bytes.now flat.items) }
+    // If the lenient reading accepts the old font, it accepts the new one.
     ensures lenient { IfOk result (λ flat. HasLenientFont bytes.now → HasLenientFont flat.items) }
+    // A success means that the font set has exactly one font.
     ensures one { OnOk result (the_fonts bytes.now 0 ≡ Got 1 0) }
+    // An error is justified by the list, the font or the first bad kept glyph, or is `Memory`.
     ensures refused { IfErr result (λ e. IsSubsetRefusedBy named.now the_keeping bytes.now e) }
+    // A success means that the font has all named glyphs.
     ensures there { OnOk result ((font : View) → IsLaidOut bytes.now 0 font → AreThere named.now (length font.char_strings)) }
+    // Without named glyphs the error is `NoGlyphs`.
     ensures none { named.now ≡ [] → result ≡ Err errors.NoGlyphs }
 {
     subset_by(alloc, bytes, named, true)

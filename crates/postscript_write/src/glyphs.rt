@@ -1,4 +1,4 @@
-//! The codes of glyphs, without calls.
+//! The charstrings of glyphs without calls.
 ghost use Rattle.std.specs.Prelude.{◌≡◌, ◌≢◌, ◌⊎◌, ◌<◌, ℕ, [], ◌∷◌, Some, length, IfOk, IfErr, OnOk};
 ghost use Rattle.postscript_base.specs.declared.error.Error.TheVariants as causes;
 ghost use Rattle.postscript_type2.specs.Program.Routines.{texts};
@@ -16,7 +16,7 @@ use postscript_type2::{Charstring, Subroutines};
 use postscript_view::FontView;
 use std::alloc::Global;
 
-/// The number of the part of the glyph that a glyph is made of.
+/// The number of the Font DICT of a source glyph.
 fn number_of(font: &FontView<'_>, source: Option<usize>) -> Result<usize>
     ensures number { IfOk result (λ number. ShowsPartFor font.now.bytes.now (view_shown font.now) source number) }
     ensures there { OnOk result (IsGlyph source (length (items_of font.now.char_strings))) }
@@ -32,7 +32,7 @@ fn number_of(font: &FontView<'_>, source: Option<usize>) -> Result<usize>
     }
 }
 
-/// The numbers of the parts of glyphs.
+/// The numbers of the Font DICTs of source glyphs.
 pub(crate) fn numbers_of(
     alloc: Global,
     font: &FontView<'_>,
@@ -50,7 +50,7 @@ pub(crate) fn numbers_of(
     Ok(numbers)
 }
 
-/// The refusal of a glyph, running out of memory aside.
+/// The error of a glyph, apart from running out of memory.
 fn refusal(glyph: usize, cause: Cause) -> Error
     ensures { (result ≡ errors.Refused causes.Memory) ⊎ ((cause ≢ causes.Memory) × (result ≡ errors.Glyph glyph cause)) }
 {
@@ -60,7 +60,7 @@ fn refusal(glyph: usize, cause: Cause) -> Error
     }
 }
 
-/// The code as it is written: where it has no byte, 0 and `drop`, since `FontSet` reads no INDEX with items of no bytes.
+/// The charstring to write. An empty one becomes `0 drop`, since `FontSet` rejects an INDEX with empty items.
 fn never_empty(code: Vec<u8>) -> Result<Vec<u8>>
     ensures code { IfOk result (λ written. written.items ≡ code_text code.items) }
     ensures memory { IfErr result (λ e. e ≡ errors.Refused causes.Memory) }
@@ -72,7 +72,7 @@ fn never_empty(code: Vec<u8>) -> Result<Vec<u8>>
     Ok(written)
 }
 
-/// The code of a glyph without calls.
+/// The charstring of a glyph without calls.
 fn flat_code(alloc: Global, font: &FontView<'_>, glyph: usize, number: usize) -> Result<Vec<u8>>
     requires glyph { glyph < length (items_of font.now.char_strings) }
     requires part { number < length font.now.parts.items }
@@ -88,7 +88,7 @@ fn flat_code(alloc: Global, font: &FontView<'_>, glyph: usize, number: usize) ->
     }
 }
 
-/// The code of an empty glyph.
+/// The charstring of an empty glyph.
 fn empty_code(alloc: Global) -> Result<Vec<u8>>
     ensures code { IfOk result (λ flat. flat.items ≡ 0x0e ∷ []) }
     ensures memory { IfErr result (λ e. e ≡ errors.Refused causes.Memory) }
@@ -98,7 +98,7 @@ fn empty_code(alloc: Global) -> Result<Vec<u8>>
     Ok(flat)
 }
 
-/// The code of what a glyph is made of.
+/// The charstring of a source glyph.
 fn code_of(
     alloc: Global,
     font: &FontView<'_>,
@@ -116,7 +116,7 @@ fn code_of(
     }
 }
 
-/// The codes of what glyphs are made of.
+/// The charstrings of source glyphs.
 pub(crate) fn codes_of(
     alloc: Global,
     font: &FontView<'_>,

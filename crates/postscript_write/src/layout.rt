@@ -1,4 +1,4 @@
-//! The parts of a font, and where they stand (Technical Note 5176, "CFF Data Layout").
+//! The parts of a font and their offsets (Technical Note 5176, "CFF Data Layout").
 ghost use Rattle.std.specs.Prelude.{◌≡◌, ◌≢◌, Some, None, map, option_map, ◌≤◌, ◌<◌, ◌+◌, ◌^◌, ◌++◌, ℕ, pos, List, [], ◌∷◌, IsSome, length, All, Option, IfErr, IfOk, OnOk};
 ghost use Rattle.std.specs.Option.{unwrap_or};
 ghost use Rattle.postscript_base.specs.Compact1.Defaults.{first_two_of, look};
@@ -45,7 +45,7 @@ use postscript_view::tables::slice_at;
 use postscript_view::{FontView, PrivateDict};
 use std::alloc::Global;
 
-/// The items, copied.
+/// A copy of the items.
 pub(crate) fn copied(alloc: Global, items: &IndexView<'_>) -> Result<Vec<Vec<u8>>>
     ensures items { IfOk result (λ all. texts all.items ≡ items_of items.now) }
     ensures memory { IfErr result (λ e. e ≡ errors.Memory) }
@@ -59,7 +59,7 @@ pub(crate) fn copied(alloc: Global, items: &IndexView<'_>) -> Result<Vec<Vec<u8>
     Ok(all)
 }
 
-/// The first operand of an operator, as a place.
+/// The first operand of an operator as an offset.
 #[tactic(auto, unfolding(postscript_view::specs::Select::offset_of))]
 fn place_of(dictionary: &Operations, operator: Operator) -> Result<usize>
     ensures first { IfOk result (λ place. HasFirst dictionary.now operator (pos place)) }
@@ -74,7 +74,7 @@ fn place_of(dictionary: &Operations, operator: Operator) -> Result<usize>
     usize::try_from(number).map_err(|_| Error::OutOfRangeOffset)
 }
 
-/// The bytes of the first dictionary.
+/// The bytes of the first DICT.
 fn first_dictionary(bytes: &[u8]) -> Result<&[u8]>
     ensures is { IfOk result (λ item. (tables : Tables) → AreTables bytes.now (number_at bytes.now 2 1) 0 tables →
         IsDictionary item.now 0 tables.dictionary) }
@@ -91,7 +91,7 @@ fn first_dictionary(bytes: &[u8]) -> Result<&[u8]>
     }
 }
 
-/// The bytes from one place to another, where they stand.
+/// The bytes from one offset to another, if they are there.
 fn bytes_to(bytes: &[u8], from: usize, to: Option<usize>) -> Result<&[u8]>
     ensures cut { IfOk result (λ cut. (next : ℕ) × (to ≡ Some next) × IsCutFrom bytes.now from next cut.now) }
     ensures refused { IfErr result (λ e. (next : ℕ) → to ≡ Some next → from ≤ next → next ≤ length bytes.now → ⊥) }
@@ -102,7 +102,7 @@ fn bytes_to(bytes: &[u8], from: usize, to: Option<usize>) -> Result<&[u8]>
     }
 }
 
-/// The char set of a font of so many glyphs, where it is its own.
+/// The custom charset of a font, if it has one.
 pub(crate) fn own_char_set<'l>(
     bytes: &'l [u8],
     dictionary: &Operations,
@@ -119,7 +119,7 @@ pub(crate) fn own_char_set<'l>(
     Ok(Some(own))
 }
 
-/// The encoding of a font, where it is its own.
+/// The custom encoding of a font, if it has one.
 pub(crate) fn own_encoding<'l>(bytes: &'l [u8], dictionary: &Operations) -> Result<Option<&'l [u8]>>
     ensures own { IfOk result (λ own. IsOwnEncoding bytes.now dictionary.now (option_map (λ own. own.now) own)) }
     ensures refused { IfErr result (λ e. (encoding : Encodings) → IsEncodingOf encoding bytes.now dictionary.now → ⊥) }
@@ -132,13 +132,13 @@ pub(crate) fn own_encoding<'l>(bytes: &'l [u8], dictionary: &Operations) -> Resu
     Ok(Some(own))
 }
 
-/// A private dictionary as it is written: it names no subroutines.
+/// A Private DICT of the new font, without subroutines.
 #[derive(Drop)]
 struct Private {
     text: Vec<u8>,
 }
 
-/// The private dictionary that a dictionary names, where it names one.
+/// The Private DICT of a DICT, if it has one.
 fn own_private(alloc: Global, bytes: &[u8], dictionary: &Operations) -> Result<Option<Private>>
     ensures own { IfOk result (λ private. (font : Option Dictionary) (part : Part) →
         IsPart bytes.now dictionary.now font part → IsOwnPrivate part private) }
@@ -158,7 +158,7 @@ fn own_private(alloc: Global, bytes: &[u8], dictionary: &Operations) -> Result<O
     Ok(Some(Private { text }))
 }
 
-/// The dictionary that names the private dictionary of a part: its font dictionary, or that of the font.
+/// The DICT that has the Private DICT of a part: its Font DICT, or the Top DICT.
 fn naming_dictionary<'d>(part: &'d PrivateDict<'_>, font: &'d Operations) -> &'d Operations
     ensures { result.now ≡ unwrap_or part.now.font_dictionary font.now }
 {
@@ -168,8 +168,8 @@ fn naming_dictionary<'d>(part: &'d PrivateDict<'_>, font: &'d Operations) -> &'d
     }
 }
 
-/// The private dictionaries of the parts of a font. That of a font has no more bytes than the font, and those of a CID-keyed one have
-/// at most 20,000,000 (`HoldFew`).
+/// The Private DICTs of a font. In a CID-keyed font they have at most 20,000,000 bytes (`HoldFew`), otherwise no more
+/// than the font.
 fn own_privates(alloc: Global, font: &FontView<'_>) -> Result<Vec<Option<Private>>>
     ensures own { IfOk result (λ privates. AreParts font.now.bytes.now font.now.dictionary (parts_shown font.now.parts.items) →
         AreOwnPrivates (parts_shown font.now.parts.items) privates.items) }
@@ -189,28 +189,28 @@ fn own_privates(alloc: Global, font: &FontView<'_>) -> Result<Vec<Option<Private
     Ok(privates)
 }
 
-/// What is written of the glyphs of a font, besides their codes.
+/// The data of the glyphs apart from their charstrings.
 #[derive(Drop)]
 pub(crate) struct Glyphs {
-    /// The char set, if it is not a predefined one.
+    /// The charset, unless it is predefined.
     pub(crate) char_set: Option<Vec<u8>>,
-    /// The encoding, if it is not a predefined one.
+    /// The encoding, unless it is predefined.
     pub(crate) encoding: Option<Vec<u8>>,
-    /// Whether the standard encoding is named in the place of the font's own.
+    /// Whether the standard encoding replaces a custom one.
     pub(crate) standard: bool,
-    /// FDSelect, in a CID-keyed font.
+    /// FDSelect of a CID-keyed font.
     pub(crate) select: Option<Vec<u8>>,
     /// The strings.
     pub(crate) strings: Strings,
 }
 
-/// A piece of a font that is written: its bytes, and the operator that names its place.
+/// A piece of the new font: its bytes, and the operator with its offset.
 #[derive(Drop)]
 struct Piece<'p> {
     operator: Operator,
-    /// Whether the dictionary of the font names it.
+    /// Whether the Top DICT has its offset.
     named: bool,
-    /// Whether it is named with its size, which stands before its place.
+    /// Whether its size is before its offset.
     counted: bool,
     text: &'p [u8],
 }
@@ -225,7 +225,7 @@ fn text_in(bytes: &Option<Vec<u8>>) -> &[u8]
     }
 }
 
-/// The piece of an operator, which is named where there are bytes.
+/// The piece of an operator, with an offset in the Top DICT if there are bytes.
 fn piece_of(operator: Operator, bytes: &Option<Vec<u8>>) -> Piece<'_>
     ensures { piece_shown result ≡ piece_if operator bytes.now }
 {
@@ -237,8 +237,8 @@ fn piece_of(operator: Operator, bytes: &Option<Vec<u8>>) -> Piece<'_>
     }
 }
 
-/// The pieces behind the tables, one behind another: encoding, FDSelect, char strings, private dictionaries, the font dictionaries of
-/// a CID-keyed font, and the char set. That one is the last, since ranges that name too few glyphs end where the font ends.
+/// The pieces after the tables: encoding, FDSelect, charstrings, Private DICTs, the Font DICTs of a CID-keyed font, and
+/// the charset. The charset is last since ranges that cover too few glyphs end with the font.
 fn pieces_of<'p>(
     glyphs: &'p Glyphs,
     char_strings: &'p [u8],
@@ -273,7 +273,7 @@ fn pieces_of<'p>(
     ]
 }
 
-/// How many bytes a private dictionary has, if there is one.
+/// The size of a Private DICT, if there is one.
 fn private_len(private: &Option<Private>) -> usize
     ensures { result ≡ length (private_text private.now) }
 {
@@ -283,7 +283,7 @@ fn private_len(private: &Option<Private>) -> usize
     }
 }
 
-/// Whether the dictionary of the font names the only private dictionary. In a CID-keyed font the font dictionaries do.
+/// Whether the Top DICT has the only Private DICT. In a CID-keyed font the Font DICTs have them.
 fn names_private(select: &Option<Vec<u8>>, privates: &[Option<Private>]) -> bool
     ensures { result ≡ is_single select.now privates.now }
 {
@@ -293,7 +293,7 @@ fn names_private(select: &Option<Vec<u8>>, privates: &[Option<Private>]) -> bool
     }
 }
 
-/// Adds the place of a piece, where it is named.
+/// Adds the offset of a piece, if the Top DICT has it.
 fn place_piece(places: &mut Vec<Place>, piece: &Piece<'_>, offset: usize) -> Result<()>
     ensures placed { OnOk result (places.new.items ≡ places.old.items ++ place_of (piece_shown piece.now) offset) }
     ensures memory { IfErr result (λ e. e ≡ errors.Memory) }
@@ -313,7 +313,7 @@ fn place_piece(places: &mut Vec<Place>, piece: &Piece<'_>, offset: usize) -> Res
     Ok(())
 }
 
-/// Adds the standard encoding, where it is named.
+/// Adds the standard encoding, if it replaces a custom one.
 fn place_standard(places: &mut Vec<Place>, standard: bool) -> Result<()>
     ensures placed { OnOk result (places.new.items ≡ places.old.items ++ standard_place standard) }
     ensures memory { IfErr result (λ e. e ≡ errors.Memory) }
@@ -328,7 +328,7 @@ fn place_standard(places: &mut Vec<Place>, standard: bool) -> Result<()>
     Ok(())
 }
 
-/// The places that the dictionary of a font names, whose pieces stand from a place on.
+/// The offsets in the Top DICT, if the pieces begin at an offset.
 fn places_from(
     alloc: Global,
     standard: bool,
@@ -349,7 +349,7 @@ fn places_from(
     Ok(places)
 }
 
-/// Where the private dictionaries begin, if the pieces begin at a place.
+/// The offset of the Private DICTs, if the pieces begin at an offset.
 fn private_place(glyphs: &Glyphs, char_strings: &[u8], start: usize) -> usize
     ensures { start + length (text_of glyphs.now.encoding) + length (text_of glyphs.now.select) + length char_strings.now < 2 ^ 64 →
         result ≡ start + length (text_of glyphs.now.encoding) + length (text_of glyphs.now.select) + length char_strings.now }
@@ -360,7 +360,7 @@ fn private_place(glyphs: &Glyphs, char_strings: &[u8], start: usize) -> usize
         .saturating_add(char_strings.len())
 }
 
-/// A font dictionary with its private dictionary at a place.
+/// A Font DICT with its Private DICT at an offset.
 fn font_dictionary(
     alloc: Global,
     text: &[u8],
@@ -388,7 +388,7 @@ fn font_dictionary(
     }
 }
 
-/// The font dictionaries that items are, whose private dictionaries stand one behind the other from a place on.
+/// Font DICTs with consecutive Private DICTs from an offset on.
 fn placed_dictionaries(
     alloc: Global,
     sources: &IndexView<'_>,
@@ -411,7 +411,7 @@ fn placed_dictionaries(
     Ok(all)
 }
 
-/// The font dictionaries of a CID-keyed font, whose private dictionaries stand one behind the other from a place on.
+/// The Font DICTs of a CID-keyed font with consecutive Private DICTs from an offset on.
 fn font_dictionaries(
     alloc: Global,
     font: &FontView<'_>,
@@ -431,7 +431,7 @@ fn font_dictionaries(
     placed_dictionaries(alloc, &sources, privates, start)
 }
 
-/// Adds an operator whose string is written under another identifier, with that.
+/// Adds an operator with its new SID, if it has one.
 fn place_renamed(
     places: &mut Vec<Place>,
     dictionary: &Operations,
@@ -455,7 +455,7 @@ fn place_renamed(
     Ok(())
 }
 
-/// The operators whose strings are written under other identifiers, with these.
+/// The operators with new SIDs.
 fn renamed(alloc: Global, dictionary: &Operations, strings: &Strings) -> Result<Vec<Place>>
     ensures places { IfOk result (λ places. places.items ≡ all_renamed strings.now dictionary.now) }
     ensures memory { IfErr result (λ e. e ≡ errors.Memory) }
@@ -467,7 +467,8 @@ fn renamed(alloc: Global, dictionary: &Operations, strings: &Strings) -> Result<
     Ok(places)
 }
 
-/// The dictionary of a font as it stands, but that of a CID-keyed font names no private dictionary: its font dictionaries do (section 18).
+/// The Top DICT as it is. In a CID-keyed font an offset of a Private DICT is left out, since the Font DICTs have them
+/// (section 18).
 fn without_private(alloc: Global, font: &FontView<'_>, text: &[u8]) -> Result<Vec<u8>>
     ensures unnamed { IfOk result (λ out. IsDictionary text.now 0 font.now.dictionary →
         (kept : Dictionary) × IsDictionary out.items 0 kept × IsUnnamed font.now.dictionary kept) }
@@ -480,7 +481,7 @@ fn without_private(alloc: Global, font: &FontView<'_>, text: &[u8]) -> Result<Ve
     without(alloc, text, &[])
 }
 
-/// The dictionary of a font, whose operators name strings by their new identifiers. That of a CID-keyed font names no private dictionary.
+/// The Top DICT with new SIDs. In a CID-keyed font it has no Private DICT.
 fn dictionary_with(alloc: Global, font: &FontView<'_>, strings: &Strings) -> Result<Vec<u8>>
     ensures renamed { IfOk result (λ out. AreTables font.now.bytes.now (number_at font.now.bytes.now 2 1) 0 (view_shown font.now).tables →
         (new : Dictionary) × IsDictionary out.items 0 new
@@ -497,7 +498,7 @@ fn dictionary_with(alloc: Global, font: &FontView<'_>, strings: &Strings) -> Res
     with_places(alloc, &kept, &places)
 }
 
-/// Appends an INDEX of one dictionary, with places in it.
+/// Appends an INDEX with one DICT and its offsets.
 fn put_dictionary(
     alloc: Global,
     out: &mut Vec<u8>,
@@ -517,7 +518,7 @@ fn put_dictionary(
     Ok(())
 }
 
-/// Appends the tables: header, names, the dictionary with places, strings, and an INDEX without subroutines.
+/// Appends the tables: header, names, the Top DICT with offsets, strings, and an INDEX without subroutines.
 fn put_tables(
     alloc: Global,
     out: &mut Vec<u8>,
@@ -544,7 +545,7 @@ fn put_tables(
     put_index(out, &[])
 }
 
-/// The tables of a font whose pieces stand from a place on, which the dictionary names.
+/// The tables of a font with pieces from an offset on.
 fn tables_of(
     alloc: Global,
     font: &FontView<'_>,
@@ -567,7 +568,7 @@ fn tables_of(
     Ok(out)
 }
 
-/// Appends a private dictionary, if there is one.
+/// Appends a Private DICT, if there is one.
 fn put_private(out: &mut Vec<u8>, private: &Option<Private>) -> Result<()>
     ensures text { OnOk result (out.new.items ≡ out.old.items ++ private_text private.now) }
     ensures memory { IfErr result (λ e. e ≡ errors.Memory) }
@@ -578,7 +579,7 @@ fn put_private(out: &mut Vec<u8>, private: &Option<Private>) -> Result<()>
     Ok(())
 }
 
-/// Private dictionaries, one behind another.
+/// Private DICTs one after the other.
 fn joined(alloc: Global, privates: &[Option<Private>]) -> Result<Vec<u8>>
     ensures text { IfOk result (λ out. out.items ≡ privates_text privates.now) }
     ensures memory { IfErr result (λ e. e ≡ errors.Memory) }
@@ -590,9 +591,11 @@ fn joined(alloc: Global, privates: &[Option<Private>]) -> Result<Vec<u8>>
     Ok(out)
 }
 
-/// The INDEX of the font dictionaries of a CID-keyed font, whose private dictionaries stand one behind another from a place on; no bytes
-/// in another font. It has as many bytes wherever they stand. The font dictionaries that are read have at most 20,000,000 (`HoldFew`),
-/// and each has at most 15 more as it is written: its offset, and the place of its private dictionary.
+/// The INDEX of the Font DICTs of a CID-keyed font, with consecutive Private DICTs from an offset on. In any other font
+/// it is empty.
+///
+/// Its size does not depend on the offset. The old Font DICTs have at most 20,000,000 bytes (`HoldFew`). Each new one
+/// has at most 15 more: its offset, and the offset and size of its Private DICT.
 fn font_array(
     alloc: Global,
     font: &FontView<'_>,
@@ -632,8 +635,8 @@ fn put_pieces(out: &mut Vec<u8>, pieces: &[Piece<'_>]) -> Result<()>
     Ok(())
 }
 
-/// The tables and the pieces of a font with these char strings and private dictionaries, and with this dictionary, but for places. Tables
-/// have one length wherever the pieces stand, and font dictionaries wherever private dictionaries do: so a draft tells where they stand.
+/// A font of these charstrings and Private DICTs, with this Top DICT apart from offsets. The sizes of tables and Font
+/// DICTs do not depend on offsets, so a draft gives the offsets.
 fn put_together(
     alloc: Global,
     font: &FontView<'_>,
@@ -663,7 +666,7 @@ fn put_together(
     Ok(out)
 }
 
-/// A font with these codes in the place of its char strings, and without subroutines.
+/// A font with these charstrings and without subroutines.
 pub(crate) fn written(
     alloc: Global,
     font: &FontView<'_>,

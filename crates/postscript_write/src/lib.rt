@@ -1,4 +1,4 @@
-//! Fonts of the Compact Font Format, written (Adobe Technical Note 5176).
+//! Writes fonts of the Compact Font Format (Adobe Technical Note 5176): without subroutines, or with only some glyphs.
 #![tactic(auto)]
 
 mod closure;

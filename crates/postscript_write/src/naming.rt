@@ -1,10 +1,10 @@
-//! Operators that name strings (Technical Note 5176, section 9).
+//! Operators with an SID (Technical Note 5176, section 9).
 ghost use Rattle.std.specs.Prelude.{◌≡◌};
 ghost use Rattle.postscript_write.specs.Strings.{identifier_in as the_identifier};
 
 use postscript_base::compact1::{Operations, Operator, StringID};
 
-/// The operators of the dictionary of a font that name strings (Technical Note 5176, section 9, operands of kind SID).
+/// The operators of a Top DICT with an SID (Technical Note 5176, section 9, operands of kind SID).
 pub(crate) const SID_OPERATORS: [Operator; 9] = [
     Operator::Version,
     Operator::Notice,
@@ -17,7 +17,7 @@ pub(crate) const SID_OPERATORS: [Operator; 9] = [
     Operator::FontName,
 ];
 
-/// The identifier that an operator names a string by: its first operand, where that is a number of two bytes.
+/// The SID of an operator: its first operand, if it is a number of two bytes.
 #[tactic(auto, unfolding(crate::specs::Strings::identifier_in))]
 pub(crate) fn identifier_in(dictionary: &Operations, operator: Operator) -> Option<StringID>
     ensures { result ≡ the_identifier dictionary.now operator }

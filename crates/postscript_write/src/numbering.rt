@@ -1,4 +1,4 @@
-//! Char sets, encodings and FDSelect of the glyphs that are written (Technical Note 5176, sections 12, 13 and 19).
+//! Charsets, encodings and FDSelect of the new font (Technical Note 5176, sections 12, 13 and 19).
 ghost use Rattle.std.specs.Prelude.{◌≡◌, ◌≢◌, ◌⊎◌, ◌↔◌, ◌++◌, ◌-◌, ◌<◌, ℕ, IfErr, IfOk, IsSome, OnOk, Some, length, option_map, slice_index_or};
 ghost use Rattle.std.specs.Bool.{OnFalse, OnTrue};
 ghost use Rattle.postscript_base.specs.Index.Lent.{items_of};
@@ -26,7 +26,7 @@ use postscript_base::compact1::StringID;
 use postscript_view::{CharSetView, FontView};
 use std::alloc::Global;
 
-/// Bytes, copied, if there are any.
+/// A copy of bytes, if there are any.
 fn copied(alloc: Global, bytes: Option<&[u8]>) -> Result<Option<Vec<u8>>>
     ensures copied { IfOk result (λ copy. items_if copy ≡ option_map (λ lent. lent.now) bytes.entry) }
     ensures memory { IfErr result (λ e. e ≡ errors.Refused causes.Memory) }
@@ -41,7 +41,7 @@ fn copied(alloc: Global, bytes: Option<&[u8]>) -> Result<Option<Vec<u8>>>
     }
 }
 
-/// The encoding of the font's own, if it has one.
+/// The custom encoding of the font, if it has one.
 fn encoding_of(alloc: Global, font: &FontView<'_>) -> Result<Option<Vec<u8>>>
     requires { HasEncoding font.now.bytes.now (view_shown font.now) }
     ensures own { IfOk result (λ own. IsOwnEncoding font.now.bytes.now font.now.dictionary (items_if own)) }
@@ -53,7 +53,7 @@ fn encoding_of(alloc: Global, font: &FontView<'_>) -> Result<Option<Vec<u8>>>
     }
 }
 
-/// The char set of the font's own, if it has one.
+/// The custom charset of the font, if it has one.
 fn char_set_of(alloc: Global, font: &FontView<'_>) -> Result<Option<Vec<u8>>>
     requires { HasSet font.now.bytes.now (view_shown font.now) }
     ensures own { IfOk result
@@ -66,7 +66,7 @@ fn char_set_of(alloc: Global, font: &FontView<'_>) -> Result<Option<Vec<u8>>>
     }
 }
 
-/// The identifier that names what a glyph is made of; 0, that of `.notdef`, of an empty one.
+/// The SID or CID of a source glyph. For an empty glyph it is 0, for `.notdef`.
 fn identifier_of(set: &CharSetView<'_>, source: Option<usize>) -> Result<u16>
     ensures named { IfOk result (λ identifier. (glyph : ℕ) → source ≡ Some glyph → Names set.now glyph identifier) }
     ensures low { IfOk result (λ identifier. identifier < 65536) }
@@ -82,7 +82,7 @@ fn identifier_of(set: &CharSetView<'_>, source: Option<usize>) -> Result<u16>
     }
 }
 
-/// The identifiers of what glyphs are made of, but for the first.
+/// The SIDs or CIDs of the source glyphs, without the first one.
 pub(crate) fn identifiers_of(
     alloc: Global,
     font: &FontView<'_>,
@@ -106,7 +106,7 @@ pub(crate) fn identifiers_of(
     Ok(identifiers)
 }
 
-/// A char set of format 0 of glyphs with these identifiers, by which strings are written under new ones.
+/// A charset of format 0 with the new SIDs.
 fn listed(alloc: Global, identifiers: &[StringID], strings: &Strings) -> Result<Vec<u8>>
     ensures text { IfOk result (λ out. out.items ≡ names_text strings.now identifiers.now) }
     ensures memory { IfErr result (λ e. e ≡ errors.Refused causes.Memory) }
@@ -119,7 +119,7 @@ fn listed(alloc: Global, identifiers: &[StringID], strings: &Strings) -> Result<
     Ok(out)
 }
 
-/// The strings that are written: those that are needed, where glyphs get new numbers and have names; else all.
+/// The strings of the new font: only the needed ones if glyphs have names and get new numbers, otherwise all.
 fn strings_of(
     alloc: Global,
     font: &FontView<'_>,
@@ -137,7 +137,7 @@ fn strings_of(
     Ok(Strings::needed(alloc, font, identifiers)?)
 }
 
-/// Whether a glyph begins a range: it is the first one, or the one before it has another number.
+/// Whether a glyph begins a range: it is the first one, or the glyph before it has another number.
 fn begins(numbers: &[usize], i: usize) -> bool
     requires { i < length numbers.now }
     ensures other { OnTrue result ((i ≡ 0) ⊎ (slice_index_or numbers.now i 0 ≢ slice_index_or numbers.now (i - 1) 0)) }
@@ -146,7 +146,7 @@ fn begins(numbers: &[usize], i: usize) -> bool
     i == 0 || numbers[i] != numbers[i - 1]
 }
 
-/// The glyphs that begin the ranges of glyphs that have the same number.
+/// The glyphs that begin ranges with equal numbers.
 fn firsts_of(alloc: Global, numbers: &[usize]) -> Result<Vec<usize>>
     ensures firsts { IfOk result (λ firsts. AreFirsts numbers.now firsts.items (length numbers.now)) }
     ensures memory { IfErr result (λ e. e ≡ errors.Refused causes.Memory) }
@@ -172,7 +172,7 @@ fn put_bytes(out: &mut Vec<u8>, numbers: &[usize]) -> Result<()>
     Ok(())
 }
 
-/// A range of FDSelect of format 3: the glyph that begins it, and its number.
+/// A range of FDSelect of format 3: its first glyph and its number.
 fn put_range(out: &mut Vec<u8>, numbers: &[usize], first: usize) -> Result<()>
     requires { first < length numbers.now }
     ensures text { OnOk result (out.new.items ≡ out.old.items ++ range_text numbers.now first) }
@@ -183,7 +183,7 @@ fn put_range(out: &mut Vec<u8>, numbers: &[usize], first: usize) -> Result<()>
     Ok(())
 }
 
-/// FDSelect of format 3, of the ranges that these glyphs begin.
+/// FDSelect of format 3 with the ranges that begin at these glyphs.
 fn put_ranges(out: &mut Vec<u8>, numbers: &[usize], firsts: &[usize]) -> Result<()>
     requires { AreFirsts numbers.now firsts.now (length numbers.now) }
     ensures text { OnOk result (out.new.items ≡ out.old.items ++ ranges_text numbers.now firsts.now) }
@@ -198,7 +198,7 @@ fn put_ranges(out: &mut Vec<u8>, numbers: &[usize], firsts: &[usize]) -> Result<
     Ok(())
 }
 
-/// FDSelect of glyphs with font dictionaries of these numbers, in the format that has fewer bytes.
+/// FDSelect with these numbers of Font DICTs, in the shorter format.
 fn select(alloc: Global, numbers: &[usize]) -> Result<Vec<u8>>
     ensures selects { IfOk result (λ text. IsSelectText numbers.now text.items) }
     ensures memory { IfErr result (λ e. e ≡ errors.Refused causes.Memory) }
@@ -213,7 +213,7 @@ fn select(alloc: Global, numbers: &[usize]) -> Result<Vec<u8>>
     Ok(out)
 }
 
-/// FDSelect of a CID-keyed font with font dictionaries of these numbers. None of another font.
+/// FDSelect of a CID-keyed font with these numbers of Font DICTs. `None` for any other font.
 fn select_of(alloc: Global, font: &FontView<'_>, numbers: &[usize]) -> Result<Option<Vec<u8>>>
     ensures keyed { IfOk result (λ select. IsSome select ↔ IsKeyed font.now.dictionary) }
     ensures selects { IfOk result (λ select. IsSelectFor numbers.now select) }
@@ -225,8 +225,8 @@ fn select_of(alloc: Global, font: &FontView<'_>, numbers: &[usize]) -> Result<Op
     Ok(Some(select(alloc, numbers)?))
 }
 
-/// What is written of glyphs besides their codes. Where their identifiers are not listed, they keep their numbers, and char set,
-/// encoding and strings stay as they are; else an encoding of the font's own gives way to the standard one.
+/// The data of glyphs apart from their charstrings. Without a list of SIDs or CIDs, charset, encoding and strings are
+/// unchanged. Otherwise the standard encoding replaces a custom one.
 pub(crate) fn numbered(
     alloc: Global,
     font: &FontView<'_>,

@@ -1,4 +1,4 @@
-//! How many bytes a font may have that is written.
+//! The maximum size of a new font.
 ghost use Rattle.std.specs.Prelude.{◌≡◌, ◌+◌, ◌<◌, ◌≤◌, IfSome, IfNone, MatchBool};
 ghost use Rattle.postscript_base.specs.Index.Lent.{items_of};
 ghost use Rattle.postscript_type2.specs.Program.Routines.{texts};
@@ -8,7 +8,7 @@ ghost use Rattle.postscript_write.specs.Sizes.{IsLarge, bytes_in, codes_size};
 use postscript_base::index::IndexView;
 use postscript_view::FontView;
 
-/// So many bytes and more, where they are fewer than 2,000,000,000 together.
+/// The sum of two sizes, if it is below 2,000,000,000 bytes.
 fn added(sum: usize, more: usize) -> Option<usize>
     requires { sum < 2000000000 }
     ensures some { IfSome result (λ all. (all ≡ sum + more) × (all < 2000000000)) }
@@ -21,7 +21,7 @@ fn added(sum: usize, more: usize) -> Option<usize>
     }
 }
 
-/// So many bytes and those of items, where they are fewer than 2,000,000,000 together.
+/// A size plus the size of items, if it is below 2,000,000,000 bytes.
 fn with_items(sum: usize, items: &IndexView<'_>) -> Option<usize>
     requires { sum < 2000000000 }
     ensures some { IfSome result (λ all. (all ≡ sum + bytes_in (items_of items.now)) × (all < 2000000000)) }
@@ -34,7 +34,7 @@ fn with_items(sum: usize, items: &IndexView<'_>) -> Option<usize>
     Some(all)
 }
 
-/// So many bytes and those of codes, where they are fewer than 2,000,000,000 together.
+/// A size plus the size of charstrings, if it is below 2,000,000,000 bytes.
 fn with_codes(sum: usize, codes: &[Vec<u8>]) -> Option<usize>
     requires { sum < 2000000000 }
     ensures some { IfSome result (λ all. (all ≡ sum + codes_size codes.now) × (all < 2000000000)) }
@@ -47,7 +47,7 @@ fn with_codes(sum: usize, codes: &[Vec<u8>]) -> Option<usize>
     Some(all)
 }
 
-/// The bytes that are counted of a font with these codes. None where it is too large.
+/// The size of a font with these charstrings. `None` if it is too large.
 #[tactic(auto, using(crate::proofs::Sums::codes_are))]
 fn counted(font: &FontView<'_>, codes: &[Vec<u8>]) -> Option<usize>
     ensures some { IfSome result (λ _. IsLarge font.now.bytes.now (view_shown font.now) (texts codes.now) → ⊥) }
@@ -61,7 +61,7 @@ fn counted(font: &FontView<'_>, codes: &[Vec<u8>]) -> Option<usize>
     with_codes(strings, codes)
 }
 
-/// Whether a font with these codes is too large to be written.
+/// Whether a font with these charstrings is too large.
 pub(crate) fn is_large(font: &FontView<'_>, codes: &[Vec<u8>]) -> bool
     ensures { MatchBool result (IsLarge font.now.bytes.now (view_shown font.now) (texts codes.now))
         (IsLarge font.now.bytes.now (view_shown font.now) (texts codes.now) → ⊥) }

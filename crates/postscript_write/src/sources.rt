@@ -1,4 +1,4 @@
-//! The glyphs that a font is made of.
+//! The source glyphs of a new font.
 ghost use Rattle.std.specs.Prelude.{◌≡◌, ◌<◌, ◌==◌, ◌||◌, ◌++◌, ℕ, [], ◌∷◌, Some, None, false, length, map, slice_index_or, if◌then◌else◌, IfOk, IfErr, OnOk};
 ghost use Rattle.postscript_base.specs.declared.error.Error.TheVariants as causes;
 ghost use Rattle.postscript_write.specs.Sources.{AreMarks, AreThere, choice_by, chosen as the_chosen, every as the_every, keeping as the_keeping, kept_of as the_kept};
@@ -8,7 +8,7 @@ ghost use Rattle.postscript_write.specs.declared.error.Error.TheVariants as erro
 use crate::error::{Error, Result};
 use std::alloc::Global;
 
-/// Every one of so many glyphs.
+/// All glyphs of a font.
 pub(crate) fn every(alloc: Global, glyphs: usize) -> Result<Vec<Option<usize>>>
     ensures sources { IfOk result (λ sources. sources.items ≡ the_every glyphs) }
     ensures memory { IfErr result (λ e. e ≡ errors.Refused causes.Memory) }
@@ -20,7 +20,7 @@ pub(crate) fn every(alloc: Global, glyphs: usize) -> Result<Vec<Option<usize>>>
     Ok(sources)
 }
 
-/// So many marks, none of which is set.
+/// Marks for glyphs, none of them set.
 pub(crate) fn unmarked(alloc: Global, glyphs: usize) -> Result<Vec<bool>>
     ensures many { IfOk result (λ marks. length marks.items ≡ glyphs) }
     ensures none { IfOk result (λ marks. (glyph : ℕ) → glyph < glyphs → slice_index_or marks.items glyph false ≡ false) }
@@ -29,7 +29,7 @@ pub(crate) fn unmarked(alloc: Global, glyphs: usize) -> Result<Vec<bool>>
     Ok(vec![in alloc; false; glyphs]?)
 }
 
-/// Marks those of so many glyphs that are named.
+/// Marks for glyphs, set at the named ones.
 fn marked(alloc: Global, named: &[usize], glyphs: usize) -> Result<Vec<bool>>
     ensures marks { IfOk result (λ marks. AreMarks named.now glyphs marks.items) }
     ensures refused { IfErr result (λ e. IsNotChosen named.now glyphs e) }
@@ -53,7 +53,7 @@ fn is_kept(marks: &[bool], glyph: usize) -> bool
     marks[glyph] || glyph == 0
 }
 
-/// Appends a glyph, where it is kept.
+/// Appends a glyph if it is kept.
 fn push_if(kept: &mut Vec<usize>, keeps: bool, glyph: usize) -> Result<()>
     ensures kept { OnOk result (kept.new.items ≡ kept.old.items ++ (if keeps then glyph ∷ [] else [])) }
     ensures memory { IfErr result (λ e. e ≡ errors.Refused causes.Memory) }
@@ -64,7 +64,7 @@ fn push_if(kept: &mut Vec<usize>, keeps: bool, glyph: usize) -> Result<()>
     Ok(())
 }
 
-/// The kept ones of so many glyphs, in ascending order.
+/// The kept glyphs in ascending order.
 pub(crate) fn kept_of(alloc: Global, named: &[usize], glyphs: usize) -> Result<Vec<usize>>
     ensures kept { IfOk result (λ kept. kept.items ≡ the_kept named.now glyphs) }
     ensures there { OnOk result (AreThere named.now glyphs) }
@@ -79,7 +79,7 @@ pub(crate) fn kept_of(alloc: Global, named: &[usize], glyphs: usize) -> Result<V
     Ok(kept)
 }
 
-/// Glyphs, each of which one is made of.
+/// The sources of a font of these glyphs.
 fn made_of(alloc: Global, glyphs: &[usize]) -> Result<Vec<Option<usize>>>
     ensures sources { IfOk result (λ sources. sources.items ≡ map Some glyphs.now) }
     ensures memory { IfErr result (λ e. e ≡ errors.Refused causes.Memory) }
@@ -91,7 +91,7 @@ fn made_of(alloc: Global, glyphs: &[usize]) -> Result<Vec<Option<usize>>>
     Ok(sources)
 }
 
-/// The kept ones of so many glyphs, in ascending order.
+/// The sources of a subset with new numbers.
 fn chosen(alloc: Global, named: &[usize], glyphs: usize) -> Result<Vec<Option<usize>>>
     ensures sources { IfOk result (λ sources. sources.items ≡ the_chosen named.now glyphs) }
     ensures there { OnOk result (AreThere named.now glyphs) }
@@ -101,14 +101,14 @@ fn chosen(alloc: Global, named: &[usize], glyphs: usize) -> Result<Vec<Option<us
     made_of(alloc, &kept)
 }
 
-/// A glyph, where it is kept.
+/// A glyph if it is kept.
 fn kept_or_none(kept: bool, glyph: usize) -> Option<usize>
     ensures { result ≡ (if kept then Some glyph else None) }
 {
     if kept { Some(glyph) } else { None }
 }
 
-/// The kept ones of so many glyphs, each in its place, and empty ones between them.
+/// The sources of a subset with the old numbers, and empty glyphs between them.
 fn keeping(alloc: Global, named: &[usize], glyphs: usize) -> Result<Vec<Option<usize>>>
     ensures sources { IfOk result (λ sources. sources.items ≡ the_keeping named.now glyphs) }
     ensures there { OnOk result (AreThere named.now glyphs) }
@@ -123,7 +123,7 @@ fn keeping(alloc: Global, named: &[usize], glyphs: usize) -> Result<Vec<Option<u
     Ok(sources)
 }
 
-/// The kept ones of so many glyphs: alone, or each in its place, where glyphs keep their numbers.
+/// The sources of a subset, with the old numbers if glyphs keep them.
 pub(crate) fn sources_by(
     alloc: Global,
     named: &[usize],

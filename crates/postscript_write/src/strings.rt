@@ -1,4 +1,4 @@
-//! The strings that are written, and the identifiers that name them (Technical Note 5176, sections 9 and 10).
+//! The strings of the new font, and their SIDs (Technical Note 5176, sections 9 and 10).
 ghost use Rattle.std.specs.Prelude.{◌≡◌, ◌++◌, ◌+◌, ◌<◌, ◌⊎◌, ℕ, [], ◌∷◌, Some, None, IfOk, IfErr, OnOk, length, slice_set};
 ghost use Rattle.std.specs.List.{filter_map};
 ghost use Rattle.postscript_base.specs.Index.Lent.{items_of};
@@ -17,17 +17,17 @@ use postscript_base::index::IndexView;
 use postscript_view::FontView;
 use std::alloc::Global;
 
-/// Strings, in the order in which they are written.
+/// Strings in the order of their SIDs.
 #[derive(Drop)]
 pub(crate) struct Strings {
     /// The strings.
     pub(crate) texts: Vec<Vec<u8>>,
-    /// The new identifier of each old string that is written. Empty where strings keep their identifiers.
+    /// The new SID of each old string that is written. Empty if strings keep their SIDs.
     renumbered: Vec<Option<usize>>,
 }
 
 impl Strings {
-    /// No strings, of those of a font.
+    /// No strings, prepared for the strings of a font.
     fn none(alloc: Global, own: &IndexView<'_>) -> Result<Strings>
         ensures renumbered { IfOk result
             (λ strings. AreRenumbered (items_of own.now) (texts strings.texts.items) strings.renumbered.items) }
@@ -40,7 +40,7 @@ impl Strings {
         })
     }
 
-    /// Appends the string of a number, under a new identifier.
+    /// Appends a string under a new SID.
     fn push(&mut self, alloc: Global, number: usize, text: &[u8]) -> Result<()>
         requires { number < length self.now.renumbered.items }
         ensures texts { OnOk result (texts self.new.texts.items ≡ texts self.old.texts.items ++ text.now ∷ []) }
@@ -56,7 +56,7 @@ impl Strings {
         Ok(())
     }
 
-    /// All strings of a font, which keep their identifiers.
+    /// All strings of a font with their SIDs.
     pub(crate) fn every(alloc: Global, font: &FontView<'_>) -> Result<Strings>
         ensures texts { IfOk result (λ strings. texts strings.texts.items ≡ items_of font.now.strings) }
         ensures stay { IfOk result (λ strings. strings.renumbered.items ≡ []) }
@@ -68,7 +68,7 @@ impl Strings {
         })
     }
 
-    /// The strings that operators of the dictionary name, and then those that these identifiers name, each once.
+    /// The strings of operators of the Top DICT, then the strings with the given SIDs, each once.
     pub(crate) fn needed(
         alloc: Global,
         font: &FontView<'_>,
@@ -86,7 +86,7 @@ impl Strings {
         Ok(strings)
     }
 
-    /// Adds the strings of identifiers.
+    /// Adds the strings with the given SIDs.
     fn add_all(
         &mut self,
         alloc: Global,
@@ -105,7 +105,7 @@ impl Strings {
         Ok(())
     }
 
-    /// Adds the string of an identifier, where it is one of the font's own, and is not there yet.
+    /// Adds the string with an SID, if it is a custom string that is not yet added.
     fn add(&mut self, alloc: Global, own: &IndexView<'_>, identifier: usize) -> Result<()>
         requires { AreRenumbered (items_of own.now) (texts self.now.texts.items) self.now.renumbered.items }
         ensures renumbered { OnOk result (AreRenumbered (items_of own.now) (texts self.new.texts.items) self.new.renumbered.items) }
@@ -126,7 +126,7 @@ impl Strings {
         Ok(())
     }
 
-    /// The new identifier of an old one: that of a string that is written under another, and any other as it is.
+    /// The new SID of an old one. Standard strings keep theirs.
     pub(crate) fn identifier(&self, old: usize) -> usize
         ensures { result ≡ new_identifier self.now old }
     {
@@ -140,7 +140,7 @@ impl Strings {
     }
 }
 
-/// The identifiers that operators of a dictionary name strings by.
+/// The SIDs of operators of a DICT.
 fn named(alloc: Global, dictionary: &Operations) -> Result<Vec<StringID>>
     ensures named { IfOk result (λ identifiers. identifiers.items ≡ filter_map (the_identifier dictionary.now) naming) }
     ensures memory { IfErr result (λ e. e ≡ errors.Memory) }

@@ -1,4 +1,4 @@
-//! A font that is made of glyphs of another one.
+//! Makes a font of glyphs of another one.
 ghost use Rattle.std.specs.Prelude.{◌≡◌, ◌≢◌, ◌<◌, ◌^◌, IfOk, IfErr, length};
 ghost use Rattle.postscript_base.specs.Tape.Outcome.{Got};
 ghost use Rattle.postscript_base.specs.declared.error.Error.TheVariants as causes;
@@ -30,8 +30,10 @@ use postscript_base::compact1::StringID;
 use postscript_view::{CharSetView, EncodingView, FontView};
 use std::alloc::Global;
 
-/// What a font is made of: another one with its char set and encoding, what each glyph is made of, the number of its font dictionary and
-/// its code, and whether glyphs keep their numbers.
+/// The parts of a new font.
+///
+/// They are the old font with its charset and encoding, and for each glyph its source, the number of its Font DICT and
+/// its charstring. The flag is set if glyphs keep their numbers.
 #[derive(Clone, Copy)]
 struct Making<'m, 'l> {
     font: &'m FontView<'l>,
@@ -43,8 +45,8 @@ struct Making<'m, 'l> {
     retain_gids: bool,
 }
 
-/// The font that is made of codes of glyphs of another one. Where their identifiers are not listed, char set, encoding and strings
-/// stay as they are. Refused for memory alone.
+/// Writes a font from charstrings of another one. Without a list of SIDs or CIDs, its charset, encoding and strings are
+/// unchanged. The only error is `Memory`.
 fn put_together(
     alloc: Global,
     from: &Making<'_, '_>,
@@ -77,7 +79,7 @@ fn put_together(
     }
 }
 
-/// The identifiers of glyphs, where they do not keep their numbers.
+/// The SIDs or CIDs of glyphs that get new numbers.
 fn list_of(
     alloc: Global,
     font: &FontView<'_>,
@@ -98,7 +100,7 @@ fn list_of(
     Ok(Some(identifiers_of(alloc, font, set, sources)?))
 }
 
-/// The font that is made of glyphs of another one. Where glyphs keep their numbers, char set, encoding and strings stay as they are.
+/// Makes a font of glyphs of another one. If glyphs keep their numbers, charset, encoding and strings are unchanged.
 pub(crate) fn font_of(
     alloc: Global,
     font: &FontView<'_>,
