@@ -142,9 +142,9 @@ fn subset_by(alloc: Global, bytes: &[u8], named: &[usize], retain_gids: bool) ->
 /// font lacks is not kept, and such a glyph still cannot be drawn. Names and DICTs keep their content, apart from
 /// offsets. A custom encoding is replaced by the standard encoding.
 ///
-/// Only strings of a kept glyph or of an operator of the Top DICT are written, and they get new SIDs. A CID-keyed font keeps
-/// all strings (Technical Note 5176, sections 9, 10 and 13). If `FontSet::read_lenient` reads the font, it also reads the
-/// new one.
+/// Only strings of a kept glyph or of an operator of the Top DICT are written, and they get new SIDs. A CID-keyed font
+/// keeps all strings (Technical Note 5176, sections 9, 10 and 13). If `FontSet::read_lenient` reads the font, it also
+/// reads the new one.
 ///
 /// # Errors
 ///
