@@ -74,7 +74,7 @@ pub fn flat(alloc: Global, cff: &[u8]) -> Result<Vec<u8>> {
     Ok(postscript_write::flat_font(alloc, cff)?)
 }
 
-/// Returns a font with only the glyphs of these characters.
+/// Returns a font with only `.notdef`, the glyphs of these characters, and the components of `seac` glyphs.
 pub fn cut_to(alloc: Global, file: &FontFile<'_>, text: &str) -> Result<Vec<u8>> {
     let cff = file.table(*b"CFF ").context("no table CFF")?;
     let mut glyphs = Vec::new(alloc);
