@@ -1,4 +1,4 @@
-//! The operations of a charstring, each with how many operands it takes.
+//! Prints the operations of a charstring, each with its number of operands.
 #![tactic(auto)]
 
 use anyhow::Result;
