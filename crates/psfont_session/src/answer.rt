@@ -1,4 +1,4 @@
-//! What a line is answered with.
+//! The replies to lines.
 ghost use Rattle.std.specs.Prelude.{◌≡◌, List, [], ℕ, Ok, None, IsErr, IfOk, IfSome, ◌∷◌, ◌≢◌, OnOk, MatchBool, MatchResult, flat_map, codes};
 ghost use Rattle.std.specs.Io.KnownBytes.{Appends, Keeps};
 ghost use Rattle.hex.specs.Hex.{decode_of};
@@ -28,7 +28,7 @@ use postscript::{Error, Result};
 use std::alloc::Global;
 use std::io::{Cursor, Write};
 
-/// Answers a line. An empty line has no answer.
+/// Replies to a line. An empty line has no reply.
 pub fn answer_line<W: Write>(
     alloc: Global,
     line: &[u8],
@@ -66,7 +66,7 @@ pub fn answer_line<W: Write>(
     Ok(())
 }
 
-/// Whether a line asks for a run of the code, or for its flat code.
+/// Whether a line asks for a run of the code, or for its flattened code.
 fn asks_run(line: &[u8]) -> bool
     ensures { MatchBool result (AsksRun line.now) (AsksRun line.now → ⊥) }
 {
@@ -77,8 +77,8 @@ fn asks_run(line: &[u8]) -> bool
     }
 }
 
-/// Answers a line as `answer_line` does. Where there is a limit, a run that takes longer is told in a line that names its code, the
-/// limit and the option.
+/// Replies to a line as `answer_line` does. If there is a limit and a run exceeds it, the reply names the code, the
+/// limit and the option instead.
 pub fn answer_within<W: Write>(
     alloc: Global,
     limit: Option<u64>,
@@ -102,7 +102,7 @@ pub fn answer_within<W: Write>(
     }
 }
 
-/// Answers a line, without a limit.
+/// Replies to a line, without a limit.
 fn answer_all<W: Write>(
     alloc: Global,
     line: &[u8],
@@ -116,7 +116,7 @@ fn answer_all<W: Write>(
     Ok(())
 }
 
-/// Writes that the run of a code takes longer than a limit.
+/// Writes that the run of a code exceeds the limit.
 fn write_past<W: Write>(alloc: Global, limit: u64, code: &[u8], writer: &mut W) -> Result<()>
     ensures told { OnOk result (Appends (W.contents writer.old) (W.contents writer.new) (past_line limit code.now)) }
     ensures listed { IsListed (1 ∷ 2 ∷ 3 ∷ []) result }
@@ -129,7 +129,7 @@ fn write_past<W: Write>(alloc: Global, limit: u64, code: &[u8], writer: &mut W) 
     Ok(())
 }
 
-/// Puts bytes in their place, unless their digits are malformed.
+/// Stores bytes, unless their digits are malformed.
 fn load<W: Write>(
     alloc: Global,
     place: Place,
@@ -153,7 +153,7 @@ fn load<W: Write>(
     Ok(())
 }
 
-/// The bytes that hex digits spell, if they do.
+/// Decodes hex digits, if they are well formed.
 fn bytes_of(alloc: Global, digits: &[u8]) -> Result<Option<Vec<u8>>>
     ensures spelled { IfOk result (λ found. IfSome found (λ bytes. decode_of digits.now ≡ Ok bytes.items)) }
     ensures malformed { result ≡ Ok None → IsErr (decode_of digits.now) }
@@ -166,7 +166,7 @@ fn bytes_of(alloc: Global, digits: &[u8]) -> Result<Option<Vec<u8>>>
     }
 }
 
-/// Runs the code, and tells what came of it.
+/// Runs the code, and writes the result.
 fn run<W: Write>(alloc: Global, routines: &Routines, writer: &mut W) -> Result<()>
     ensures told { OnOk result (RunTold routines.now (W.contents writer.old) (W.contents writer.new)) }
     ensures listed { IsListed (1 ∷ 2 ∷ []) result }
@@ -188,7 +188,7 @@ fn flatten<W: Write>(alloc: Global, routines: &Routines, writer: &mut W) -> Resu
     }
 }
 
-/// Writes code as lower-case hex behind `flat`, which stands alone where there is none.
+/// Writes `flat`, and the code after it as lower-case hex, if there is any.
 fn write_flat<W: Write>(alloc: Global, flat: &[u8], writer: &mut W) -> Result<()>
     ensures told { OnOk result (Appends (W.contents writer.old) (W.contents writer.new) (flat_line flat.now)) }
     ensures listed { IsListed (1 ∷ 2 ∷ 3 ∷ []) result }
@@ -202,7 +202,7 @@ fn write_flat<W: Write>(alloc: Global, flat: &[u8], writer: &mut W) -> Result<()
     Ok(())
 }
 
-/// Reads a font from the bytes that hex digits spell, and tells what it holds.
+/// Reads a font from hex digits, and writes its summary.
 fn font<W: Write>(alloc: Global, manner: Manner, digits: &[u8], writer: &mut W) -> Result<()>
     ensures told { OnOk result (FontTold manner digits.now (W.contents writer.old) (W.contents writer.new)) }
     ensures listed { IsListed (1 ∷ 2 ∷ 3 ∷ []) result }
@@ -217,7 +217,7 @@ fn font<W: Write>(alloc: Global, manner: Manner, digits: &[u8], writer: &mut W) 
     Ok(())
 }
 
-/// The font at the start of bytes, which may lack what its manner lets it.
+/// Reads the font at the start of the bytes, strictly or leniently.
 fn font_of(alloc: Global, manner: Manner, bytes: Vec<u8>) -> Result<FontSet>
     ensures exact { (next : ℕ) × Answered font_shown result next (reading_of manner bytes.items 0) }
 {
@@ -248,7 +248,7 @@ fn write_operations<W: Write>(operations: &[Operation], writer: &mut W) -> Resul
     Ok(())
 }
 
-/// A line for the end: the refusal, where there is one.
+/// Writes a line for the end: the fault, if there is one.
 fn write_end<W: Write>(fault: &Option<Error>, writer: &mut W) -> Result<()>
     ensures told { OnOk result (Appends (W.contents writer.old) (W.contents writer.new) (end_line fault.now)) }
     ensures listed { IsListed (1 ∷ 2 ∷ []) result }

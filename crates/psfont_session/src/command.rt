@@ -1,4 +1,4 @@
-//! What a line asks for.
+//! The commands in the lines of a session.
 ghost use Rattle.std.specs.Prelude.{◌≡◌, Some, IfSome};
 ghost use Rattle.psfont_session.specs.Line.{word_of, argument_of};
 
@@ -7,17 +7,17 @@ use crate::lines::first_place;
 /// A command.
 #[derive(Clone, Copy)]
 pub enum Command {
-    /// Put bytes, written as hex, in a place.
+    /// Store bytes, given in hex.
     Load(Place),
     /// Run the code.
     Run,
     /// Write the code without calls.
     Flat,
-    /// Read a font, written as hex.
+    /// Read a font, given in hex.
     Font(Manner),
 }
 
-/// Where bytes go.
+/// The destination of bytes.
 #[derive(Clone, Copy)]
 pub enum Place {
     /// The code.
@@ -28,10 +28,10 @@ pub enum Place {
     Local,
 }
 
-/// What a font must have.
+/// The parts that a font must have.
 #[derive(Clone, Copy)]
 pub enum Manner {
-    /// Private dictionaries and local subroutines.
+    /// It needs Private DICTs and local subroutines.
     Strict,
     /// It may lack these.
     Lenient,
@@ -59,7 +59,7 @@ impl Command {
     }
 }
 
-/// The word before a line's first space, and the argument after it.
+/// Splits a line into the word before its first space, and the argument after it.
 pub fn split(line: &[u8]) -> (&[u8], &[u8])
     ensures word { result.0.now ≡ word_of line.now }
     ensures argument { result.1.now ≡ argument_of line.now }

@@ -1,5 +1,5 @@
-//! A conversation about charstrings and fonts, over any reader and writer: lines come in, and each is answered. Or what a
-//! font's file holds. The program is `psfont`.
+//! A line-based session about charstrings and fonts, over any reader and writer, and a summary of the font in a file.
+//! The program is `psfont`.
 #![tactic(auto)]
 
 ghost use Rattle.std.specs.Prelude.{◌≡◌, ℕ, List, Some, OnOk, [], ◌≤◌, ◌↔◌, ◌∷◌, map, string_bytes, IfOk, IsOk};
@@ -30,13 +30,16 @@ use lines::{Piece, read_piece, without_return};
 use routines::Routines;
 use summary::{read_font, write_font};
 
-/// Answers each line of a reader on a writer, up to the end of the input.
+/// Reads lines from a reader up to its end, and writes a reply to each.
 ///
-/// A line ends at 0x0a, and one 0x0d just before it is dropped; the last line may lack its end. Empty lines are
-/// skipped. An interrupted look at the input is made again, and after `u64::MAX` looks the input counts as ended. The
-/// writer is flushed before each look that may wait, and at the end, also after a fault.
+/// A line ends at 0x0a, and one 0x0d just before it is dropped. The last line may lack its end. Empty lines are
+/// skipped. An interrupted read is repeated, and after `u64::MAX` reads the input counts as ended. The writer is
+/// flushed before each read that may wait, and at the end, even after a fault.
 ///
-/// Refused: `UnexpectedEof` and `Io` where a read or a write failed, `Memory`.
+/// # Errors
+///
+/// - `UnexpectedEof`, `Io`: a read or a write failed.
+/// - `Memory`: out of memory.
 #[tactic(auto, using(crate::proofs::Hearing::flushed))]
 pub fn session<R: BufRead, W: Write>(alloc: Global, reader: &mut R, writer: &mut W) -> Result<()>
     ensures told { OnOk result ((input : List ℕ) × Consumes (R.remaining reader.old) (R.remaining reader.new) input
@@ -50,11 +53,15 @@ pub fn session<R: BufRead, W: Write>(alloc: Global, reader: &mut R, writer: &mut
     Ok(())
 }
 
-/// The same within a limit, in units of `Program::step_within`: a line that asks for the run of a code or for its flat code is answered
-/// only where the run comes to its end, or is refused, within the limit. Else a line tells so, with the code, the limit, and the option
-/// by which `psfont` is given it.
+/// Runs a session within a limit of `limit` units (see `Program::step_within`).
 ///
-/// Refused: as `session` is.
+/// A line that asks for the run of a code, or for its flattened code, gets its usual reply only if the run ends or
+/// fails within the limit. Otherwise the reply names the code, the limit, and the option of `psfont` that sets the
+/// limit.
+///
+/// # Errors
+///
+/// - The errors of [`session`].
 #[tactic(auto, using(crate::proofs::Hearing::flushed))]
 pub fn session_within<R: BufRead, W: Write>(
     alloc: Global,
@@ -73,7 +80,7 @@ pub fn session_within<R: BufRead, W: Write>(
     Ok(())
 }
 
-/// Answers each line, up to the end of the input.
+/// Replies to each line, up to the end of the input.
 fn answer_lines<R: BufRead, W: Write>(
     alloc: Global,
     limit: Option<u64>,
@@ -91,7 +98,7 @@ fn answer_lines<R: BufRead, W: Write>(
     Ok(())
 }
 
-/// Looks at the input up to its end, and answers each line that has its own.
+/// Reads up to the end of the input, and replies to each line that has its own end.
 fn hear<R: BufRead, W: Write>(
     alloc: Global,
     limit: Option<u64>,
@@ -113,7 +120,7 @@ fn hear<R: BufRead, W: Write>(
     Ok(())
 }
 
-/// Answers a line.
+/// Replies to a line.
 fn tell_line<W: Write>(
     alloc: Global,
     limit: Option<u64>,
@@ -128,7 +135,7 @@ fn tell_line<W: Write>(
     Ok(())
 }
 
-/// Looks at the input once, and answers the line that ends there, if one does. Tells whether the input is at its end.
+/// Reads once, and replies to the line that ends there, if one does. Returns whether the input is at its end.
 fn look<R: BufRead, W: Write>(
     alloc: Global,
     limit: Option<u64>,
@@ -155,7 +162,7 @@ fn look<R: BufRead, W: Write>(
     Ok(false)
 }
 
-/// Flushes the writer, unless more of the input is shown, so that the next look does not wait.
+/// Flushes the writer, unless more of the input is available, in which case the next read does not wait.
 #[tactic(auto, using(crate::proofs::Hearing::same))]
 fn flush_before_waiting<W: Write>(more: bool, writer: &mut W) -> Result<()>
     ensures kept { Keeps (W.contents writer.old) (W.contents writer.new) }
@@ -167,9 +174,9 @@ fn flush_before_waiting<W: Write>(more: bool, writer: &mut W) -> Result<()>
     Ok(())
 }
 
-/// Does what the words after the program's name ask for, and answers the status to end with: none is a session of the
-/// reader and the writer, and `font PATH` and `lenient PATH` write what the font of a file holds. A fault is told on
-/// `errors`, and so are the words that there are.
+/// Runs the program with the words after its name, and returns its exit status. Without words it runs a session with
+/// the reader and the writer. `font PATH` and `lenient PATH` write a summary of the font in a file. A fault is reported
+/// on `errors`. For any other words the usage is.
 pub fn start<F: Files + AllocGlobal, R: BufRead, W: Write, E: Write>(
     files: &F,
     words: &[String],
@@ -200,7 +207,7 @@ pub fn start<F: Files + AllocGlobal, R: BufRead, W: Write, E: Write>(
     }
 }
 
-/// A session of a reader and a writer within a limit, and the status to end with. A fault is told on `errors`.
+/// Runs a session within a limit, and returns the exit status. A fault is reported on `errors`.
 pub fn start_within<R: BufRead, W: Write, E: Write>(
     alloc: Global,
     limit: u64,
@@ -215,9 +222,12 @@ pub fn start_within<R: BufRead, W: Write, E: Write>(
     status(session_within(alloc, limit, reader, writer), errors)
 }
 
-/// Writes what the font of a file holds.
+/// Writes a summary of the font in a file.
 ///
-/// Refused: `Io` where the file cannot be opened, and as `read_font` and the writer are.
+/// # Errors
+///
+/// - `Io`: the file cannot be opened.
+/// - The errors of `read_font` and of the writer.
 fn show_file<F: Files + AllocGlobal, W: Write>(
     files: &F,
     manner: Manner,
@@ -232,7 +242,7 @@ fn show_file<F: Files + AllocGlobal, W: Write>(
     show(&read_font(alloc, manner, &mut tape)?, writer)
 }
 
-/// Writes what a font holds, and flushes the writer.
+/// Writes a summary of a font, and flushes the writer.
 #[tactic(auto, using(crate::proofs::Writing::kept))]
 fn show<W: Write>(font: &FontSet, writer: &mut W) -> Result<()>
     ensures told { OnOk result (Appends (W.contents writer.old) (W.contents writer.new) (font_text (font_shown font.now))) }
@@ -243,7 +253,7 @@ fn show<W: Write>(font: &FontSet, writer: &mut W) -> Result<()>
     Ok(())
 }
 
-/// The status of an outcome, whose fault is told.
+/// Returns the exit status of an outcome, and reports its fault.
 pub fn status<E: Write>(outcome: Result<()>, errors: &mut E) -> u8
     ensures status { result ≤ 1 }
     ensures ended { (result ≡ 0) ↔ IsOk outcome }
@@ -258,7 +268,7 @@ pub fn status<E: Write>(outcome: Result<()>, errors: &mut E) -> u8
     }
 }
 
-/// Tells which words there are.
+/// Writes the usage, and returns the exit status 2.
 pub fn usage<E: Write>(errors: &mut E) -> u8
     ensures { result ≡ 2 }
 {

@@ -8,17 +8,17 @@ ghost use Rattle.psfont_session.specs.Piece.{GoesOn, Moves};
 use postscript::Result;
 use std::io::{BufRead, ErrorKind};
 
-/// What a look at the input gave.
+/// The result of one read.
 pub enum Piece {
-    /// More of the line, or nothing, and the line goes on.
+    /// More of the line, or nothing. The line goes on.
     Part,
-    /// The rest of the line, and whether more of the input is shown behind it. Where none is, the next look may wait.
+    /// The rest of the line, and whether more of the input is available after it. If not, the next read may wait.
     Line { more: bool },
     /// The end of the input.
     End,
 }
 
-/// Looks at the input once, and moves what it shows of the line to the line's end.
+/// Reads once, and appends the available bytes up to the end of the line.
 pub fn read_piece<R: BufRead>(reader: &mut R, line: &mut Vec<u8>) -> Result<Piece>
     ensures moved { IfOk result (λ piece. Moves piece (R.remaining reader.old) (R.remaining reader.new)
         line.old.items line.new.items) }
@@ -51,7 +51,7 @@ pub fn read_piece<R: BufRead>(reader: &mut R, line: &mut Vec<u8>) -> Result<Piec
     }
 }
 
-/// A line without the carriage return at its end, if it has one.
+/// Removes the carriage return at the end of a line, if there is one.
 pub fn without_return(line: &[u8]) -> &[u8]
     ensures dropped { (front : List ℕ) → line.now ≡ front ++ 13 ∷ [] → result.now ≡ front }
     ensures kept { ((front : List ℕ) → line.now ≢ front ++ 13 ∷ []) → result.now ≡ line.now }
@@ -62,7 +62,7 @@ pub fn without_return(line: &[u8]) -> &[u8]
     }
 }
 
-/// Where a byte stands first, if it does.
+/// Returns the index of the first occurrence of a byte, if there is one.
 pub fn first_place(bytes: &[u8], sought: u8) -> Option<usize>
     ensures { result ≡ position (λ byte. byte == sought) bytes.now }
 {

@@ -1,4 +1,4 @@
-//! What a run is given.
+//! The input of a run.
 ghost use Rattle.std.specs.Prelude.{◌≡◌, ◌⊎◌, ℕ, [], OnOk, OnErr, ◌∷◌, map, vec_items, IfOk, IfErr, MatchResult};
 ghost use Rattle.postscript.specs.Error.{IsListed};
 ghost use Rattle.postscript.specs.RefusalOf.{refusal_of};
@@ -37,7 +37,7 @@ impl Model for Routines {
     } };
 }
 
-/// Whether the run of a code comes to its end, or is refused, within a limit.
+/// Whether the run of a code ends or fails within a limit.
 #[tactic(auto, using(crate::proofs::Limiting::with_left))]
 fn fits(
     alloc: Global,
@@ -55,7 +55,7 @@ fn fits(
 }
 
 impl Routines {
-    /// No code and no subroutines.
+    /// Starts without code and subroutines.
     pub fn new(alloc: Global) -> Routines
         ensures { result ≡ record { code = []; global = []; local = [] } }
     {
@@ -66,7 +66,7 @@ impl Routines {
         }
     }
 
-    /// Puts bytes in their place. New code starts without subroutines.
+    /// Stores bytes as code or as a subroutine. New code starts without subroutines.
     pub fn load(&mut self, place: Place, bytes: Vec<u8>) -> Result<()>
         ensures ok { OnOk result (self.new ≡ put place bytes.items self.old) }
         ensures err { OnErr result (self.new ≡ self.old) }
@@ -84,7 +84,7 @@ impl Routines {
         Ok(())
     }
 
-    /// Runs the code. Refused: `Memory`.
+    /// Runs the code. The only error is `Memory`.
     pub fn run(&self, alloc: Global) -> Result<Answers>
         ensures meant { IfOk result (λ told. (run : Run) × IsRunOf (lists_of self.now) self.now.code run × Tells told run) }
         ensures tells { MatchResult result
@@ -106,8 +106,8 @@ impl Routines {
         self.code.as_slice()
     }
 
-    /// Whether the run of the code comes to its end, or is refused, within a limit, in units of `Program::step_within`. Refused:
-    /// `Memory`.
+    /// Returns whether the run of the code ends or fails within a limit, in units of `Program::step_within`. The only
+    /// error is `Memory`.
     pub fn fits(&self, alloc: Global, limit: u64) -> Result<bool>
         ensures fits { IfOk result (λ fits. (left : ℕ) × Fits (run_of (lists_of self.now) self.now.code).trace limit fits left) }
         ensures memory { IfErr result (λ e. e ≡ Error.Memory) }
@@ -121,7 +121,7 @@ impl Routines {
         )
     }
 
-    /// The code without calls. Refused: what the run is refused with, `Memory`.
+    /// Returns the code without calls. The errors are the fault of the run, and `Memory`.
     pub fn flatten(&self, alloc: Global) -> Result<Vec<u8>>
         ensures faultless { OnOk result (fault_of (run_of (lists_of self.now) self.now.code).end ≡ None) }
         ensures text { IfOk result (λ flat. flat.items ≡ flat_text (run_of (lists_of self.now) self.now.code).trace) }

@@ -1,4 +1,4 @@
-//! Fonts: how they are read, and what they hold, in lines.
+//! Reading fonts, and summaries of them in lines.
 ghost use Rattle.std.specs.Prelude.{[], ◌∷◌, ◌++◌, map, flat_map, codes, string_bytes, OnOk};
 ghost use Rattle.std.specs.Io.KnownBytes.{Appends};
 ghost use Rattle.postscript.specs.Error.{IsListed};
@@ -13,7 +13,7 @@ use postscript::{Result, Tape, Value};
 use std::alloc::Global;
 use std::io::Write;
 
-/// Reads a font, which may lack what its manner lets it.
+/// Reads a font, strictly or leniently.
 pub fn read_font<T: Tape>(alloc: Global, manner: Manner, tape: &mut T) -> Result<FontSet>
     ensures exact { Reads font_shown (T.state tape.old) result (T.state tape.new) (reading_of manner) }
     ensures listed { IsListed (1 ∷ 2 ∷ 3 ∷ 5 ∷ 6 ∷ 7 ∷ 8 ∷ 9 ∷ 10 ∷ 11 ∷ 12 ∷ 13 ∷ 14 ∷ 15 ∷ 16 ∷ []) result }
@@ -24,7 +24,7 @@ pub fn read_font<T: Tape>(alloc: Global, manner: Manner, tape: &mut T) -> Result
     }
 }
 
-/// The header, how many names there are and each, how many strings and global subroutines, and a line for each
+/// Writes the header, the names with their count, the counts of strings and global subroutines, and a line for each
 /// dictionary.
 #[tactic(auto, using(crate::proofs::Writing::both))]
 pub fn write_font<W: Write>(font: &FontSet, writer: &mut W) -> Result<()>
@@ -49,7 +49,7 @@ fn write_front<W: Write>(font: &FontSet, writer: &mut W) -> Result<()>
     write_names(font.names.as_slice(), writer)
 }
 
-/// How many strings and global subroutines there are.
+/// Writes the counts of strings and global subroutines.
 #[tactic(auto, using(crate::proofs::Writing::both))]
 fn write_tables<W: Write>(font: &FontSet, writer: &mut W) -> Result<()>
     ensures told { OnOk result (Appends (W.contents writer.old) (W.contents writer.new) (tables_text (font_shown font.now))) }
@@ -92,7 +92,7 @@ fn write_fields<W: Write>(fields: &[u8], writer: &mut W) -> Result<()>
     Ok(())
 }
 
-/// How many names there are, and each.
+/// Writes the count of names, and each name.
 #[tactic(auto, using(crate::proofs::Writing::both))]
 fn write_names<W: Write>(names: &[String], writer: &mut W) -> Result<()>
     ensures told { OnOk result (Appends (W.contents writer.old) (W.contents writer.new)
@@ -142,7 +142,7 @@ fn write_shown<W: Write>(text: &[u8], writer: &mut W) -> Result<()>
     Ok(())
 }
 
-/// How many dictionaries there are, and a line for each.
+/// Writes the count of dictionaries, and a line for each.
 fn write_dictionaries<W: Write>(font: &FontSet, writer: &mut W) -> Result<()>
     ensures told { OnOk result (Appends (W.contents writer.old) (W.contents writer.new) (dictionaries_text (font_shown font.now))) }
     ensures listed { IsListed (1 ∷ 2 ∷ []) result }
@@ -150,7 +150,7 @@ fn write_dictionaries<W: Write>(font: &FontSet, writer: &mut W) -> Result<()>
     write_counted(font, font.global_dictionaries.len(), writer)
 }
 
-/// A number of dictionaries, and a line for each.
+/// Writes a count of dictionaries, and a line for each.
 #[tactic(auto, using(crate::proofs::Writing::both))]
 fn write_counted<W: Write>(font: &FontSet, count: usize, writer: &mut W) -> Result<()>
     ensures told { OnOk result (Appends (W.contents writer.old) (W.contents writer.new)
@@ -161,7 +161,7 @@ fn write_counted<W: Write>(font: &FontSet, count: usize, writer: &mut W) -> Resu
     write_lines(font, count, writer)
 }
 
-/// A line for each of so many dictionaries.
+/// Writes a line for each dictionary below `count`.
 #[tactic(auto, using(crate::proofs::Writing::both, crate::proofs::Writing::none), unfolding(crate::specs::Summary::lines_below))]
 fn write_lines<W: Write>(font: &FontSet, count: usize, writer: &mut W) -> Result<()>
     ensures told { OnOk result (Appends (W.contents writer.old) (W.contents writer.new) (lines_below (font_shown font.now) count)) }
@@ -173,7 +173,7 @@ fn write_lines<W: Write>(font: &FontSet, count: usize, writer: &mut W) -> Result
     Ok(())
 }
 
-/// Of a dictionary the names of encoding and char set, and how many glyphs and local subroutines it has.
+/// Writes the names of a dictionary's encoding and charset, and the counts of its glyphs and local subroutines.
 #[tactic(auto, using(crate::proofs::Writing::none))]
 fn write_dictionary<W: Write>(font: &FontSet, number: usize, writer: &mut W) -> Result<()>
     ensures told { OnOk result (Appends (W.contents writer.old) (W.contents writer.new) (line_at (font_shown font.now) number)) }
