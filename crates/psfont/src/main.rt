@@ -1,4 +1,4 @@
-//! A conversation about charstrings and fonts: lines come in, and each is answered. Or what a font's file holds.
+//! A line-based session about charstrings and fonts, and a summary of the font in a file.
 #![tactic(auto)]
 
 ghost use Rattle.std.specs.Prelude.{◌≡◌, ◌≤◌, [], ◌↔◌, ◌∷◌, map, string_bytes, IfOk};
@@ -16,7 +16,7 @@ use std::{env, io};
 #[cfg(test)]
 mod tests;
 
-/// `start` on the standard input and output.
+/// Runs `start` on the standard input and output.
 fn start_here<R: Input + Print + Files + AllocGlobal, E: Write>(
     rt: &R,
     words: &[String],
@@ -31,7 +31,7 @@ fn start_here<R: Input + Print + Files + AllocGlobal, E: Write>(
     Ok(start(rt, words, &mut reader, &mut writer, errors))
 }
 
-/// A session within a limit on the standard input and output.
+/// Runs a session within a limit on the standard input and output.
 fn within_here<R: Input + Print + AllocGlobal, E: Write>(
     rt: &R,
     limit: u64,
@@ -46,7 +46,7 @@ fn within_here<R: Input + Print + AllocGlobal, E: Write>(
     Ok(start_within(alloc, limit, &mut reader, &mut writer, errors))
 }
 
-/// The limit that words name, where they are `--limit` and a number.
+/// Returns the limit if the words are `--limit` and a number.
 fn limit_of(words: &[String]) -> Option<u64> {
     match words {
         [option, number] if option.as_str() == "--limit" => number.as_str().parse::<u64>().ok(),
@@ -54,7 +54,7 @@ fn limit_of(words: &[String]) -> Option<u64> {
     }
 }
 
-/// Does what the words ask for: a session within a limit, or what `start` does.
+/// Runs a session within a limit if the words ask for it, and `start` otherwise.
 fn answered<R: Input + Print + Files + AllocGlobal, E: Write>(
     rt: &R,
     words: &[String],
@@ -68,7 +68,7 @@ fn answered<R: Input + Print + Files + AllocGlobal, E: Write>(
     }
 }
 
-/// The words after the program's name.
+/// Returns the words after the program's name.
 fn words_of<R: Env + AllocGlobal>(rt: &R) -> io::Result<Vec<String>> {
     Ok(env::args(rt)?.skip(1).collect(rt.alloc())?)
 }

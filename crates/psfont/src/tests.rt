@@ -1,8 +1,8 @@
-//! The words that name a limit.
+//! Parsing the option `--limit`.
 use super::limit_of;
 use std::alloc::Global;
 
-/// Words with a comma between them, and the limit that they name.
+/// Words with a comma between them, and their limit.
 #[rattlefmt::skip]
 const WORDS: &[(&str, Option<u64>)] = &[
     ("--limit,12", Some(12)),
@@ -19,7 +19,7 @@ const WORDS: &[(&str, Option<u64>)] = &[
     ("12,--limit", None),
 ];
 
-/// The limit that words name. None, too, where memory is refused.
+/// Returns the limit in the words. It is also `None` if out of memory.
 fn named(alloc: Global, text: &str) -> Option<u64> {
     let mut words = Vec::new(alloc);
     for word in text.split(',') {
