@@ -12,7 +12,7 @@ use postscript_base::{Error, Result};
 use std::fmt;
 use std::marker::Model;
 
-/// An operand: a 16.16 number, whose bits `b` stand for `b / 65536`.
+/// An operand: a 16.16 number, whose bits `b` represent `b / 65536`.
 #[derive(Clone, Copy, Debug, PartialEq, Eq, PartialOrd, Ord)]
 pub struct Operand {
     bits: i32,
@@ -27,7 +27,7 @@ impl Model for Operand {
 }
 
 impl Operand {
-    /// The operand of these 16.16 bits. Never refused.
+    /// Returns the operand with these 16.16 bits.
     ///
     /// ```rust
     /// pub fn one_and_a_half() -> Operand {
@@ -35,20 +35,23 @@ impl Operand {
     /// }
     /// ```
     pub fn from_bits(bits: i32) -> Operand
+        // The bits of the result are `bits`.
         ensures { result ≡ bits }
     {
         Operand { bits }
     }
 
-    /// The 16.16 bits, 65536 times the number. Never refused.
+    /// Returns the 16.16 bits, which are 65536 times the number.
     pub fn bits(&self) -> i32
+        // The result is the bits of the operand.
         ensures { result ≡ self.now }
     {
         self.bits
     }
 
-    /// The operand of a whole number. Never refused.
+    /// Returns the operand of a whole number.
     pub fn from_int(number: i16) -> Operand
+        // The bits of the result are 65536 times `number`.
         ensures { result ≡ whole number }
     {
         Operand {
@@ -56,7 +59,7 @@ impl Operand {
         }
     }
 
-    /// The whole number, where it is one, and else None. Never refused.
+    /// Returns the number if it is whole, and `None` otherwise.
     ///
     /// ```rust
     /// pub fn one_more(operand: &Operand) -> Option<Operand> {
@@ -65,6 +68,7 @@ impl Operand {
     /// }
     /// ```
     pub fn to_int(&self) -> Option<i16>
+        // The result is the bits divided by 65536, or `None` if they are no multiple of it.
         ensures { result ≡ to_int self.now }
     {
         if self.bits % 65536 == 0 {
@@ -75,7 +79,7 @@ impl Operand {
     }
 }
 
-/// The whole number, as `3`, else the bits followed by `/65536`, as `98304/65536`.
+/// Writes a whole number as `3`, and any other as its bits followed by `/65536`, such as `98304/65536`.
 impl fmt::Display for Operand {
     ghost output = { λ operand. Some (text operand) };
 
@@ -90,15 +94,15 @@ impl fmt::Display for Operand {
     }
 }
 
-/// An operator that draws, declares stems or masks, with the operands that it takes, the lowest first; a width beneath them is
-/// not among them. A mask takes none: neither its bytes nor the stems that it implies are told (Technical Note 5177, "Hint
-/// Operators"), but by `Program::tell_within`.
+/// An operation of a glyph: an operator that draws, declares stems or is a mask, with the operands it takes, the lowest
+/// first. A width beneath them is not included. A mask has no operands. Its bytes and the stems it implies (Technical
+/// Note 5177, "Hint Operators") are given by `Program::tell_within` only.
 pub type Operation = (Operator, Vec<Operand>);
 
 /// Operations in the order of the run.
 pub type Operations = Vec<Operation>;
 
-/// An operator, with the operands before it and the code behind its name (Technical Note 5177, Appendix A).
+/// An operator, with its operands before its name and its code after it (Technical Note 5177, Appendix A).
 #[derive(Clone, Copy, Debug, PartialEq, Eq)]
 pub enum Operator {
     /// y dy {dya dyb}* hstem (1)
@@ -200,16 +204,20 @@ pub enum Operator {
 }
 
 impl Operator {
-    /// The operator of a code (Technical Note 5177, Appendix A); a code of two bytes is 0x0c00 and the second byte.
+    /// Returns the operator with a code (Technical Note 5177, Appendix A). A code of two bytes is 0x0c00 plus the
+    /// second byte.
     ///
-    /// Refused: `UnknownOperator` where no operator has the code.
+    /// # Errors
+    ///
+    /// - `UnknownOperator`: no operator has the code.
     pub fn from(code: u16) -> Result<Self>
+        // The result is the operator that `operator_of` lists for `code`, or `UnknownOperator`.
         ensures { result ≡ ok_or (operator_of code) errors.UnknownOperator }
     {
         Operator::of(code).ok_or(Error::UnknownOperator)
     }
 
-    /// The operator of a code, if there is one.
+    /// The operator with a code, if there is one.
     #[inline(always)]
     pub(crate) fn of(code: u16) -> Option<Self>
         ensures { result ≡ operator_of code }
@@ -266,8 +274,9 @@ impl Operator {
         })
     }
 
-    /// The name of the case, as `RMoveTo`. Never refused.
+    /// Returns the name of the variant, such as `RMoveTo`.
     pub fn name(&self) -> &'static str
+        // The result is the name of the variant.
         ensures { result.now ≡ name_of self.now }
     {
         match self {
@@ -321,12 +330,15 @@ impl Operator {
         }
     }
 
-    /// How many operands the operator is answered with, of `length` on the stack: the greatest number up to `length`
-    /// that it takes (Technical Note 5177, "Path Construction Operators", "Hint Operators"). None where there is none,
-    /// and for `EndChar` and the operators that do not clear the stack. Never refused.
+    /// Returns how many of `length` operands on the stack the operator takes. This is the greatest number up to
+    /// `length` that it allows (Technical Note 5177, "Path Construction Operators", "Hint Operators"). Returns `None`
+    /// if there is no such number. For `EndChar`, and for operators that do not clear the stack, the result is always
+    /// `None`.
     #[inline(always)]
     pub fn taken(&self, length: usize) -> Option<usize>
+        // The result is the greatest number up to `length` that the operator allows, if any.
         ensures value { result ≡ the_taken self.now length }
+        // The result is at most `length`.
         ensures room { IfSome result (λ n. n ≤ length) }
     {
         let Some(lengths) = self.lengths() else {
@@ -335,7 +347,7 @@ impl Operator {
         lengths.greatest(length)
     }
 
-    /// The row of the table.
+    /// The row of the operator in `LENGTHS`.
     #[inline(always)]
     fn lengths(&self) -> Option<Lengths>
         ensures { (n : ℕ) → the_taken self.now n ≡ longest result n }
@@ -344,8 +356,8 @@ impl Operator {
     }
 }
 
-/// The numbers of operands that an operator takes: `least`, or more by `step` any number of times, which at 0 is
-/// never; and each of these with up to `spare` more.
+/// The numbers of operands that an operator takes: `least` plus any multiple of `step`, or only `least` if `step` is 0.
+/// Up to `spare` more are allowed with each.
 #[derive(Clone, Copy)]
 struct Lengths {
     least: usize,

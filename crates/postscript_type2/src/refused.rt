@@ -1,4 +1,4 @@
-//! What a program is refused with.
+//! The errors of a program.
 ghost use Rattle.std.specs.Prelude.{◌≡◌};
 ghost use Rattle.postscript_type2.specs.Refused.{error_of};
 ghost use Rattle.postscript_type2.specs.declared.refused.Refused.TheVariants as cases;
@@ -7,11 +7,11 @@ use postscript_base::Error;
 use postscript_base::error::Part;
 use std::alloc::{AllocError, AllocFailed};
 
-/// What is answered, or what it is refused with.
+/// The result of a call that may fail with [`Refused`].
 pub type Result<T> = std::result::Result<T, Refused>;
 
-/// What a program is refused with, by the name that its error has: a small type, since an error may hold a fault of a tape.
-/// `Error::from` gives the error.
+/// An error of a program, with the name of the corresponding `Error`. It is a small type, whereas an `Error` may hold
+/// an I/O error of a tape. `Error::from` converts it.
 #[derive(Debug, Drop)]
 pub enum Refused {
     Memory,
@@ -32,7 +32,7 @@ pub enum Refused {
     ZeroDivisor,
     NegativeRoot,
     TooManyStems,
-    /// The program was refused before.
+    /// The program has failed before.
     AlreadyFailed,
 }
 

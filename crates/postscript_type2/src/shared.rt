@@ -1,4 +1,4 @@
-//! What crates share that run charstrings of other tables, as those of CFF2.
+//! Items shared with crates that run charstrings of other tables, such as `CFF2`.
 
 pub use crate::program::Phase;
 pub use crate::program::callers::Callers;

@@ -6,7 +6,7 @@ ghost use Rattle.postscript_type2.specs.Private.Performing.{Gives};
 use crate::operation::Operand;
 use crate::refused::{Refused, Result};
 
-/// The operand of these bits, if 32 bits hold them.
+/// The operand with these bits, if they fit in 32 bits.
 fn fit(bits: i64) -> Result<Operand>
     ensures { Gives (the_fit bits) result }
 {
@@ -16,7 +16,7 @@ fn fit(bits: i64) -> Result<Operand>
     }
 }
 
-/// The bits, with room for sums and products.
+/// The bits, in a type that can hold sums and products.
 fn wide(a: Operand) -> i64
     ensures value { result ≡ a }
     ensures room { unsigned_abs result ≤ 2 ^ 31 }
@@ -48,7 +48,7 @@ pub(crate) fn difference(a: Operand, b: Operand) -> Result<Operand>
     fit(wide(a) - wide(b))
 }
 
-/// The quotient, cut towards zero.
+/// The quotient, rounded towards zero.
 fn cut(x: i64, y: i64) -> i64
     requires room { unsigned_abs x ≤ 2 ^ 62 }
     requires divides { y ≢ pos 0 }
@@ -99,7 +99,7 @@ pub(crate) fn root(a: Operand) -> Result<Operand>
     Ok(Operand::from_bits(root))
 }
 
-/// What a test answers: one or zero.
+/// The result of a test: one or zero.
 fn truth(answer: bool) -> Operand
     ensures { result ≡ the_truth answer }
 {

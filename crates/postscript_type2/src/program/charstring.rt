@@ -24,7 +24,7 @@ use super::{Answers, Phase, Program, all_answers};
 use postscript_base::Result;
 use std::alloc::Global;
 
-/// A charstring, with the subroutines that it may call (Technical Note 5177, "Subroutine Operators"). All are lent.
+/// A charstring and the subroutines that it may call (Technical Note 5177, "Subroutine Operators"), all borrowed.
 #[derive(Clone, Copy)]
 pub struct Charstring<'l> {
     /// The bytes of the charstring.
@@ -34,7 +34,7 @@ pub struct Charstring<'l> {
 }
 
 impl<'l> Charstring<'l> {
-    /// The program of the charstring, before its first operation, with no width. Never refused.
+    /// Returns the program of the charstring, before its first operation and without a width.
     ///
     /// ```rust
     /// pub fn width_over(alloc: Global, code: &[u8], table: &[u8], global: usize, local: usize) -> Result<Option<Operand>> {
@@ -47,7 +47,9 @@ impl<'l> Charstring<'l> {
     /// }
     /// ```
     pub fn program(self, alloc: Global) -> Program<'l>
+        // The program is at the start of the run by the rules (specs/Program/Meaning.antt).
         ensures meant { (run : Run) × IsRunFrom self.entry run × (result ≡ begun run) }
+        // The program is at the start of the computed run (specs/Program/Evaluation.antt).
         ensures value { result ≡ begun (run_from self.entry) }
     {
         Program {
@@ -56,49 +58,73 @@ impl<'l> Charstring<'l> {
         }
     }
 
-    /// All that the charstring answers, up to its end: as the function `run` does. Refused: `Memory`.
+    /// Runs the charstring to its end and returns everything, as the function `run` does.
+    ///
+    /// # Errors
+    ///
+    /// - `Memory`: out of memory.
     pub fn run(self, alloc: Global) -> Result<Answers>
+        // A fault is `UnexpectedEof`, `UnknownOperator` or one of `Unsupported` to `TooManyStems`.
         ensures listed { IfOk result (λ told. IfSome told.fault (λ e. IsOneOf run_refusals (number e))) }
+        // The result is exactly the run by the rules (specs/Program/Meaning.antt).
         ensures meant { IfOk result (λ told. (run : Run) × IsRunFrom self.entry run × Tells told run) }
+        // The result is exactly the computed run, and the only error is `Memory`.
         ensures tells { MatchResult result (λ told. Tells told (run_from self.entry)) (λ e. e ≡ errors.Memory) }
     {
         all_answers(alloc, &mut self.program(alloc))
     }
 
-    /// How many bytes the code of `flatten` has; `usize::MAX` where it has more.
+    /// Returns the number of bytes of the code of [`Charstring::flatten`], or `usize::MAX` if it has more.
     ///
-    /// Refused: with what the run is refused with, as `Program::next` is; `Memory`.
+    /// # Errors
+    ///
+    /// - The fault that ends the run: `UnexpectedEof`, `UnknownOperator`, or one from `Unsupported` to `TooManyStems`.
+    /// - `Memory`: out of memory.
     pub fn flat_len(self, alloc: Global) -> Result<usize>
+        // On success the run ends without a fault.
         ensures faultless { OnOk result (fault_of (run_from self.entry).end ≡ None) }
+        // The result is the length of the flat text of the run, or `usize::MAX` if it is longer.
         ensures measures { IfOk result (λ len. len ≡ the_flat_len (run_from self.entry).trace) }
+        // The result is also this length for the run by the rules (specs/Program/Meaning.antt).
         ensures meant { IfOk result (λ len. (run : Run) × IsRunFrom self.entry run × (len ≡ the_flat_len run.trace)) }
+        // An error other than `Memory` is the fault that ends the run.
         ensures refused { IfErr result (λ e. (e ≡ errors.Memory) ⊎ (fault_of (run_from self.entry).end ≡ Some (refusal_of e))) }
+        // Errors: `Memory`, `UnexpectedEof`, `UnknownOperator` or `Unsupported` to `TooManyStems`.
         ensures listed { IsListed flatten_refusals result }
     {
         measured(&mut Machine::over(alloc, self))
     }
 
-    /// The same glyph as code without calls, phrase for phrase, as `Program::flatten` answers it.
+    /// Returns the same glyph as flat code, without calls, as [`Program::flatten`] does.
     ///
-    /// Refused: with what the run is refused with, as `Program::next` is; `Memory`.
+    /// # Errors
+    ///
+    /// - The fault that ends the run: `UnexpectedEof`, `UnknownOperator`, or one from `Unsupported` to `TooManyStems`.
+    /// - `Memory`: out of memory.
     pub fn flatten(self, alloc: Global) -> Result<Vec<u8>>
+        // On success the run ends without a fault.
         ensures faultless { OnOk result (fault_of (run_from self.entry).end ≡ None) }
+        // The code is the flat text of the run (specs/Program/Flat.antt).
         ensures text { IfOk result (λ flat. flat.items ≡ flat_text (run_from self.entry).trace) }
+        // The code is the flat text of the run by the rules (specs/Program/Meaning.antt).
         ensures meant { IfOk result (λ flat. (run : Run) × IsRunFrom self.entry run × (flat.items ≡ flat_text run.trace)) }
+        // Over any subroutines, it has the operations, hints and width of the run, and no calls.
         ensures keeps { IfOk result (λ flat. (other : Lists) → KeepsMeaning other flat.items (run_from self.entry)) }
+        // An error other than `Memory` is the fault that ends the run.
         ensures refused { IfErr result (λ e. (e ≡ errors.Memory) ⊎ (fault_of (run_from self.entry).end ≡ Some (refusal_of e))) }
+        // Errors: `Memory`, `UnexpectedEof`, `UnknownOperator` or `Unsupported` to `TooManyStems`.
         ensures listed { IsListed flatten_refusals result }
+        // The flat text of any run without a fault keeps its meaning over any subroutines.
         ensures law { FlatTextKeepsMeaning }
+        // The length of the code is the result of `flat_len`.
         ensures measured { IfOk result (λ flat. length flat.items ≡ the_flat_len (run_from self.entry).trace) }
     {
         let len = self.flat_len(alloc)?;
         flat_code(alloc, len, &mut Machine::over(alloc, self))
     }
 
-    /// The code of `flatten`, where the run comes to its end while the limit lasts; None where the limit is used up before.
-    /// `Program::step_within` says what it is spent on. The charstring is run once.
-    ///
-    /// Refused: with what the run is refused with, as `Program::next` is; `Memory`.
+    /// Returns the code of [`Charstring::flatten`] if the run ends within the limit, or `None` if the limit is used up
+    /// first. [`Program::step_within`] describes how the limit is spent. The charstring is run once.
     ///
     /// ```rust
     /// pub fn flat_or_long(alloc: Global, code: &[u8], subroutines: Subroutines<'_>) -> Result<Option<Vec<u8>>> {
@@ -106,46 +132,79 @@ impl<'l> Charstring<'l> {
     ///     Charstring { code, subroutines }.flatten_within(alloc, &mut limit)
     /// }
     /// ```
+    ///
+    /// # Errors
+    ///
+    /// - The fault that ends the run: `UnexpectedEof`, `UnknownOperator`, or one from `Unsupported` to `TooManyStems`.
+    /// - `Memory`: out of memory.
     pub fn flatten_within(self, alloc: Global, limit: &mut u64) -> Result<Option<Vec<u8>>>
+        // `None` means that the limit is used up, any other result but `Memory` that the run fits.
         ensures fits { AnswersWithin (run_from self.entry).trace limit.old result limit.new }
+        // If the run costs less than the limit, the result is not `None`.
         ensures suffices { cost (run_from self.entry).trace < limit.old → result ≢ Ok None }
+        // If code is returned, the run ends without a fault.
         ensures faultless { IfOk result (λ told. IfSome told (λ _. fault_of (run_from self.entry).end ≡ None)) }
+        // The code is the flat text of the run (specs/Program/Flat.antt).
         ensures text { IfOk result (λ told. IfSome told (λ flat. flat.items ≡ flat_text (run_from self.entry).trace)) }
+        // The code is the flat text of the run by the rules (specs/Program/Meaning.antt).
         ensures meant { IfOk result
             (λ told. IfSome told (λ flat. (run : Run) × IsRunFrom self.entry run × (flat.items ≡ flat_text run.trace))) }
+        // Over any subroutines, it has the operations, hints and width of the run, and no calls.
         ensures keeps { IfOk result (λ told. IfSome told (λ flat. (other : Lists) → KeepsMeaning other flat.items (run_from self.entry))) }
+        // An error other than `Memory` is the fault that ends the run.
         ensures refused { IfErr result (λ e. (e ≡ errors.Memory) ⊎ (fault_of (run_from self.entry).end ≡ Some (refusal_of e))) }
+        // Errors: `Memory`, `UnexpectedEof`, `UnknownOperator` or `Unsupported` to `TooManyStems`.
         ensures listed { IsListed flatten_refusals result }
     {
         flat_code_within(alloc, &mut Machine::over(alloc, self), limit)
     }
 
-    /// How many bytes the code of `inlined` has; `usize::MAX` where it has more.
+    /// Returns the number of bytes of the code of [`Charstring::inlined`], or `usize::MAX` if it has more.
     ///
-    /// Refused: with what the run is refused with, as `Program::next` is; `Memory`.
+    /// # Errors
+    ///
+    /// - The fault that ends the run: `UnexpectedEof`, `UnknownOperator`, or one from `Unsupported` to `TooManyStems`.
+    /// - `Memory`: out of memory.
     pub fn inlined_len(self, alloc: Global) -> Result<usize>
+        // On success the run ends without a fault.
         ensures faultless { OnOk result (fault_of (run_from self.entry).end ≡ None) }
+        // The result is the length of the inlined text of the run, or `usize::MAX` if it is longer.
         ensures measures { IfOk result (λ len. len ≡ the_inlined_len (run_from self.entry).trace) }
+        // The result is also this length for the run by the rules (specs/Program/Meaning.antt).
         ensures meant { IfOk result (λ len. (run : Run) × IsRunFrom self.entry run × (len ≡ the_inlined_len run.trace)) }
+        // An error other than `Memory` is the fault that ends the run.
         ensures refused { IfErr result (λ e. (e ≡ errors.Memory) ⊎ (fault_of (run_from self.entry).end ≡ Some (refusal_of e))) }
+        // Errors: `Memory`, `UnexpectedEof`, `UnknownOperator` or `Unsupported` to `TooManyStems`.
         ensures listed { IsListed flatten_refusals result }
     {
         inlined_measured(&mut Machine::over(alloc, self))
     }
 
-    /// The same glyph as code without calls and their numbers, never longer than `flatten` answers, as `Program::inlined`
-    /// answers it.
+    /// Returns the same glyph as desubroutinized code (no calls), as [`Program::inlined`] does. It is never longer than
+    /// the code of [`Charstring::flatten`].
     ///
-    /// Refused: with what the run is refused with, as `Program::next` is; `Memory`.
+    /// # Errors
+    ///
+    /// - The fault that ends the run: `UnexpectedEof`, `UnknownOperator`, or one from `Unsupported` to `TooManyStems`.
+    /// - `Memory`: out of memory.
     pub fn inlined(self, alloc: Global) -> Result<Vec<u8>>
+        // On success the run ends without a fault.
         ensures faultless { OnOk result (fault_of (run_from self.entry).end ≡ None) }
+        // The code is the inlined text of the run (specs/Program/Inlined.antt).
         ensures text { IfOk result (λ flat. flat.items ≡ inlined_text (run_from self.entry).trace) }
+        // The code is the inlined text of the run by the rules (specs/Program/Meaning.antt).
         ensures meant { IfOk result (λ flat. (run : Run) × IsRunFrom self.entry run × (flat.items ≡ inlined_text run.trace)) }
+        // Over any subroutines, it has the operations, hints and width of the run, and no calls.
         ensures keeps { IfOk result (λ flat. (other : Lists) → KeepsMeaning other flat.items (run_from self.entry)) }
+        // If each call has its number right before it, no operator is added to those of the run.
         ensures adds_none { IfOk result (λ flat. (other : Lists) → AddsNoOperator other flat.items (run_from self.entry)) }
+        // The code is never longer than the flat text of the run.
         ensures no_longer { IfOk result (λ flat. length flat.items ≤ length (flat_text (run_from self.entry).trace)) }
+        // An error other than `Memory` is the fault that ends the run.
         ensures refused { IfErr result (λ e. (e ≡ errors.Memory) ⊎ (fault_of (run_from self.entry).end ≡ Some (refusal_of e))) }
+        // Errors: `Memory`, `UnexpectedEof`, `UnknownOperator` or `Unsupported` to `TooManyStems`.
         ensures listed { IsListed flatten_refusals result }
+        // The length of the code is the result of `inlined_len`.
         ensures measured { IfOk result (λ flat. length flat.items ≡ the_inlined_len (run_from self.entry).trace) }
     {
         let len = self.inlined_len(alloc)?;

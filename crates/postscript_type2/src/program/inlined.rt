@@ -1,4 +1,4 @@
-//! Inlined code: the phrases of a run without its calls, their numbers and its returns.
+//! Desubroutinized (inlined) code: the phrases of a run without its calls, their numbers and its returns.
 ghost use Rattle.std.specs.Prelude.{◌≡◌, ◌⊎◌, ◌∷◌, ◌≤◌, [], List, length, OnOk, IfOk, IfErr};
 ghost use Rattle.postscript_base.specs.declared.error.Error.TheVariants as errors;
 ghost use Rattle.postscript_base.specs.RefusalOf.{refusal_of};
@@ -14,14 +14,14 @@ use crate::refused;
 use postscript_base::Result;
 use std::alloc::Global;
 
-/// What stays of a phrase: a phrase that stands, or numbers for the phrase behind it.
+/// The part of a phrase that is kept: a whole phrase, or numbers for the next phrase.
 #[derive(Clone, Copy)]
 enum Piece<'l> {
     Stands(&'l [u8]),
     Leaves(&'l [u8]),
 }
 
-/// How many bytes of a number follow its first one.
+/// The number of bytes of a number after its first one.
 fn behind(first: u8) -> usize
     ensures { result ≡ behind_first first }
 {
@@ -33,7 +33,7 @@ fn behind(first: u8) -> usize
     }
 }
 
-/// The place of the last number, if there is one.
+/// The offset of the last number, if there is one.
 fn last_number(numbers: &[u8]) -> Option<usize>
     ensures { IsLastOf numbers.now result }
 {
@@ -46,7 +46,7 @@ fn last_number(numbers: &[u8]) -> Option<usize>
     last
 }
 
-/// What stays of a phrase in inlined code.
+/// The part of a phrase that is kept in inlined code.
 fn kept<'l>(said: Phrase<'l>) -> Piece<'l>
     ensures { IsPiece result (the_piece (said_of said.entry)) }
 {
@@ -61,7 +61,7 @@ fn kept<'l>(said: Phrase<'l>) -> Piece<'l>
     }
 }
 
-/// Inlined code so far, and how many of its bytes end with an operator: numbers stand behind them.
+/// The inlined code so far, and the number of its bytes up to its last operator. Only numbers follow these.
 #[derive(Drop)]
 struct Inlined {
     code: Vec<u8>,
@@ -69,7 +69,7 @@ struct Inlined {
 }
 
 impl Inlined {
-    /// Appends what stays of a phrase.
+    /// Appends the part of a phrase that is kept.
     fn append(&mut self, said: Phrase<'_>) -> refused::Result<()>
         requires { self.old.whole ≤ length self.old.code.items }
         ensures ok { OnOk result ((more : List ShownPhrase) → written self.new more ≡ written self.old (said_of said.entry ∷ more)) }
@@ -86,7 +86,7 @@ impl Inlined {
         Ok(())
     }
 
-    /// The code, without numbers behind its last operator.
+    /// The code, without numbers after its last operator.
     fn finish(mut self) -> Vec<u8>
         ensures { result.items ≡ written self [] }
     {
@@ -95,7 +95,7 @@ impl Inlined {
     }
 }
 
-/// How many bytes inlined code has so far, and how many of them end with an operator.
+/// The number of bytes of inlined code so far, and the number of bytes up to its last operator.
 #[derive(Clone, Copy)]
 struct Lengths {
     len: usize,
@@ -103,7 +103,7 @@ struct Lengths {
 }
 
 impl Lengths {
-    /// Counts what stays of a phrase.
+    /// Counts the part of a phrase that is kept.
     fn count(self, said: Phrase<'_>) -> Self
         ensures fits { result.whole ≤ usize.MAX }
         ensures counts { (more : List ShownPhrase) → counted result more ≡ counted self (said_of said.entry ∷ more) }
@@ -124,7 +124,7 @@ impl Lengths {
     }
 }
 
-/// The length of the inlined code of what a machine still answers.
+/// The length of the inlined code of all that a machine has left to run.
 pub(crate) fn inlined_measured(machine: &mut Machine<'_>) -> Result<usize>
     requires { IsNested machine.old }
     ensures faultless { OnOk result (fault_of (still_of machine.old).end ≡ None) }
@@ -145,7 +145,7 @@ pub(crate) fn inlined_measured(machine: &mut Machine<'_>) -> Result<usize>
     }
 }
 
-/// The inlined code of what a machine still answers, in memory that is taken at once for so many bytes.
+/// The inlined code of all that a machine has left to run. Memory for `len` bytes is allocated at once.
 pub(crate) fn inlined_code(alloc: Global, len: usize, machine: &mut Machine<'_>) -> Result<Vec<u8>>
     requires { IsNested machine.old }
     ensures faultless { OnOk result (fault_of (still_of machine.old).end ≡ None) }

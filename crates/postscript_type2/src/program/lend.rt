@@ -1,4 +1,4 @@
-//! Operations that are lent.
+//! Operations with borrowed operands.
 ghost use Rattle.std.specs.Borrow.{sem};
 ghost use Rattle.std.specs.Prelude.{◌≡◌, ℤ, List};
 ghost use Rattle.postscript_base.specs.Error.{IsListed};
@@ -11,13 +11,11 @@ use crate::operation::{Operand, Operator};
 use postscript_base::{Error, Result};
 
 impl<'l> Program<'l> {
-    /// The next operation, as `next` answers it, with its operands lent, the lowest first, until the program is used
-    /// again; None at the end. Calls of `next` and of `step` may be mixed.
+    /// Returns the next operation, as [`Program::next`] does, but borrows its operands, the lowest first, from the
+    /// program. Returns `None` at the end. Calls of [`Program::next`] and `step` may be mixed.
     ///
-    /// It asks for memory for the stack, once, and more only where more than 48 operands stand on it; and for the callers of
-    /// subroutines, where one calls another. It asks for none for the operands that it lends.
-    ///
-    /// Refused: as `next` is.
+    /// Memory for the stack is allocated once, and again only if there are more than 48 operands on it. Memory is also
+    /// allocated for the callers when subroutine calls nest. None is allocated for the borrowed operands.
     ///
     /// ```rust
     /// pub fn pass(program: &mut Program<'_>) -> Result<Option<(Operator, usize)>> {
@@ -27,13 +25,23 @@ impl<'l> Program<'l> {
     ///     }
     /// }
     /// ```
+    ///
+    /// # Errors
+    ///
+    /// - The errors of [`Program::next`].
     #[inline(always)]
     pub fn step(&mut self) -> Result<Option<(Operator, &[Operand])>>
+        // When the borrow of the operands ends, the program is as after `next`.
         ensures* steps { sem 𝓛 (LendsNext self.entry result) }
+        // The result is the first operation left, the end, the fault or `Memory`.
         ensures head { IsHead self.old result }
+        // Errors: `Memory`, `UnexpectedEof`, `UnknownOperator` or `Unsupported` to `AlreadyFailed`.
         ensures listed { IsListed next_refusals result }
+        // After an end at which `endchar` took no operands, the result is `None` again.
         ensures ended { self.old ≡ ended self.old.width → result ≡ Ok None }
+        // After an end at which `endchar` took any operands, the result is `None` again.
         ensures over { (operands : List ℤ) → self.old ≡ ended_over operands self.old.width → result ≡ Ok None }
+        // After a failure the result is `AlreadyFailed`.
         ensures failed { self.old ≡ failed self.old.width → result ≡ Err Error.AlreadyFailed }
     {
         match self.phase {

@@ -1,4 +1,4 @@
-//! Numbers of one and of two bytes, which are read in one loop up to the next operator.
+//! Numbers of one and two bytes, read in one loop up to the next operator.
 ghost use Rattle.std.specs.Prelude.{◌≡◌, ◌≤◌, ◌<◌, ◌+◌, ◌&&◌, nat_lt, if◌then◌else◌, length, IfOk, IfErr};
 ghost use Rattle.postscript_type2.specs.declared.refused.Refused.TheVariants as cases;
 ghost use Rattle.postscript_base.specs.Numbers.{above, below};
@@ -12,22 +12,24 @@ use crate::operation::Operand;
 use crate::refused::Result;
 use core::mem::replace_with;
 
-/// How many operands the Note lets a stack hold; one with more takes more memory (Technical Note 5177, Appendix B,
-/// "Type 2 Charstring Implementation Limits"). There is room for some more, so that no stack which the Note allows grows.
+/// The number of operands that the Note allows on a stack; a stack with more takes more memory (Technical Note 5177,
+/// Appendix B, "Type 2 Charstring Implementation Limits"). A little more is allocated, so that no stack within this
+/// limit grows.
 const OPERANDS: usize = 48;
 
-/// For how many operands there is room at least where numbers are put onto a stack.
+/// The least free capacity of a stack when numbers are put onto it.
 const ROOM: usize = 8;
 
-/// Whether a byte is a number by itself, as most are (Technical Note 5177, "Charstring Number Encoding"). Never refused.
+/// Returns whether a byte is a number by itself, as most are (Technical Note 5177, "Charstring Number Encoding").
 #[inline(always)]
 pub fn is_alone(first: u8) -> bool
+    // The result is `true` exactly for the bytes from 32 to 246.
     ensures { result ≡ (nat_lt 0x1f first && nat_lt first 0xf7) }
 {
     32 <= first && first < 247
 }
 
-/// The number that a byte is by itself.
+/// The number of one byte.
 #[inline(always)]
 fn alone(byte: u8) -> Operand
     ensures { result ≡ the_alone byte }
@@ -45,8 +47,8 @@ fn pair(first: u8, second: u8) -> Operand
     Operand::from_int(paired(first, second))
 }
 
-/// A stack with the numbers of one and of two bytes that stand at a place, as far as it has room for them, and the place behind them. It is
-/// handed over, so that where it stands is not read again behind each number.
+/// Returns the stack with the one-byte and two-byte numbers at an offset, as far as its capacity allows, and the offset
+/// after them. The stack is passed by value, so that its address is not reloaded after each number.
 #[inline(always)]
 fn with_short(stack: Vec<Operand>, at: (&[u8], usize)) -> (Vec<Operand>, usize)
     requires { at.1 ≤ length at.0.now }
@@ -57,11 +59,11 @@ fn with_short(stack: Vec<Operand>, at: (&[u8], usize)) -> (Vec<Operand>, usize)
     let mut stack = stack;
     let mut next = place;
     let room = stack.capacity() - stack.len();
-    // one byte stands behind each that is read here
+    // each byte that is read here has one after it
     let limit = place + room.min((code.len() - place).saturating_sub(1));
     while next < limit {
         let first = code[next];
-        // asked first, so that a byte is guessed wrong once
+        // tested first, so that there is one misprediction for each phrase
         if first < 32 {
             break;
         }
@@ -78,8 +80,8 @@ fn with_short(stack: Vec<Operand>, at: (&[u8], usize)) -> (Vec<Operand>, usize)
     (stack, next)
 }
 
-/// Puts numbers of one and of two bytes onto the stack that stand at a place, as far as there is room for them. Answers the place behind
-/// them.
+/// Puts the one-byte and two-byte numbers at an offset onto the stack, as far as its capacity allows. Returns the
+/// offset after them.
 #[inline(always)]
 pub(super) fn put_short(code: &[u8], place: usize, stack: &mut Vec<Operand>) -> Result<usize>
     requires { place ≤ length code.now }

@@ -1,4 +1,4 @@
-//! Operations that are told with their spelling, while the limit lasts.
+//! Operations with their hints and their bytes, within a limit.
 ghost use Rattle.std.specs.Borrow.{sem};
 ghost use Rattle.std.specs.Prelude.{◌≡◌, ◌≢◌, ◌<◌, ℤ, List};
 ghost use Rattle.postscript_base.specs.Error.{IsListed};
@@ -14,28 +14,28 @@ use super::{Phase, Program};
 use crate::operation::{Operand, Operator};
 use postscript_base::{Error, Result};
 
-/// What a mask says: the operands of the stems that it implies, the lowest first, and its bytes (Technical Note 5177, "Hint
-/// Operators"). Beside any other operator both are empty.
+/// The hints of a mask: the operands of the stems that it implies, the lowest first, and its bytes (Technical Note
+/// 5177, "Hint Operators"). Both are empty for any other operator.
 #[derive(Clone, Copy)]
 pub struct Hints<'p> {
     pub stems: &'p [Operand],
     pub mask: &'p [u8],
 }
 
-/// How far a program comes within its limit, as `Within`, with the hints and the phrase of its next operation. The phrase has the
-/// bytes of the numbers that stand before the operator, which are not all its operands where some were calculated or stand before a
-/// call, those of the operator, and those of the mask.
+/// The progress of a program within its limit, like [`Within`], with the hints and the phrase of the next operation.
+/// The phrase contains the bytes of the numbers before the operator, of the operator and of its mask. These numbers are
+/// not all operands if some were computed, or pushed before a call.
 #[derive(Clone, Copy)]
 pub enum Told<'p> {
-    /// To its next operation: the operator, its operands, the lowest first, its hints, and its phrase.
+    /// The next operation: the operator, its operands, the lowest first, its hints, and its phrase.
     Operation(Operator, &'p [Operand], Hints<'p>, &'p [u8]),
-    /// To its end.
+    /// The end.
     End,
-    /// Not so far: the limit is used up. The program goes on where it stands, as soon as it is called again.
+    /// The limit is used up. The next call continues from there.
     Paused,
 }
 
-/// The last so many bytes.
+/// The last `count` bytes.
 fn last(bytes: &[u8], count: usize) -> &[u8]
     ensures { result.now ≡ last_of bytes.now count }
 {
@@ -43,10 +43,8 @@ fn last(bytes: &[u8], count: usize) -> &[u8]
 }
 
 impl<'l> Program<'l> {
-    /// The next operation, as `step_within` lends it, with its hints and its phrase. What it takes of the limit, and where it pauses,
-    /// is told there.
-    ///
-    /// Refused: as `next` is.
+    /// Returns the next operation, as [`Program::step_within`] does, with its hints and its phrase. That function
+    /// describes how the limit is spent and when the program pauses.
     ///
     /// ```rust
     /// pub fn mask(program: &mut Program<'_>, limit: &mut u64) -> Result<usize> {
@@ -56,14 +54,26 @@ impl<'l> Program<'l> {
     ///     }
     /// }
     /// ```
+    ///
+    /// # Errors
+    ///
+    /// - The errors of [`Program::next`].
     pub fn tell_within(&mut self, limit: &mut u64) -> Result<Told<'_>>
+        // When the borrow ends, the program is as after `step_within`, which has run the phrase.
         ensures* steps { sem 𝓛 (LendsTold self.entry limit.old result limit.new) }
+        // The result is the first operation left, the end, a pause, the fault or `Memory`.
         ensures head { IsHeadWithin self.old (within_of result) }
+        // The hints of an operation are those of the first operation left.
         ensures hints { TellsHintsOf self.old result }
+        // Errors: `Memory`, `UnexpectedEof`, `UnknownOperator` or `Unsupported` to `AlreadyFailed`.
         ensures listed { IsListed next_refusals result }
+        // After an end at which `endchar` took no operands, the result is `End` again.
         ensures ended { self.old ≡ ended self.old.width → result ≡ Ok Told.End }
+        // After an end at which `endchar` took any operands, the result is `End` again.
         ensures over { (operands : List ℤ) → self.old ≡ ended_over operands self.old.width → result ≡ Ok Told.End }
+        // After a failure the result is `AlreadyFailed`.
         ensures failed { self.old ≡ failed self.old.width → result ≡ Err Error.AlreadyFailed }
+        // If the phrases left cost less than the limit, the result is not `Paused`.
         ensures suffices { cost self.old.trace < limit.old → result ≢ Ok Told.Paused }
     {
         match self.phase {

@@ -1,4 +1,4 @@
-//! Operations that are lent, while the limit lasts.
+//! Operations with borrowed operands, within a limit.
 ghost use Rattle.std.specs.Borrow.{sem};
 ghost use Rattle.std.specs.Prelude.{◌≡◌, ◌≢◌, ◌<◌, ℤ, List};
 ghost use Rattle.postscript_base.specs.Error.{IsListed};
@@ -14,28 +14,26 @@ use crate::operation::{Operand, Operator};
 use crate::refused::Refused;
 use postscript_base::{Error, Result};
 
-/// How far a program comes within its limit.
+/// The progress of a program within its limit.
 #[derive(Clone, Copy)]
 pub enum Within<'p> {
-    /// To its next operation: the operator, and its operands, the lowest first.
+    /// The next operation: the operator, and its operands, the lowest first.
     Operation(Operator, &'p [Operand]),
-    /// To its end.
+    /// The end.
     End,
-    /// Not so far: the limit is used up. The program goes on where it stands, as soon as it is called again.
+    /// The limit is used up. The next call continues from there.
     Paused,
 }
 
 impl<'l> Program<'l> {
-    /// The next operation, as `step` lends it, where the limit lasts up to it. Each phrase that is run, an operator with
-    /// the numbers before it, takes a unit of the limit for each of its bytes, a `roll` 4096 more, and a `sqrt` 8 more; one
-    /// is begun only while some of the limit is left, and takes the rest of it where it costs more. So a call reads at most as
-    /// many bytes as the limit has units, and one phrase. Where it answers `Paused` the program still answers what it did before: any
-    /// call goes on from there. A run that costs less than the limit is never paused. Calls of `next` and `step` may be
-    /// mixed with it; they keep to no limit.
+    /// Returns the next operation, as [`Program::step`] does, if the limit is not used up before it. Each phrase that
+    /// is run (an operator with the numbers before it) costs one unit for each of its bytes. A `roll` costs 4096 units
+    /// more, and a `sqrt` 8 more. A phrase is only begun while some of the limit is left. If it costs more, it takes
+    /// the rest. So a call reads at most one byte for each unit of the limit, and one more phrase.
     ///
-    /// Memory is asked for as `step` does.
-    ///
-    /// Refused: as `next` is.
+    /// After `Paused` the program has everything left that it had before, and any call continues from there. A run that
+    /// costs less than the limit is never paused. Calls of [`Program::next`] and [`Program::step`] may be mixed with
+    /// this one, but they ignore the limit. Memory is allocated as by [`Program::step`].
     ///
     /// ```rust
     /// pub fn count(program: &mut Program<'_>, mut limit: u64) -> Result<Option<u64>> {
@@ -50,14 +48,25 @@ impl<'l> Program<'l> {
     ///     Ok(None)
     /// }
     /// ```
+    ///
+    /// # Errors
+    ///
+    /// - The errors of [`Program::next`].
     #[inline(always)]
     pub fn step_within(&mut self, limit: &mut u64) -> Result<Within<'_>>
+        // When the borrow ends, the program is as after `step` or paused, and its phrases are paid.
         ensures* steps { sem 𝓛 (LendsWithin self.entry limit.old result limit.new) }
+        // The result is the first operation left, the end, a pause, the fault or `Memory`.
         ensures head { IsHeadWithin self.old result }
+        // Errors: `Memory`, `UnexpectedEof`, `UnknownOperator` or `Unsupported` to `AlreadyFailed`.
         ensures listed { IsListed next_refusals result }
+        // After an end at which `endchar` took no operands, the result is `End` again.
         ensures ended { self.old ≡ ended self.old.width → result ≡ Ok Within.End }
+        // After an end at which `endchar` took any operands, the result is `End` again.
         ensures over { (operands : List ℤ) → self.old ≡ ended_over operands self.old.width → result ≡ Ok Within.End }
+        // After a failure the result is `AlreadyFailed`.
         ensures failed { self.old ≡ failed self.old.width → result ≡ Err Error.AlreadyFailed }
+        // If the phrases left cost less than the limit, the result is not `Paused`.
         ensures suffices { cost self.old.trace < limit.old → result ≢ Ok Within.Paused }
     {
         match self.step_within_for::<()>(limit) {
@@ -66,21 +75,31 @@ impl<'l> Program<'l> {
         }
     }
 
-    /// As `step_within`, compiled anew for each type `S`, of which nothing is used. A compiler puts a function that has one caller into
-    /// that caller: so what draws into a sink of type `S` has the run in itself, with no call for each operation.
+    /// Returns the next operation, as [`Program::step_within`] does. It is compiled separately for each type `S`, which
+    /// is not used otherwise. A compiler inlines a function that has one caller. So code that draws into a sink of type
+    /// `S` contains the run, without a call for each operation.
     ///
-    /// Refused: as `next` is, by the name of its error.
+    /// # Errors
+    ///
+    /// - The errors of [`Program::next`], as [`Refused`].
     #[inline(always)]
     pub fn step_within_for<S>(
         &mut self,
         limit: &mut u64,
     ) -> std::result::Result<Within<'_>, Refused>
+        // When the borrow ends, the program is as after `step` or paused, and its phrases are paid.
         ensures* steps { sem 𝓛 (LendsWithin self.entry limit.old (with_error result) limit.new) }
+        // The result is the first operation left, the end, a pause, the fault or `Memory`.
         ensures head { IsHeadWithin self.old (with_error result) }
+        // Errors: `Memory`, `UnexpectedEof`, `UnknownOperator` or `Unsupported` to `AlreadyFailed`.
         ensures listed { IsListed next_refusals (with_error result) }
+        // After an end at which `endchar` took no operands, the result is `End` again.
         ensures ended { self.old ≡ ended self.old.width → result ≡ Ok Within.End }
+        // After an end at which `endchar` took any operands, the result is `End` again.
         ensures over { (operands : List ℤ) → self.old ≡ ended_over operands self.old.width → result ≡ Ok Within.End }
+        // After a failure the result is `AlreadyFailed`.
         ensures failed { self.old ≡ failed self.old.width → result ≡ Err Refused.AlreadyFailed }
+        // If the phrases left cost less than the limit, the result is not `Paused`.
         ensures suffices { cost self.old.trace < limit.old → result ≢ Ok Within.Paused }
     {
         match self.phase {
