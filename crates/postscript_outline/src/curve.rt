@@ -3,10 +3,10 @@ ghost use Rattle.std.specs.Prelude.{◌≡◌, ◌+◌, ◌*◌, ◌^◌, ◌≤
 ghost use Rattle.postscript_outline.specs.Halves.{Spans, IsLevel, IsCurveWithin, IsBent, IsNearLevel, back as the_back, front as the_front, joined};
 ghost use Rattle.postscript_outline.specs.Arcs.{Reaches};
 
-/// How often a curve is halved at most: so often that what is left lies within a unit of its ends.
+/// The number of times a curve is halved at most. After that, each piece is within one unit of its ends.
 const HALVINGS: u32 = 17;
 
-/// A Bézier curve along one axis, by the coordinates of its ends and of its control points.
+/// A Bézier curve along one axis, given by the coordinates of its ends and of its control points.
 #[derive(Clone, Copy)]
 struct Curve {
     from: u128,
@@ -15,7 +15,7 @@ struct Curve {
     to: u128,
 }
 
-/// From where to where a curve comes, in whole units.
+/// The extent of a curve, in whole units.
 #[derive(Clone, Copy)]
 struct Span {
     low: u128,
@@ -23,7 +23,7 @@ struct Span {
 }
 
 impl Span {
-    /// From where to where both come.
+    /// The extent of both.
     fn joined(self, other: Span) -> Span
         ensures { result ≡ joined self other }
     {
@@ -35,7 +35,7 @@ impl Span {
 }
 
 impl Curve {
-    /// Its first half, in eighths.
+    /// The first half, in eighths.
     fn front(self) -> Curve
         requires { IsCurveWithin (2 ^ 83) self }
         ensures { result ≡ the_front self }
@@ -48,7 +48,7 @@ impl Curve {
         }
     }
 
-    /// Its second half, in eighths.
+    /// The second half, in eighths.
     fn back(self) -> Curve
         requires { IsCurveWithin (2 ^ 83) self }
         ensures { result ≡ the_back self }
@@ -69,7 +69,7 @@ impl Curve {
         low <= self.first && self.first <= high && low <= self.second && self.second <= high
     }
 
-    /// From where to where its ends and control points come, in units of so many parts.
+    /// The extent of its ends and control points, in units of `unit` parts.
     fn hull(self, unit: u128) -> Span
         requires some { 0 < unit }
         requires room { IsCurveWithin (2 ^ 84) self }
@@ -84,7 +84,7 @@ impl Curve {
         }
     }
 
-    /// From where to where it comes, in units of so many parts, with at most so many halvings.
+    /// The extent of the curve in units of `unit` parts, after at most `halvings` halvings.
     fn span(self, unit: u128, halvings: u32) -> Span
         requires parts { unit * 8 ^ halvings ≡ 2 ^ 51 }
         requires room { IsCurveWithin (2 ^ 32 * unit) self }
@@ -100,7 +100,7 @@ impl Curve {
     }
 }
 
-/// From where to where a curve comes along an axis, in 16.16 bits, by the coordinates of its ends and of its control points.
+/// The extent of a curve along an axis, in 16.16 format, from the coordinates of its ends and control points.
 pub(crate) fn extent(from: i32, first: i32, second: i32, to: i32) -> (i32, i32)
     ensures { Reaches result.0 result.1 from first second to }
 {
@@ -114,7 +114,7 @@ pub(crate) fn extent(from: i32, first: i32, second: i32, to: i32) -> (i32, i32)
     (lowered(low), lowered(high))
 }
 
-/// So many from the least coordinate on.
+/// The distance from the least coordinate.
 fn raised(coordinate: i32) -> u128
     ensures is { coordinate +ℤ pos (2 ^ 31) ≡ pos result }
     ensures room { result ≤ 2 ^ 32 - 1 }
@@ -122,7 +122,7 @@ fn raised(coordinate: i32) -> u128
     (i64::from(coordinate) + 2_147_483_648) as u128
 }
 
-/// The coordinate that is so many from the least one on.
+/// The coordinate at a distance from the least one.
 fn lowered(number: u128) -> i32
     requires { number ≤ 2 ^ 32 - 1 }
     ensures { result +ℤ pos (2 ^ 31) ≡ pos number }

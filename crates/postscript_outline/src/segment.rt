@@ -1,15 +1,15 @@
 //! Segments of outlines.
 use crate::point::Point;
 
-/// A piece of an outline.
+/// A segment of an outline.
 #[derive(Clone, Copy, Debug, PartialEq, Eq)]
 pub enum Segment {
-    /// A contour begins here.
+    /// The start of a contour.
     MoveTo(Point),
-    /// A straight line to here.
+    /// A straight line to this point.
     LineTo(Point),
     /// A Bézier curve: its two control points, and its end.
     CurveTo(Point, Point, Point),
-    /// The contour goes back to where it began, and ends.
+    /// The end of the contour, which goes back to its start.
     Close,
 }

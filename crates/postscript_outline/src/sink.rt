@@ -1,4 +1,4 @@
-//! Sinks, which are given the segments of outlines.
+//! Sinks, which receive the segments of outlines.
 ghost use Rattle.std.specs.Prelude.{◌≡◌, ◌∷◌, ◌++◌, [], OnOk, OnErr};
 ghost use Rattle.postscript_base.specs.declared.error.Error.TheVariants as errors;
 ghost use Rattle.postscript_outline.specs.Sinks.{Receives, Took};
@@ -9,46 +9,52 @@ use crate::tight::TightBounds;
 use postscript_base::Error;
 use std::alloc::{AllocError, AllocFailed};
 
-/// A sink takes no more: memory was asked for and refused, or for a reason of its own, which it keeps.
+/// The error of a sink that takes no more segments: it is out of memory, or has a reason of its own, which it keeps.
 #[derive(Clone, Copy, Debug, PartialEq, Eq)]
 pub struct Full;
 
-/// What a sink answers that is given a segment.
+/// The result of giving a segment to a sink.
 pub type Given = std::result::Result<(), Full>;
 
-/// What is given the segments of an outline, one after another, and makes of them what it will: a list, bounds, or a text.
+/// A receiver of the segments of outlines, one after another, such as a list, bounds or a text.
 pub trait Sink {
     ghost use Rattle.postscript_outline.specs.declared.segment.Segment.{Segment};
 
-    /// What it can hold.
+    /// The type of its states.
     ghost State: { Type 0 };
 
-    /// What it holds.
+    /// Its state.
     ghost state: { Self → State };
 
-    /// What it may hold after one more segment.
+    /// The states that may follow a state after one more segment.
     ghost after: { State → Segment → State → Type 0 };
 
-    /// Where it may take no more, by what it holds: everywhere, if it asks for memory.
+    /// The states in which it may be full. These are all states if it allocates memory.
     ghost refuses: { State → Type 0 };
 
-    /// Takes one more segment.
+    /// Receives one more segment.
     ///
-    /// Refused: where it takes no more. It holds what it held before.
+    /// # Errors
+    ///
+    /// - `Full`: it takes no more segments. Its state is unchanged.
     fn add(&mut self, segment: Segment) -> Given
+        // On success the new state may follow the old one after this segment (`after`).
         ensures taken { OnOk result (after (state self.old) segment (state self.new)) }
+        // On an error the state is unchanged.
         ensures full { OnErr result (state self.new ≡ state self.old) }
+        // An error occurs only in a state in which it may be full (`refuses`).
         ensures refuses { OnErr result (refuses (state self.old)) };
 }
 
 /// A sink that is never full.
 pub trait Endless: Sink {
-    /// Takes one more segment.
+    /// Receives one more segment.
     fn take(&mut self, segment: Segment)
+        // The new state may follow the old one after this segment (`after`).
         ensures { Self.after (Self.state self.old) segment (Self.state self.new) };
 }
 
-/// A list holds the segments that it has been given.
+/// A list contains the segments that it has received.
 impl Sink for Vec<Segment> {
     ghost use Rattle.std.specs.Prelude.{◌≡◌, ◌++◌, ◌∷◌, [], List};
     ghost use Rattle.postscript_outline.specs.declared.segment.Segment.{Segment};
@@ -68,7 +74,7 @@ impl Sink for Vec<Segment> {
     }
 }
 
-/// Bounds hold the points that they have been given, control points too. They are never full.
+/// Bounds surround the points that they have received, including control points. They are never full.
 impl Sink for Option<Bounds> {
     ghost use Rattle.std.specs.Prelude.{◌≡◌, Option};
     ghost use Rattle.postscript_outline.specs.Bounds.{taking};
@@ -96,7 +102,7 @@ impl Endless for Option<Bounds> {
     }
 }
 
-/// Tight bounds hold the lines and curves that they have been given. They are never full.
+/// Tight bounds surround the lines and curves that they have received. They are never full.
 impl Sink for TightBounds {
     ghost use Rattle.postscript_outline.specs.Tight.{TakesIn};
     ghost use Rattle.postscript_outline.specs.declared.tight.TightBounds.{TightBounds};
@@ -123,7 +129,7 @@ impl Endless for TightBounds {
     }
 }
 
-/// A sink, and beside it one that is never full, as bounds are. Each is given every segment.
+/// A pair of a sink and one that is never full, such as bounds. Each receives every segment.
 impl<S: Sink, E: Endless> Sink for (S, E) {
     ghost use Rattle.postscript_outline.specs.declared.segment.Segment.{Segment};
 
@@ -143,7 +149,7 @@ impl<S: Sink, E: Endless> Sink for (S, E) {
     }
 }
 
-/// A text holds the path data of the segments that it has been given, behind what stood in it.
+/// A text contains the path data of the segments that it has received, after its earlier content.
 impl Sink for String {
     ghost use Rattle.std.specs.Prelude.{◌≡◌, ◌++◌, ℕ, List, string_bytes};
     ghost use Rattle.postscript_outline.specs.Svg.{segment as path_data};
@@ -163,12 +169,17 @@ impl Sink for String {
     }
 }
 
-/// Gives segments to a sink, in their order.
+/// Gives segments to a sink, in order.
 ///
-/// Refused: where the sink takes no more.
+/// # Errors
+///
+/// - `Full`: the sink takes no more segments. It has received those before.
 pub fn give<S: Sink>(segments: &[Segment], sink: &mut S) -> Given
+    // On success the sink has received all segments in order.
     ensures given { OnOk result (Receives S.after (S.state sink.old) segments.now (S.state sink.new)) }
+    // On an error the sink has received some first segments in order, and no others.
     ensures front { OnErr result (Took S.after (S.state sink.old) segments.now (S.state sink.new)) }
+    // On an error the sink is in a state in which it may be full (`refuses`).
     ensures full { OnErr result (S.refuses (S.state sink.new)) }
 {
     for segment in segments {

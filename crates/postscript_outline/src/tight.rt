@@ -10,9 +10,11 @@ use crate::point::Point;
 use crate::segment::Segment;
 
 impl Outline {
-    /// The smallest rectangle round the outline's lines and curves, in whole 65536ths of a unit, or a 65536th more: it meets
-    /// its ends and the extrema of its curves, not its control points. None where it has no point. Never refused.
+    /// Returns the smallest rectangle around the lines and curves of the outline. Each side is the closest whole
+    /// 65536th of a unit, or at most one 65536th further out. It touches ends and extrema of curves, and ignores
+    /// control points. Returns `None` if there are no points.
     pub fn tight_bounds(&self) -> Option<Bounds>
+        // Lines and curves are within, and some point is less than two 65536ths from each side.
         ensures { IsTightBoundsOf result (arcs (point (pos 0) (pos 0)) self.now.segments.items) }
     {
         let mut bounds = TightBounds::new();
@@ -23,8 +25,9 @@ impl Outline {
     }
 }
 
-/// The bounds of lines and curves that come one after another, and where the pen stands behind them. As a sink it begins with `new`,
-/// and its bounds are tight as those of `Outline::tight_bounds` are (`laws::tight_bounds_take_in_curves`).
+/// The bounds of lines and curves that follow one another, and the current point of the pen. As a sink it begins with
+/// [`TightBounds::new`]. Its bounds are as tight as those of [`Outline::tight_bounds`]
+/// (`laws::tight_bounds_take_in_curves`).
 #[derive(Clone, Copy, Debug, PartialEq, Eq)]
 pub struct TightBounds {
     pub bounds: Option<Bounds>,
@@ -32,8 +35,9 @@ pub struct TightBounds {
 }
 
 impl TightBounds {
-    /// No bounds, and the pen stands at the origin.
+    /// Creates empty bounds, with the pen at the origin.
     pub fn new() -> TightBounds
+        // There are no bounds, and the pen is at the origin.
         ensures { result ≡ no_bounds }
     {
         TightBounds {
@@ -42,8 +46,9 @@ impl TightBounds {
         }
     }
 
-    /// The bounds with what one more segment draws. Never refused.
+    /// Returns the bounds extended by everything that one more segment draws.
     pub fn taking(self, segment: Segment) -> TightBounds
+        // The result is extended by tight bounds of the segment, and the pen is at its end.
         ensures { TakesIn self segment result }
     {
         TightBounds {
@@ -53,7 +58,7 @@ impl TightBounds {
     }
 }
 
-/// Where the pen stands behind a segment that begins there.
+/// The point of the pen after a segment that begins at `from`.
 fn end(from: Point, segment: Segment) -> Point
     ensures { result ≡ after from segment }
 {
@@ -63,7 +68,7 @@ fn end(from: Point, segment: Segment) -> Point
     }
 }
 
-/// The bounds of what a segment draws from there.
+/// The bounds of a segment that begins at `from`.
 fn of_segment(from: Point, segment: Segment) -> Option<Bounds>
     ensures { IsTightBoundsOf result (arcs_of from segment) }
 {
