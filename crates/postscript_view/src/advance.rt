@@ -10,22 +10,23 @@ use postscript_base::Result;
 use postscript_base::compact1::Operand;
 use postscript_type2::{Operand as Difference, Program};
 
-/// The advance of a glyph, in glyph units, in exact parts.
+/// The advance of a glyph, in glyph units, as exact summands.
 #[derive(Clone, Copy)]
 pub enum Advance {
-    /// The default width of the private dictionary, where the char string tells no width.
+    /// The defaultWidthX of the Private DICT, for a charstring without a width.
     Default(Operand),
-    /// The nominal width of the private dictionary, and the difference from it that the char string tells. The advance is
-    /// their sum.
+    /// The nominalWidthX of the Private DICT, and the width minus nominalWidthX from the charstring. The advance is their
+    /// sum.
     Nominal(Operand, Difference),
 }
 
 impl Advance {
     ghost use Rattle.postscript_view.specs.Advances.{bits_of};
 
-    /// The advance in 65536ths of a unit. None where the width of the private dictionary is no whole number of 32 bits. Never
-    /// refused.
+    /// Returns the advance in 65536ths of a unit. Returns `None` if the width in the Private DICT is not a whole number
+    /// of 32 bits.
     pub fn in_bits(&self) -> Option<i64>
+        // The result is 65536 times the advance, or `None` if the DICT has no whole 32-bit width.
         ensures { result ≡ bits_of self.now }
     {
         match self {
@@ -37,7 +38,7 @@ impl Advance {
     }
 }
 
-/// A width of a dictionary in 65536ths of a unit, where it is a whole number of 32 bits.
+/// A width of a DICT in 65536ths of a unit, if it is a whole number of 32 bits.
 fn in_bits(width: Operand) -> Option<i64>
     ensures bits { result ≡ whole_bits width }
     ensures small { IfSome result (λ bits. unsigned_abs bits ≤ 2 ^ 47) }
@@ -45,7 +46,7 @@ fn in_bits(width: Operand) -> Option<i64>
     Some(i64::from(width.to_i32()?) * 65536)
 }
 
-/// The width at the end of what a program still answers.
+/// The width after all that a program has left to run.
 pub(crate) fn width_at_end(program: &mut Program<'_>) -> Result<Option<Difference>>
     ensures width { IfOk result (λ width. width ≡ width_by program.old.width program.old.answers program.old.end) }
     ensures faultless { OnOk result (fault_of program.old.end ≡ None) }

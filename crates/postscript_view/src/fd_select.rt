@@ -1,30 +1,34 @@
-//! FDSelect by its place.
+//! `FDSelect` at a given offset.
 ghost use Rattle.std.specs.Prelude.{◌≡◌, ℕ, IfSome, IfNone};
 ghost use Rattle.postscript_view.specs.Select.{Selects};
 ghost use Rattle.postscript_view.specs.Selecting.{SelectStandsAt, stands_prop};
 
 use crate::select::Select;
 
-/// FDSelect: which font dictionary each glyph of a CID-keyed font has (Technical Note 5176, section 19). `FontView` asks the one
-/// that its dictionary names; this one stands at a place that the caller names.
+/// The `FDSelect` of a CID-keyed font, which gives each glyph its Font DICT (Technical Note 5176, section 19).
+/// `FontView` uses the `FDSelect` named by its Top DICT. This one is at an offset chosen by the caller.
 #[derive(Clone, Copy)]
 pub struct FdSelect<'l> {
-    /// The bytes that the font begins with.
+    /// The bytes, which begin with the font.
     pub bytes: &'l [u8],
-    /// Where FDSelect stands in them.
+    /// The offset of `FDSelect` in these bytes.
     pub place: usize,
-    /// How many glyphs the font has.
+    /// The number of glyphs of the font.
     pub glyphs: usize,
     select: Select<'l>,
     ghost stands: { SelectStandsAt select bytes.now place glyphs } by { stands_prop select bytes.now place glyphs },
 }
 
 impl<'l> FdSelect<'l> {
-    /// What stands at a place of the bytes, for a font of so many glyphs. Never refused: where FDSelect is cut there, of another
-    /// format than 0 and 3, or of ranges whose first glyphs fall, it gives no glyph a font dictionary.
+    /// Opens the `FDSelect` at an offset of the bytes, for a font of `glyphs` glyphs. It may be truncated, have a
+    /// format other than 0 and 3, or have ranges whose first glyphs decrease. In these cases it gives no glyph a Font
+    /// DICT.
     pub fn at(bytes: &'l [u8], place: usize, glyphs: usize) -> FdSelect<'l>
+        // The result keeps the bytes.
         ensures bytes { result.bytes.now ≡ bytes.now }
+        // The result keeps the offset.
         ensures place { result.place ≡ place }
+        // The result keeps the number of glyphs.
         ensures glyphs { result.glyphs ≡ glyphs }
     {
         FdSelect {
@@ -35,11 +39,13 @@ impl<'l> FdSelect<'l> {
         }
     }
 
-    /// The number of a glyph's font dictionary, counted from 0: in format 0 the byte of the glyph, in format 3 that of the
-    /// range that the glyph lies in. None where it gives the glyph none. Whether the font has so many font dictionaries is for the
-    /// caller to see. Never refused.
+    /// Returns the number of the Font DICT of a glyph, counted from 0. In format 0 it is the byte of the glyph, in
+    /// format 3 the one of its range. Returns `None` if the glyph has none. The caller must check that the font has
+    /// this Font DICT.
     pub fn part_of(&self, glyph: usize) -> Option<usize>
+        // If `Some`, it is the number of the Font DICT that `FDSelect` gives the glyph.
         ensures found { IfSome result (λ fd. Selects self.now.bytes.now self.now.place self.now.glyphs glyph fd) }
+        // If `None`, `FDSelect` gives the glyph no Font DICT.
         ensures none { IfNone result ((fd : ℕ) → Selects self.now.bytes.now self.now.place self.now.glyphs glyph fd → ⊥) }
     {
         self.select.part_of(glyph)

@@ -1,4 +1,4 @@
-//! How runs go within a limit, and what a refusal costs.
+//! Runs within a limit, and the cost of a failed run.
 ghost use Rattle.std.specs.Prelude.{◌≡◌, ◌≢◌, ◌-◌, ◌+◌, max, length, IfOk, IfErr, MatchResult};
 ghost use Rattle.postscript_base.specs.declared.error.Error.TheVariants as errors;
 ghost use Rattle.postscript_base.specs.Index.Lent.{items_of};
@@ -9,17 +9,17 @@ use postscript_base::index::IndexView;
 use postscript_base::{Error, Result};
 use postscript_type2::{Program, Within};
 
-/// How a run goes within a limit.
+/// The outcome of a run within a limit.
 pub(crate) enum Outcome {
-    /// It comes to its end.
+    /// It ends.
     Ended,
-    /// It is refused.
+    /// It fails.
     Refused,
-    /// The limit is used up before.
+    /// The limit is used up first.
     UsedUp,
 }
 
-/// How a run goes that ends with a refusal: memory that runs out gives no answer.
+/// The outcome of a run that fails. There is none if memory runs out.
 fn refused_by(e: Error) -> Result<Outcome>
     ensures { MatchResult result (λ outcome. (outcome ≡ Outcome.Refused) × (e ≢ errors.Memory)) (λ want. want ≡ errors.Memory) }
 {
@@ -44,7 +44,7 @@ pub(crate) fn run_within(program: &mut Program<'_>, limit: &mut u64) -> Result<O
     }
 }
 
-/// How many bytes the longest of some items has.
+/// The number of bytes of the longest item.
 fn longest_of(items: &IndexView<'_>) -> usize
     ensures { result ≡ longest (items_of items.now) }
 {
@@ -55,7 +55,7 @@ fn longest_of(items: &IndexView<'_>) -> usize
     most
 }
 
-/// Takes what the refusal of a glyph's run costs, or all that is left.
+/// Subtracts the cost of the failure of a glyph's run from the limit, or sets it to 0.
 pub(crate) fn pay_refusal(glyph: &Glyph<'_, '_>, limit: &mut u64)
     ensures { let global = items_of glyph.now.global_subroutines in
         let local = items_of glyph.now.part.now.subroutines in

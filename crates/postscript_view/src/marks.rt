@@ -1,18 +1,18 @@
-//! Marks before the ranges of a char set, so that a glyph is looked up from the last one on that stands before it.
+//! Marks before the ranges of a charset. A glyph is searched for from the last mark before it.
 ghost use Rattle.std.specs.Prelude.{◌≡◌, ◌≤◌, ◌+◌, ◌<◌};
 
 use postscript_base::index::number::number_at;
 
-/// How many marks there are at most.
+/// The greatest number of marks.
 const MOST: usize = 64;
 
-/// How many glyphs are covered before some ranges, which stand equally far apart.
+/// The number of glyphs covered before some ranges, which are evenly spaced.
 #[derive(Clone, Copy)]
 pub(crate) struct Marks {
-    /// The ranges that they stand before.
+    /// The ranges after the marks.
     places: [usize; MOST],
     covers: [usize; MOST],
-    /// How many there are.
+    /// The number of marks.
     set: usize,
     ghost most: { set ≤ 64 },
 }
@@ -21,7 +21,7 @@ impl Marks {
     ghost use Rattle.postscript_view.specs.CharSet.{covered as the_covered};
     ghost use Rattle.postscript_view.specs.Marks.{AreBefore};
 
-    /// None.
+    /// No marks.
     pub(crate) fn none() -> Marks
         ensures { result.set ≡ 0 }
     {
@@ -32,7 +32,7 @@ impl Marks {
         }
     }
 
-    /// One more before a range, where it is due and there is room.
+    /// Adds a mark before a range, if it is due and there is capacity.
     #[tactic(auto, using(crate::proofs::Marking::marked_more))]
     fn mark(&mut self, ranges: &[u8], size: usize, place: usize, covered: usize, is_due: bool)
         requires marked { AreBefore ranges.now size self.old }
@@ -47,7 +47,7 @@ impl Marks {
         }
     }
 
-    /// Those before ranges, of which as many are of use as there are glyphs.
+    /// The marks before ranges. Only one range for each glyph is of use.
     #[tactic(auto, using(crate::proofs::Covering::covered_more, crate::proofs::Covering::covered_none))]
     pub(crate) fn before(ranges: &[u8], size: usize, glyphs: usize) -> Marks
         requires low { 1 ≤ size }
@@ -73,7 +73,8 @@ impl Marks {
         marks
     }
 
-    /// The range of the last mark before a glyph, and how many glyphs are covered before it; the first range where there is none.
+    /// The range of the last mark before a glyph, and the number of glyphs covered before it. It is the first range if
+    /// there is no such mark.
     #[tactic(auto, using(crate::proofs::Covering::covered_none))]
     pub(crate) fn last_before(&self, ranges: &[u8], size: usize, glyph: usize) -> (usize, usize)
         requires { AreBefore ranges.now size self.now }

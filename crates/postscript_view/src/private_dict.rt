@@ -1,4 +1,4 @@
-//! Private dictionaries and their subroutines.
+//! Private DICTs and their subroutines.
 ghost use Rattle.std.specs.Prelude.{◌≡◌, ℕ, List, [], ◌∷◌, None, IfOk};
 ghost use Rattle.postscript_base.specs.Compact1.Defaults.{first_of, look};
 ghost use Rattle.postscript_base.specs.Error.{IsListed};
@@ -16,14 +16,14 @@ use postscript_compact1::font_set::operands::{bounds, place_at};
 use postscript_type2::Operand as Difference;
 use std::alloc::Global;
 
-/// A private dictionary and its subroutines.
+/// A Private DICT and its local subroutines.
 #[derive(Drop)]
 pub struct PrivateDict<'l> {
-    /// The private dictionary.
+    /// The Private DICT.
     pub dictionary: Operations,
     /// The local subroutines.
     pub subroutines: IndexView<'l>,
-    /// Of a CID-keyed font the font dictionary that names them.
+    /// The Font DICT that names them, in a CID-keyed font.
     pub font_dictionary: Option<Operations>,
 }
 
@@ -32,21 +32,23 @@ impl<'l> PrivateDict<'l> {
     ghost use Rattle.postscript_view.specs.Sizes.{private_size};
     ghost use Rattle.postscript_view.specs.Value.{part_shown};
 
-    /// The width of glyphs whose programs tell none, in glyph units. Never refused.
+    /// Returns the advance of glyphs whose charstring has no width, in glyph units.
     pub fn default_width(&self) -> Option<Operand>
+        // The result is the first operand of `DefaultWidthX`, or its default.
         ensures { result ≡ first_of (look self.now.dictionary Operator.DefaultWidthX) }
     {
         self.dictionary.get_single(Operator::DefaultWidthX)
     }
 
-    /// What is added to the width that a program tells, in glyph units. Never refused.
+    /// Returns the number to add to the width from a charstring, in glyph units.
     pub fn nominal_width(&self) -> Option<Operand>
+        // The result is the first operand of `NominalWidthX`, or its default.
         ensures { result ≡ first_of (look self.now.dictionary Operator.NominalWidthX) }
     {
         self.dictionary.get_single(Operator::NominalWidthX)
     }
 
-    /// How many bytes the private dictionary has that the font dictionary names.
+    /// The number of bytes of the Private DICT that the Font DICT names.
     pub(crate) fn private_size(&self) -> u64
         ensures { result ≡ private_size self.now }
     {
@@ -62,7 +64,7 @@ impl<'l> PrivateDict<'l> {
         }
     }
 
-    /// The advance of a glyph whose char string tells this difference, or none.
+    /// The advance of a glyph with this width from its charstring, or with none.
     pub(crate) fn advance_by(&self, width: Option<Difference>) -> Option<Advance>
         ensures { result ≡ advance_of self.now.dictionary width }
     {
@@ -72,7 +74,7 @@ impl<'l> PrivateDict<'l> {
         }
     }
 
-    /// The private dictionary that a dictionary names, and its subroutines; empty ones where it is lacking.
+    /// The Private DICT that a DICT names, and its subroutines. They are empty if it is missing.
     #[tactic(auto, unfolding(crate::specs::Order::part))]
     pub(crate) fn open(
         alloc: Global,
@@ -93,7 +95,7 @@ impl<'l> PrivateDict<'l> {
         PrivateDict::own(alloc, bytes, dictionary)
     }
 
-    /// The part of the font dictionary that an item is.
+    /// The part of the Font DICT in an item.
     #[tactic(auto, unfolding(crate::specs::Order::item_part))]
     pub(crate) fn of_item(alloc: Global, bytes: &'l [u8], item: &[u8]) -> Result<PrivateDict<'l>>
         ensures exact { (place : ℕ) → Answers part_shown result place (the_item_part item.now bytes.now place) }
@@ -108,7 +110,7 @@ impl<'l> PrivateDict<'l> {
         })
     }
 
-    /// The private dictionary that a dictionary names, and its subroutines.
+    /// The Private DICT that a DICT names, and its subroutines.
     #[tactic(auto, unfolding(crate::specs::Order::own_part))]
     fn own(alloc: Global, bytes: &'l [u8], dictionary: &Operations) -> Result<PrivateDict<'l>>
         ensures exact { (place : ℕ) → Answers part_shown result place (the_own_part dictionary.now bytes.now place) }
@@ -127,7 +129,7 @@ impl<'l> PrivateDict<'l> {
     }
 }
 
-/// The local subroutines of a private dictionary at an offset; none where they are lacking.
+/// The local subroutines of a Private DICT at an offset. There are none if its operator is missing.
 #[tactic(auto, unfolding(crate::specs::Order::subroutines))]
 fn open_subroutines<'l>(bytes: &'l [u8], offset: u32, local: &Operations) -> Result<IndexView<'l>>
     ensures exact { (place : ℕ) → Answers items_of result place (the_subroutines offset local.now bytes.now place) }
