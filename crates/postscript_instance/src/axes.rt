@@ -1,4 +1,4 @@
-//! The axes along which operands go (Technical Note 5177, "Path Construction Operators").
+//! The axis of each operand (Technical Note 5177, "Path Construction Operators").
 ghost use Rattle.std.specs.Prelude.{◌≡◌, ◌<◌, ◌∷◌, ◌++◌, length, MatchOption, OnOk, IfOk, IfErr};
 ghost use Rattle.postscript_base.specs.declared.error.Error.TheVariants as causes;
 ghost use Rattle.postscript_drawing.specs.Left.{left};
@@ -10,14 +10,14 @@ use postscript_drawing::{Axis, Stroke, Strokes, Vector};
 use postscript_type2::{Operand, Operator};
 use std::alloc::Global;
 
-/// So far along an axis, in 16.16 bits.
+/// A distance along an axis, as a 16.16 number.
 #[derive(Clone, Copy)]
 pub(crate) struct Step {
     pub axis: Axis,
     pub distance: i64,
 }
 
-/// So far along an axis.
+/// The step of an operand along an axis.
 pub(crate) fn along(axis: Axis, operand: Operand) -> Step
     ensures { result ≡ so_far axis operand }
 {
@@ -27,7 +27,7 @@ pub(crate) fn along(axis: Axis, operand: Operand) -> Step
     }
 }
 
-/// Appends operands along one axis and the other in turn.
+/// Appends operands along alternating axes.
 fn put_in_turn(out: &mut Vec<Step>, axis: Axis, operands: &[Operand]) -> Result<()>
     ensures ok { OnOk result (out.new.items ≡ out.old.items ++ the_in_turn axis operands.now) }
     ensures err { IfErr result (λ e. e ≡ errors.Font causes.Memory) }
@@ -40,7 +40,7 @@ fn put_in_turn(out: &mut Vec<Step>, axis: Axis, operands: &[Operand]) -> Result<
     Ok(())
 }
 
-/// The four operands of a curve, and those behind them.
+/// The four operands of a curve, and the operands after them.
 #[derive(Clone, Copy)]
 struct CurveOperands<'o> {
     begin: Operand,
@@ -50,7 +50,7 @@ struct CurveOperands<'o> {
     rest: &'o [Operand],
 }
 
-/// The four operands of a curve, where there are as many.
+/// The four operands of a curve, if there are four.
 fn four(operands: &[Operand]) -> Option<CurveOperands<'_>>
     ensures { MatchOption result (length operands.now < 4) (λ v. operands.now ≡ v.begin ∷ v.dx ∷ v.dy ∷ v.end ∷ v.rest.now) }
 {
@@ -66,8 +66,8 @@ fn four(operands: &[Operand]) -> Option<CurveOperands<'_>>
     }
 }
 
-/// Appends the operands of curves that begin and end along axes, the other way round in turn: da dxb dyb dc; and one alone behind them,
-/// which goes aside of the end.
+/// Appends the operands of curves that begin and end along alternating axes: da dxb dyb dc. A single operand after them
+/// goes along the other axis at the end.
 fn put_bows(out: &mut Vec<Step>, begin: Axis, end: Axis, operands: &[Operand]) -> Result<()>
     ensures ok { OnOk result (out.new.items ≡ out.old.items ++ the_bows begin end operands.now) }
     ensures err { IfErr result (λ e. e ≡ errors.Font causes.Memory) }
@@ -91,7 +91,8 @@ fn put_bows(out: &mut Vec<Step>, begin: Axis, end: Axis, operands: &[Operand]) -
     Ok(())
 }
 
-/// Appends the operands of curves that begin and end along an axis: of an odd number the first goes aside.
+/// Appends the operands of curves that begin and end along one axis. If their number is odd, the first goes along the
+/// other axis.
 fn put_level(out: &mut Vec<Step>, axis: Axis, operands: &[Operand]) -> Result<()>
     ensures ok { OnOk result (out.new.items ≡ out.old.items ++ the_level axis operands.now) }
     ensures err { IfErr result (λ e. e ≡ errors.Font causes.Memory) }
@@ -149,9 +150,8 @@ fn put_strokes(out: &mut Vec<Step>, strokes: Strokes<'_>) -> Result<()>
     Ok(())
 }
 
-/// The operands of an operator, each along its axis; of a flex, all coordinates. Hints go nowhere.
-///
-/// Refused: `Font` with `Memory`.
+/// The operands of an operator, each along its axis, or all coordinates of a flex. Hints have no steps. The only error
+/// is `Font` with `Memory`.
 pub(crate) fn steps_of(alloc: Global, operator: Operator, operands: &[Operand]) -> Result<Vec<Step>>
     ensures ok { IfOk result (λ steps. steps.items ≡ the_steps_of operator operands.now) }
     ensures err { IfErr result (λ e. e ≡ errors.Font causes.Memory) }

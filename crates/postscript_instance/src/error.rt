@@ -1,4 +1,4 @@
-//! Why nothing is written.
+//! Errors.
 ghost use Rattle.std.specs.Prelude.{◌≡◌};
 ghost use Rattle.postscript_base.specs.declared.error.Error.TheVariants as causes;
 ghost use Rattle.postscript_instance.specs.declared.error.Error.TheVariants as errors;
@@ -7,51 +7,52 @@ use postscript_base::Error as Cause;
 use std::alloc::{AllocError, AllocFailed};
 use thiserror::Error;
 
-/// What a call answers, or what it is refused with.
+/// The result of a call of this crate.
 pub type Result<T> = std::result::Result<T, Error>;
 
-/// A refusal.
+/// The reason why nothing is written.
 #[derive(Debug, Drop, Error)]
 pub enum Error {
-    /// The run of the charstring is refused; or memory was asked for and refused (`Memory`).
+    /// The run of the charstring fails. Also `Memory`: out of memory.
     #[error("{0}")]
     Font(Cause),
-    /// An operator that declares stems, or a mask, has more than 48 numbers before it, the width with them (Technical Note 5177,
-    /// Appendix B).
+    /// A stem operator or a mask has more than 48 numbers before it, including the width (Technical Note 5177, Appendix
+    /// B).
     #[error("an operator has more operands than a stack of 48 holds")]
     TooManyOperands,
-    /// A width is wanted, and the first operator is a line or a curve, which may not have one before its operands (Technical Note
-    /// 5177, "Type 2 Charstring Organization").
+    /// A width is given, but the first operator is a line or a curve, which cannot have one (Technical Note 5177, "Type
+    /// 2 Charstring Organization").
     #[error("the first path does not begin with a move")]
     NoMove,
-    /// A place or the edge of a stem is out of the range of 16.16 bits, as it is or in whole units, or the way to it in whole units is
-    /// (Technical Note 5177, "Charstring Number Encoding").
+    /// A point or the edge of a stem does not fit into 16.16 bits, as it is or rounded. Or the rounded distance to it does
+    /// not (Technical Note 5177, "Charstring Number Encoding").
     #[error("in whole units something leads out of the range of 16 bits")]
     TooFar,
-    /// There is no glyph of this number, or the font has no Font DICT for it that stands.
+    /// There is no glyph with this number, or its Font DICT is missing or malformed.
     #[error("there is no glyph {0}")]
     NoGlyph(usize),
-    /// The item variation data of this number do not stand in the store of the font.
+    /// The item variation data with this number are missing or truncated.
     #[error("there are no item variation data {0}")]
     NoData(usize),
-    /// The advance of a glyph is not from 0 to 32767.
+    /// The advance width of a glyph is not from 0 to 32767.
     #[error("the advance of glyph {0} is not from 0 to 32767")]
     Advance(usize),
-    /// There are not as many names as glyphs.
+    /// The number of names is not the number of glyphs.
     #[error("there are not as many names as glyphs")]
     OtherNames,
-    /// Names of glyphs are given, and the font has not one Font DICT: a font whose glyphs have names has one Private DICT.
+    /// Glyph names are given, but the font does not have exactly one Font DICT. A font with glyph names has one Private
+    /// DICT.
     #[error("glyphs with names have one font dictionary, and this font has not one")]
     NotOneDictionary,
-    /// What is to be written is too large: glyphs, names, Font DICTs or bytes are too many.
+    /// The font is too large: it has too many glyphs, names, Font DICTs or bytes.
     #[error("the font is too large")]
     TooLarge,
-    /// What was written is not read back as the font that it is to be.
+    /// The written font is not read back as the intended font.
     #[error("what was written is not read back")]
     NotReadBack,
 }
 
-/// A refusal of the run: `Font`. Never refused.
+/// Converts an error of the run to `Font`.
 impl From<Cause> for Error {
     ghost from_gives = { λ fault e. e ≡ errors.Font fault };
 
@@ -60,7 +61,7 @@ impl From<Cause> for Error {
     }
 }
 
-/// Memory that was refused: `Font`. Never refused.
+/// Converts a failed allocation to `Font`.
 impl From<AllocError> for Error {
     ghost from_gives = { λ _ e. e ≡ errors.Font causes.Memory };
 
@@ -69,7 +70,7 @@ impl From<AllocError> for Error {
     }
 }
 
-/// Memory that was refused: `Font`. Never refused.
+/// Converts a failed allocation to `Font`.
 impl<T: Drop> From<AllocFailed<T>> for Error {
     ghost from_gives = { λ _ e. e ≡ errors.Font causes.Memory };
 

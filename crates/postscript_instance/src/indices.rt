@@ -1,5 +1,5 @@
-//! Numbers, offsets and INDEXes of a table `CFF `, appended (Technical Note 5176, "Data Types", "DICT Data", "INDEX Data"). Refused with
-//! `NotReadBack`, running out of memory aside: what has no room is told before anything is written.
+//! Numbers, offsets and INDEXes of a `CFF ` table (Technical Note 5176, "Data Types", "DICT Data", "INDEX Data"). Apart
+//! from `Memory` the only error is `NotReadBack`: sizes are checked before anything is written.
 ghost use Rattle.std.specs.Prelude.{◌≤◌, IfErr};
 ghost use Rattle.postscript_instance.specs.Refusals.{IsLate};
 
@@ -27,7 +27,7 @@ fn four(number: usize) -> Result<[u8; 4]>
     Ok(number.to_be_bytes())
 }
 
-/// The fewest bytes that hold an offset.
+/// The minimum size of an offset in bytes.
 fn size_of(offset: usize) -> usize
     ensures { result ≤ 4 }
 {
@@ -42,7 +42,7 @@ fn size_of(offset: usize) -> usize
     }
 }
 
-/// The offset behind items.
+/// The offset after the items.
 fn offset_behind(items: &[Vec<u8>]) -> usize {
     let mut offset = 1usize;
     for item in items {
@@ -51,7 +51,7 @@ fn offset_behind(items: &[Vec<u8>]) -> usize {
     offset
 }
 
-/// Appends an offset in so many bytes.
+/// Appends an offset of `size` bytes.
 fn put_offset(out: &mut Vec<u8>, size: usize, offset: usize) -> Result<()>
     ensures late { IfErr result (λ e. IsLate e) }
 {
@@ -61,7 +61,7 @@ fn put_offset(out: &mut Vec<u8>, size: usize, offset: usize) -> Result<()>
     Ok(())
 }
 
-/// Appends the offsets of items, and the one behind them.
+/// Appends the offsets of items, and the offset after them.
 fn put_offsets(out: &mut Vec<u8>, items: &[Vec<u8>]) -> Result<()>
     ensures late { IfErr result (λ e. IsLate e) }
 {

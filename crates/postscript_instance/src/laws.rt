@@ -1,33 +1,38 @@
-//! Laws of the definitions.
+//! Laws of the definitions. The functions do nothing: their clauses are the laws.
 ghost use Rattle.postscript_instance.specs.Laws.{NearestIsNearest, NumbersAreShortest, OperationsStay, OutlinesStay, RoundedOutlines};
 
-/// A law: what is written of a number that 32 bits hold spells it, and nothing shorter does. It does nothing and is never refused.
+/// States that numbers are written in their shortest encoding.
 pub fn numbers_are_shortest()
+    // The bytes written for a number of 32 bits encode it, and no shorter bytes do.
     ensures { NumbersAreShortest }
 {}
 
-/// A law: the run of a code that is static of a charstring (`specs/Statics.antt`) has the operations of the charstring's run by the rules
-/// of CFF2, operator by operator and operand by operand, and its width; only a path operator with more than 48 operands is in pieces that
-/// draw the same strokes (`specs/Pieces.antt`). It does nothing and is never refused.
+/// States that a static charstring (`specs/Statics.antt`) has the operations and the width of the CFF2 charstring.
+///
+/// A path operator with more than 48 operands is split into pieces that draw the same strokes (`specs/Pieces.antt`).
 pub fn operations_stay()
+    // The run has the same operations, apart from pieces, and ends by `endchar` with the width.
     ensures { OperationsStay }
 {}
 
-/// A law: the run of a code that is static of a charstring draws exactly the segments that the charstring's run draws, or is refused
-/// likewise, wherever the origin is put. It does nothing and is never refused.
+/// States that a static charstring draws exactly the segments of the CFF2 charstring, or fails likewise, from any
+/// origin.
 pub fn outlines_stay()
+    // From any origin, both runs draw the same segments or fail with the same error.
     ensures { OutlinesStay }
 {}
 
-/// A law: the nearest whole units (`specs/Nearest.antt`) are a whole number, not more than half a unit off; of two as near, the upper. It
-/// does nothing and is never refused.
+/// States that rounding gives a nearest whole unit (`specs/Nearest.antt`), and the upper one if it is halfway.
 pub fn nearest_is_nearest()
+    // The result is whole, at most half a unit above, and less than half a unit below.
     ensures { NearestIsNearest }
 {}
 
-/// A law: where the charstring's run draws segments from the origin, the run of a code in whole units (`specs/Rounded.antt`) draws the
-/// same segments in the same order, each point at the nearest whole units, over whatever subroutines. So a contour that ends where it
-/// began still does. It does nothing and is never refused.
+/// States that a charstring in whole units (`specs/Rounded.antt`) draws the segments of the CFF2 charstring, with each
+/// point rounded.
+///
+/// So a contour that ends at its start still does.
 pub fn rounded_outlines()
+    // If the run draws segments, the rounded one draws them in order with each point rounded.
     ensures { RoundedOutlines }
 {}

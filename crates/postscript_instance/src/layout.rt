@@ -1,4 +1,5 @@
-//! A table `CFF `, laid out (Technical Note 5176, "CFF Data Layout", "CID-keyed Fonts"). What is written is read back by its callers.
+//! The layout of a `CFF ` table (Technical Note 5176, "CFF Data Layout", "CID-keyed Fonts"). The callers read the
+//! result back.
 ghost use Rattle.std.specs.Prelude.{IfErr};
 ghost use Rattle.postscript_instance.specs.Refusals.{IsLate};
 
@@ -10,11 +11,11 @@ use postscript_cff2::Font;
 use postscript_variable_font::Place;
 use std::alloc::Global;
 
-/// The operator FontMatrix in a Top DICT.
+/// The operator FontMatrix of a Top DICT.
 const FONT_MATRIX: usize = 0x0c07;
 
-/// Where the parts behind the tables stand that the Top DICT names: FDSelect and the Font DICTs of a CID-keyed font, or the Private DICT of
-/// another one.
+/// The offsets in the Top DICT of the parts after the tables: FDSelect and the Font DICTs of a CID-keyed font, or the
+/// Private DICT of any other font.
 #[derive(Clone, Copy)]
 struct Places {
     char_set: usize,
@@ -24,7 +25,7 @@ struct Places {
 }
 
 impl Places {
-    /// Those before they are known.
+    /// The offsets before they are known.
     const NONE: Places = Places {
         char_set: 0,
         select: 0,
@@ -33,7 +34,7 @@ impl Places {
     };
 }
 
-/// Appends the operands of FontMatrix as the Top DICT of CFF2 has them, and the operator, where it has one.
+/// Appends FontMatrix as it is in the CFF2 Top DICT, if there is one.
 fn put_matrix(out: &mut Vec<u8>, font: &Font<'_>) -> Result<()>
     ensures late { IfErr result (λ e. IsLate e) }
 {
@@ -49,7 +50,7 @@ fn put_matrix(out: &mut Vec<u8>, font: &Font<'_>) -> Result<()>
     Ok(())
 }
 
-/// The Top DICT of a CID-keyed font of so many glyphs: its first two strings, Adobe and Identity, are its registry and its ordering.
+/// The Top DICT of a CID-keyed font. Its first two strings, Adobe and Identity, are its registry and its ordering.
 fn keyed_dictionary(
     alloc: Global,
     font: &Font<'_>,
@@ -69,7 +70,7 @@ fn keyed_dictionary(
     Ok(top)
 }
 
-/// The Top DICT of a font whose glyphs have names, with a Private DICT of so many bytes.
+/// The Top DICT of a font with glyph names and a Private DICT of this size.
 fn named_dictionary(
     alloc: Global,
     font: &Font<'_>,
@@ -87,7 +88,7 @@ fn named_dictionary(
     Ok(top)
 }
 
-/// The char set of a CID-keyed font whose CIDs are the numbers of its glyphs.
+/// The charset of a CID-keyed font in which CIDs are glyph numbers.
 fn keyed_set(alloc: Global, glyphs: usize) -> Result<Vec<u8>>
     ensures late { IfErr result (λ e. IsLate e) }
 {
@@ -131,7 +132,7 @@ fn privates_of(alloc: Global, font: &Font<'_>, place: &Place) -> Result<Vec<Vec<
     Ok(privates)
 }
 
-/// Font DICTs that name Private DICTs, which stand from a place on; and the place behind these.
+/// Font DICTs for consecutive Private DICTs from an offset on, and the offset after these.
 fn dictionaries(alloc: Global, privates: &[Vec<u8>], place: usize) -> Result<(Vec<Vec<u8>>, usize)>
     ensures late { IfErr result (λ e. IsLate e) }
 {
@@ -209,7 +210,7 @@ fn laid_out_by_numbers(
     Ok(out)
 }
 
-/// The table of a font whose glyphs have these names.
+/// The table of a font with these glyph names.
 fn laid_out_by_names(
     alloc: Global,
     font: &Font<'_>,
@@ -240,7 +241,7 @@ fn laid_out_by_names(
     Ok(out)
 }
 
-/// The table of glyphs of these codes.
+/// The table with these charstrings.
 pub(crate) fn laid_out(
     alloc: Global,
     font: &Font<'_>,

@@ -1,5 +1,5 @@
-//! Static fonts of places of variable fonts: what a charstring of CFF2 says at a place, written as a charstring of Type 2 (Technical Note
-//! 5177; OpenType 1.9, "CFF2 CharString Format").
+//! Writes static fonts at locations of variable fonts: CFF2 charstrings become Type 2 charstrings (Technical Note 5177;
+//! OpenType 1.9, "CFF2 CharString Format").
 #![tactic(auto)]
 
 mod advances;

@@ -1,4 +1,4 @@
-//! What a font and its glyphs are called.
+//! The names of a font and its glyphs.
 ghost use Rattle.std.specs.Prelude.{◌≡◌, Some, IfErr, IsTrue, OnOk, length, slice_get};
 ghost use Rattle.postscript_base.specs.Index.Lent.{items_of};
 ghost use Rattle.postscript_instance.specs.Naming.{AreCalled, AreCids, AreNames, IsCalled};
@@ -13,27 +13,27 @@ use postscript_compact1::index::get_standard_string;
 use postscript_view::{CharSetView, FontView};
 use std::alloc::Global;
 
-/// How many strings are standard ones (Technical Note 5176, Appendix A).
+/// The number of standard strings (Technical Note 5176, Appendix A).
 const STANDARD: u16 = 391;
 
-/// What a font and its glyphs are called.
+/// The names of a font and its glyphs.
 #[derive(Clone, Copy)]
 pub struct Naming<'m> {
     /// The name of the font.
     pub font: &'m [u8],
-    /// The names of the glyphs, one for each, of which the first is `.notdef`. None where they have no names: then their numbers are their
-    /// CIDs.
+    /// The names of the glyphs, one for each, beginning with `.notdef`. `None` if glyphs have no names: then their
+    /// numbers are their CIDs.
     pub glyphs: Option<&'m [&'m [u8]]>,
 }
 
-/// Identifiers of names, and the strings behind the standard ones (Technical Note 5176, "String INDEX").
+/// SIDs of names, and the custom strings (Technical Note 5176, "String INDEX").
 #[derive(Drop)]
 pub(crate) struct Identifiers {
     pub numbers: Vec<u16>,
     pub strings: Vec<Vec<u8>>,
 }
 
-/// The identifier of a standard string.
+/// The SID of a standard string.
 fn standard(name: &[u8]) -> Option<u16> {
     for number in 0..STANDARD {
         if let Some(string) = get_standard_string(number) {
@@ -45,21 +45,21 @@ fn standard(name: &[u8]) -> Option<u16> {
     None
 }
 
-/// Identifiers that follow one another.
+/// Consecutive SIDs.
 #[derive(Clone, Copy)]
 struct Range {
     first: u16,
-    /// How many come behind the first.
+    /// The number of SIDs after the first.
     left: u16,
 }
 
 impl Range {
-    /// Whether a number follows the last one.
+    /// Whether a number is the next one.
     fn is_followed_by(self, number: u16) -> bool {
         usize::from(self.first) + usize::from(self.left) + 1 == usize::from(number)
     }
 
-    /// With one more number.
+    /// The range with one more number.
     fn longer(self) -> Range {
         Range {
             first: self.first,
@@ -68,7 +68,7 @@ impl Range {
     }
 }
 
-/// A char set of format 0.
+/// A charset of format 0.
 fn in_list(alloc: Global, numbers: &[u16]) -> Result<Vec<u8>>
     ensures late { IfErr result (λ e. IsLate e) }
 {
@@ -80,7 +80,7 @@ fn in_list(alloc: Global, numbers: &[u16]) -> Result<Vec<u8>>
     Ok(set)
 }
 
-/// A char set of format 2.
+/// A charset of format 2.
 fn in_ranges(alloc: Global, ranges: &[Range]) -> Result<Vec<u8>>
     ensures late { IfErr result (λ e. IsLate e) }
 {
@@ -94,7 +94,7 @@ fn in_ranges(alloc: Global, ranges: &[Range]) -> Result<Vec<u8>>
 }
 
 impl Identifiers {
-    /// Adds a name. Of too many nothing is written.
+    /// Adds a name. Too many names are an error.
     fn put(&mut self, alloc: Global, name: &[u8]) -> Result<()>
         ensures late { IfErr result (λ e. IsLate e) }
     {
@@ -114,7 +114,7 @@ impl Identifiers {
         Ok(())
     }
 
-    /// Those of names.
+    /// The SIDs of names.
     pub(crate) fn of(alloc: Global, names: &[&[u8]]) -> Result<Identifiers>
         ensures late { IfErr result (λ e. IsLate e) }
     {
@@ -128,7 +128,7 @@ impl Identifiers {
         Ok(identifiers)
     }
 
-    /// The identifiers of all glyphs but the first, in ranges.
+    /// The SIDs of all glyphs but the first, in ranges.
     fn ranges(&self, alloc: Global) -> Result<Vec<Range>>
         ensures late { IfErr result (λ e. IsLate e) }
     {
@@ -154,8 +154,8 @@ impl Identifiers {
         Ok(ranges)
     }
 
-    /// A char set: the identifiers of all glyphs but the first, in format 2, as ranges, where this is shorter than format 0, which lists
-    /// them (Technical Note 5176, "Charsets").
+    /// A charset with the SIDs of all glyphs but the first. It has format 2, with ranges, if this is shorter than
+    /// format 0 (Technical Note 5176, "Charsets").
     pub(crate) fn char_set(&self, alloc: Global) -> Result<Vec<u8>>
         ensures late { IfErr result (λ e. IsLate e) }
     {
@@ -169,7 +169,7 @@ impl Identifiers {
     }
 }
 
-/// Whether a font is called so.
+/// Whether a font has this name.
 fn is_called(font: &FontView<'_>, name: &[u8]) -> bool
     ensures { IsTrue result → slice_get (items_of font.now.names) 0 ≡ Some name.now }
 {
@@ -189,7 +189,7 @@ fn is_name<'l>(font: &FontView<'l>, set: &CharSetView<'l>, glyph: usize, name: &
     }
 }
 
-/// Whether the glyphs behind the first have these names.
+/// Whether the glyphs after the first have these names.
 fn are_names<'l>(font: &FontView<'l>, set: &CharSetView<'l>, names: &[&[u8]]) -> bool
     ensures { IsTrue result → AreNames (view_shown font.now) set.now names.now (length names.now) }
 {
@@ -226,7 +226,7 @@ fn are_cids<'l>(font: &FontView<'l>, set: &CharSetView<'l>) -> bool
     true
 }
 
-/// Whether glyphs are called as they are to be.
+/// Whether glyphs have the intended names or CIDs.
 fn are_called<'l>(font: &FontView<'l>, set: &CharSetView<'l>, naming: &Naming<'_>) -> bool
     ensures { IsTrue result → AreCalled naming.now (view_shown font.now) set.now }
 {
@@ -236,7 +236,7 @@ fn are_called<'l>(font: &FontView<'l>, set: &CharSetView<'l>, naming: &Naming<'_
     }
 }
 
-/// Refused: `NotReadBack` where a font that is read back, or a glyph of it, is not called as it is to be.
+/// Checks that a font that is read back, and its glyphs, have the intended names. Otherwise the error is `NotReadBack`.
 pub(crate) fn called_back(font: &FontView<'_>, naming: &Naming<'_>) -> Result<()>
     ensures called { OnOk result (IsCalled naming.now font.now.bytes.now (view_shown font.now)) }
     ensures late { IfErr result (λ e. IsLate e) }

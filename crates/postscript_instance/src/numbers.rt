@@ -1,4 +1,4 @@
-//! Numbers of charstrings, written (Technical Note 5177, "Charstring Number Encoding").
+//! Writes numbers of charstrings (Technical Note 5177, "Charstring Number Encoding").
 ghost use Rattle.std.specs.Prelude.{◌≡◌, ◌++◌, ◌∷◌, ◌≤◌, ◌<◌, ◌^◌, OnOk, IfErr};
 ghost use Rattle.postscript_base.specs.declared.error.Error.TheVariants as causes;
 ghost use Rattle.postscript_type2.specs.Program.StackRules.{IsHeld};
@@ -9,7 +9,7 @@ ghost use Rattle.postscript_instance.specs.Numbers.{pair, two_bytes, four_bytes,
 use crate::error::Result;
 use postscript_type2::Operand;
 
-/// Appends two bytes, of which the first is from a number on.
+/// Appends two bytes, the first counted from a base.
 fn put_pair(out: &mut Vec<u8>, first: u8, number: u16) -> Result<()>
     requires first { first ≤ 251 }
     requires number { number < 1024 }
@@ -20,7 +20,7 @@ fn put_pair(out: &mut Vec<u8>, first: u8, number: u16) -> Result<()>
     Ok(())
 }
 
-/// Appends a whole number behind 1c.
+/// Appends a whole number after the byte 1c.
 fn put_word(out: &mut Vec<u8>, number: u16) -> Result<()>
     ensures ok { OnOk result (out.new.items ≡ out.old.items ++ 0x1c ∷ two_bytes number) }
     ensures err { IfErr result (λ e. e ≡ errors.Font causes.Memory) }
@@ -44,7 +44,7 @@ fn put_above(out: &mut Vec<u8>, number: u16) -> Result<()>
     put_word(out, number)
 }
 
-/// Appends the whole number that is so far below 0.
+/// Appends a negative whole number by its distance from 0.
 fn put_below(out: &mut Vec<u8>, number: u16) -> Result<()>
     requires { 0 < number }
     ensures ok { OnOk result (out.new.items ≡ out.old.items ++ whole_below number) }
@@ -60,7 +60,7 @@ fn put_below(out: &mut Vec<u8>, number: u16) -> Result<()>
     put_word(out, (65536 - u32::from(number)) as u16)
 }
 
-/// Appends a whole number, by the shortest of its spellings.
+/// Appends a whole number in its shortest encoding.
 fn put_whole(out: &mut Vec<u8>, number: i16) -> Result<()>
     ensures ok { OnOk result (out.new.items ≡ out.old.items ++ whole_text number) }
     ensures err { IfErr result (λ e. e ≡ errors.Font causes.Memory) }
@@ -73,7 +73,7 @@ fn put_whole(out: &mut Vec<u8>, number: i16) -> Result<()>
     }
 }
 
-/// Appends the 32 bits of a number behind ff.
+/// Appends the 32 bits of a number after the byte ff.
 fn put_bits(out: &mut Vec<u8>, bits: i32) -> Result<()>
     ensures ok { OnOk result (out.new.items ≡ out.old.items ++ bits_text bits) }
     ensures err { IfErr result (λ e. e ≡ errors.Font causes.Memory) }
@@ -90,7 +90,7 @@ fn put_bits(out: &mut Vec<u8>, bits: i32) -> Result<()>
     Ok(())
 }
 
-/// Appends a number: a whole one by the shortest of its spellings, any other by its 16.16 bits.
+/// Appends a number: a whole one in its shortest encoding, any other by its 16.16 bits.
 pub(crate) fn put_number(out: &mut Vec<u8>, number: Operand) -> Result<()>
     ensures ok { OnOk result (out.new.items ≡ out.old.items ++ number_text number) }
     ensures held { IsHeld number }

@@ -1,4 +1,4 @@
-//! Path operators in pieces, where a stack does not hold their operands (Technical Note 5177, "Path Construction Operators").
+//! Path operators in pieces that fit on the stack (Technical Note 5177, "Path Construction Operators").
 ghost use Rattle.std.specs.Prelude.{◌≡◌, ◌<◌, ◌≤◌, length, MatchOption};
 ghost use Rattle.postscript_variable.specs.Told.{said_of};
 ghost use Rattle.postscript_instance.specs.Cuts.{said_by, is_cut as may_be_cut, first_operator as the_first_operator, first_count as the_first_count, front_of, rest_of, IsTooLong, IsWhole};
@@ -6,10 +6,11 @@ ghost use Rattle.postscript_instance.specs.Cuts.{said_by, is_cut as may_be_cut, 
 use postscript_type2::{Operand, Operator};
 use postscript_variable::Saying;
 
-/// How many operands a stack holds (Technical Note 5177, Appendix B, "Type 2 Charstring Implementation Limits").
+/// The maximum number of operands on the stack (Technical Note 5177, Appendix B, "Type 2 Charstring Implementation
+/// Limits").
 pub(crate) const OPERANDS: usize = 48;
 
-/// What is said at an operator, or a piece of it.
+/// An operation, or a piece of it.
 #[derive(Clone, Copy)]
 pub(crate) struct Piece<'l> {
     pub operator: Operator,
@@ -18,7 +19,7 @@ pub(crate) struct Piece<'l> {
     pub mask: &'l [u8],
 }
 
-/// Whether an operator is cut where a stack does not hold its operands.
+/// Whether an operator can be split.
 pub(crate) fn is_cut(operator: Operator) -> bool
     ensures { result ≡ may_be_cut operator }
 {
@@ -48,15 +49,15 @@ fn first_operator(operator: Operator) -> Operator
     }
 }
 
-/// How many operands the first piece takes, of so many: whole strokes, and of those that turn so many that the rest begins along the
-/// same axis. Of a line behind curves, and of a curve behind lines, the rest has the last.
+/// The number of operands of the first piece, out of `count`. It has whole strokes, and leaves the rest along the same
+/// axis if axes alternate. The final line after curves, or curve after lines, is in the rest.
 fn first_count(operator: Operator, count: usize) -> usize
     ensures exact { result ≡ the_first_count operator count }
     ensures some { 0 < result }
     ensures few { result ≤ 48 }
 {
     match operator {
-        // curves of four, and the operand before the first of them where there is one
+        // curves of four, and the operand before the first of them if there is one
         Operator::HHCurveTo | Operator::VVCurveTo => 44 + count % 2,
         // ten curves of four
         Operator::HVCurveTo | Operator::VHCurveTo => 40,
@@ -67,7 +68,7 @@ fn first_count(operator: Operator, count: usize) -> usize
 }
 
 impl<'l> Piece<'l> {
-    /// What is said, whole.
+    /// A whole operation.
     pub(crate) fn of(saying: &'l Saying<'_>) -> Piece<'l>
         ensures { said_by result ≡ said_of saying.now }
     {
@@ -79,7 +80,7 @@ impl<'l> Piece<'l> {
         }
     }
 
-    /// The first piece and what is behind it, where a stack does not hold the operands.
+    /// The first piece and the rest, if the operands do not fit on the stack.
     pub(crate) fn cut(self) -> Option<(Piece<'l>, Piece<'l>)>
         ensures cut { let x = said_by self.entry in
             MatchOption result (IsWhole x) (λ r. IsTooLong x × (said_by r.0 ≡ front_of x) × (said_by r.1 ≡ rest_of x)) }

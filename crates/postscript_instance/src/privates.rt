@@ -1,5 +1,5 @@
-//! Private DICTs of a place: the zones and the widths of stems by which glyphs are hinted (Technical Note 5176, "Private DICT Data";
-//! OpenType 1.9, "CFF2", "Private DICT Data").
+//! Private DICTs at a location: zones and stem widths for hinting (Technical Note 5176, "Private DICT Data"; OpenType
+//! 1.9, "CFF2", "Private DICT Data").
 ghost use Rattle.std.specs.Prelude.{◌<◌, IfErr, length};
 ghost use Rattle.postscript_instance.specs.Refusals.{IsLate};
 
@@ -22,18 +22,18 @@ const NO_WIDTHS: [u8; 4] = [0x8b, 0x14, 0x8b, 0x15];
 /// An operand of a DICT.
 #[derive(Clone, Copy)]
 enum Number {
-    /// A whole number, and where it is spelled.
+    /// A whole number, with the offsets of its bytes.
     Whole(i32, usize, usize),
-    /// A real, where it is spelled.
+    /// A real, with the offsets of its bytes.
     Real(usize, usize),
-    /// A number that was blended, in 16.16 bits.
+    /// A blended number, as a 16.16 number.
     Blended(i64),
-    /// One that is not known: it is no number, or blends others than whole ones.
+    /// An unsupported operand: not a number, or a blend of numbers that are not whole.
     Unknown,
 }
 
 impl Number {
-    /// The number in 16.16 bits; of a real they are not told.
+    /// The 16.16 number, unless it is a real.
     fn bits(self) -> Option<i64> {
         match self {
             Number::Whole(number, _, _) => Some(i64::from(number) * 65536),
@@ -42,7 +42,7 @@ impl Number {
         }
     }
 
-    /// The bytes that spell it.
+    /// The bytes of the number.
     fn spelled(self, bytes: &[u8]) -> Option<&[u8]> {
         match self {
             Number::Whole(_, from, to) | Number::Real(from, to) => bytes.get(from..to),
@@ -51,7 +51,7 @@ impl Number {
     }
 }
 
-/// The operand at a place, and the place behind it.
+/// The operand at an offset, and the offset after it.
 fn operand_at(bytes: &[u8], place: usize) -> (Number, usize)
     requires { place < length bytes.now }
     ensures { place < result.1 }
@@ -64,7 +64,7 @@ fn operand_at(bytes: &[u8], place: usize) -> (Number, usize)
     }
 }
 
-/// A number with its deltas, each by its scalar.
+/// A number plus its deltas, each scaled.
 fn blended(number: Option<Number>, deltas: &[Number], scalars: &[u32]) -> Number {
     let Some(Number::Whole(number, _, _)) = number else {
         return Number::Unknown;
@@ -79,7 +79,8 @@ fn blended(number: Option<Number>, deltas: &[Number], scalars: &[u32]) -> Number
     Number::Blended(sum)
 }
 
-/// The differences of edges at the nearest whole numbers, halves up, of differences of edges. None where 16 bits do not hold one.
+/// Differences of edges after rounding each edge to the nearest whole number, halves up. `None` if one does not fit
+/// into 16 bits.
 fn edges(alloc: Global, numbers: &[Number]) -> Result<Option<Vec<i16>>>
     ensures late { IfErr result (λ e. IsLate e) }
 {
@@ -101,19 +102,19 @@ fn edges(alloc: Global, numbers: &[Number]) -> Result<Option<Vec<i16>>>
     Ok(Some(edges))
 }
 
-/// A Private DICT of CFF2 at a place, as far as it is read.
+/// A CFF2 Private DICT at a location, while it is read.
 #[derive(Drop)]
 struct Reader<'m> {
     bytes: &'m [u8],
     tables: &'m [Vec<u32>],
-    /// The number of the item variation data that blends use.
+    /// The number of the item variation data in use.
     index: usize,
     stack: Vec<Number>,
     out: Vec<u8>,
 }
 
 impl<'m> Reader<'m> {
-    /// The operands as they are spelled. None where one was blended.
+    /// The operands as they are encoded. `None` if one was blended.
     fn spelled(&self, alloc: Global) -> Result<Option<Vec<u8>>>
         ensures late { IfErr result (λ e. IsLate e) }
     {
@@ -127,7 +128,8 @@ impl<'m> Reader<'m> {
         Ok(Some(text))
     }
 
-    /// Appends the operands: as they are spelled where none was blended, and else in whole numbers. False where they are not known.
+    /// Appends the operands as they are encoded, or as whole numbers if one was blended. Returns `false` if one is
+    /// unsupported.
     fn put_operands(&mut self, alloc: Global) -> Result<bool>
         ensures late { IfErr result (λ e. IsLate e) }
     {
@@ -144,7 +146,7 @@ impl<'m> Reader<'m> {
         Ok(true)
     }
 
-    /// Appends a hint with its operands, where these are known.
+    /// Appends a hint with its operands, unless one is unsupported.
     fn put_hint(&mut self, alloc: Global, operator: &[u8]) -> Result<()>
         ensures late { IfErr result (λ e. IsLate e) }
     {
@@ -157,7 +159,8 @@ impl<'m> Reader<'m> {
         Ok(())
     }
 
-    /// Blends numbers: the last operand is how many, and before it stand these and the deltas of each, as many as there are scalars.
+    /// Blends numbers. The last operand is their count. Before it are the numbers and their deltas, one for each
+    /// scalar.
     fn blend(&mut self) {
         let count = match self.stack.pop() {
             Some(Number::Whole(count, _, _)) => usize::try_from(count).unwrap_or(0),
@@ -189,7 +192,7 @@ impl<'m> Reader<'m> {
         self.stack.truncate(base.saturating_add(count));
     }
 
-    /// Does what an operator asks for.
+    /// Runs an operator.
     fn act(&mut self, alloc: Global, operator: &[u8]) -> Result<()>
         ensures late { IfErr result (λ e. IsLate e) }
     {
@@ -208,7 +211,7 @@ impl<'m> Reader<'m> {
         Ok(())
     }
 
-    /// Reads the dictionary to its end, or to an operator that is cut.
+    /// Reads the DICT to its end, or to a truncated operator.
     fn read(&mut self, alloc: Global) -> Result<()>
         ensures late { IfErr result (λ e. IsLate e) }
     {
@@ -232,12 +235,12 @@ impl<'m> Reader<'m> {
     }
 }
 
-/// Whether an operator tells how glyphs are hinted.
+/// Whether an operator is a hint.
 fn is_hint(operator: &[u8]) -> bool {
     matches!(operator, [6..=11] | [12, 9..=13] | [12, 17..=18])
 }
 
-/// The Private DICT that a Font DICT of CFF2 names; empty where there is none.
+/// The CFF2 Private DICT of a Font DICT, or no bytes if there is none.
 fn private_bytes<'l>(font: &Font<'l>, number: usize) -> &'l [u8] {
     let Some(bytes) = font.font_dictionaries.get(number) else {
         return &[];
@@ -248,7 +251,7 @@ fn private_bytes<'l>(font: &Font<'l>, number: usize) -> &'l [u8] {
     }
 }
 
-/// The Private DICT of CFF of a Font DICT at a place.
+/// The CFF Private DICT of a Font DICT at a location.
 pub(crate) fn private_of(
     alloc: Global,
     font: &Font<'_>,

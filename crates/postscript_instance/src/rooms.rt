@@ -1,11 +1,11 @@
-//! What a table `CFF ` has room for.
+//! The maximum size of a `CFF ` table.
 ghost use Rattle.std.specs.Prelude.{◌≡◌, ◌+◌, ◌<◌, ◌≤◌, length, IfNone, IfSome, MatchBool};
 ghost use Rattle.postscript_instance.specs.Rooms.{IsCrowded, IsTooLarge, codes_size, glyphs_size, names_size};
 
 use crate::naming::Naming;
 use postscript_cff2::Font;
 
-/// So many bytes and more, where they are fewer than 2,000,000,000 together.
+/// The sum of two sizes, if it is below 2,000,000,000 bytes.
 fn added(sum: usize, more: usize) -> Option<usize>
     requires { sum < 2000000000 }
     ensures some { IfSome result (λ all. (all ≡ sum + more) × (all < 2000000000)) }
@@ -18,7 +18,7 @@ fn added(sum: usize, more: usize) -> Option<usize>
     }
 }
 
-/// So many bytes and those of names, where they are fewer than 2,000,000,000 together.
+/// A size plus the size of names, if it is below 2,000,000,000 bytes.
 fn with_names(sum: usize, names: &[&[u8]]) -> Option<usize>
     requires { sum < 2000000000 }
     ensures some { IfSome result (λ all. (all ≡ sum + names_size names.now) × (all < 2000000000)) }
@@ -31,7 +31,7 @@ fn with_names(sum: usize, names: &[&[u8]]) -> Option<usize>
     Some(all)
 }
 
-/// So many bytes and those of the names of glyphs, if any are given, where they are fewer than 2,000,000,000 together.
+/// A size plus the size of the glyph names, if any, if it is below 2,000,000,000 bytes.
 fn with_glyphs(sum: usize, naming: &Naming<'_>) -> Option<usize>
     requires { sum < 2000000000 }
     ensures some { IfSome result (λ all. (all ≡ sum + glyphs_size naming.now.glyphs) × (all < 2000000000)) }
@@ -43,7 +43,7 @@ fn with_glyphs(sum: usize, naming: &Naming<'_>) -> Option<usize>
     }
 }
 
-/// So many bytes and those of codes, where they are fewer than 2,000,000,000 together.
+/// A size plus the size of charstrings, if it is below 2,000,000,000 bytes.
 fn with_codes(sum: usize, codes: &[Vec<u8>]) -> Option<usize>
     requires { sum < 2000000000 }
     ensures some { IfSome result (λ all. (all ≡ sum + codes_size codes.now) × (all < 2000000000)) }
@@ -56,7 +56,7 @@ fn with_codes(sum: usize, codes: &[Vec<u8>]) -> Option<usize>
     Some(all)
 }
 
-/// The bytes of the names and the codes together, where they are fewer than 2,000,000,000.
+/// The size of the names and the charstrings, if it is below 2,000,000,000 bytes.
 fn counted(naming: &Naming<'_>, codes: &[Vec<u8>]) -> Option<usize>
     ensures none { IfNone result
         (2000000000 ≤ length naming.now.font.now + glyphs_size naming.now.glyphs + codes_size codes.now) }
@@ -69,7 +69,7 @@ fn counted(naming: &Naming<'_>, codes: &[Vec<u8>]) -> Option<usize>
     with_codes(names, codes)
 }
 
-/// Whether there are more names than identifiers, or more Font DICTs than FDSelect can name.
+/// Whether there are more names than SIDs, or more Font DICTs than FDSelect can number.
 fn is_crowded(font: &Font<'_>, naming: &Naming<'_>) -> bool
     ensures { MatchBool result (IsCrowded font.now naming.now) (IsCrowded font.now naming.now → ⊥) }
 {
@@ -79,7 +79,7 @@ fn is_crowded(font: &Font<'_>, naming: &Naming<'_>) -> bool
     }
 }
 
-/// Whether a table of these codes is too large.
+/// Whether a table with these charstrings is too large.
 pub(crate) fn is_too_large(font: &Font<'_>, naming: &Naming<'_>, codes: &[Vec<u8>]) -> bool
     ensures { MatchBool result (IsTooLarge font.now naming.now codes.now) (IsTooLarge font.now naming.now codes.now → ⊥) }
 {

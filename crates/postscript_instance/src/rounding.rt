@@ -1,4 +1,4 @@
-//! Places at the nearest whole units.
+//! Rounding to whole units.
 ghost use Rattle.std.specs.Prelude.{◌≡◌, pos, ◌+ℤ◌, ◌-ℤ◌, MatchOption, IfOk, IfErr, OnOk};
 ghost use Rattle.postscript_base.specs.declared.error.Error.TheVariants as causes;
 ghost use Rattle.postscript_instance.specs.Axes.{at, moved, rounded_steps, behind_steps, AreSteps};
@@ -14,7 +14,7 @@ use postscript_outline::Point;
 use postscript_type2::Operand;
 use std::alloc::Global;
 
-/// The whole units nearest to 16.16 bits, in 16.16 bits; of two as near, the upper. None where they are out of the range.
+/// The whole unit nearest to a 16.16 number, and the upper one if it is halfway. `None` if it is out of range.
 fn nearest(bits: i32) -> Option<i32>
     ensures { MatchOption result (¬ IsHeld (the_nearest bits)) (λ units. (units ≡ the_nearest bits) × IsHeld (the_nearest bits)) }
 {
@@ -22,7 +22,7 @@ fn nearest(bits: i32) -> Option<i32>
     i32::try_from(up - up.rem_euclid(65536)).ok()
 }
 
-/// A place so far from another; none where it is out of the range.
+/// The coordinate at a distance from another one. `None` if it is out of range.
 fn place(from: i32, distance: i64) -> Option<i32>
     ensures { MatchOption result (¬ IsHeld (from +ℤ distance)) (λ place. (place ≡ from +ℤ distance) × IsHeld (from +ℤ distance)) }
 {
@@ -30,14 +30,15 @@ fn place(from: i32, distance: i64) -> Option<i32>
     i32::try_from(place).ok()
 }
 
-/// How far it is between two places; none where that is out of the range.
+/// The distance between two coordinates. `None` if it is out of range.
 fn way(from: i32, to: i32) -> Option<i32>
     ensures { MatchOption result (¬ IsHeld (to -ℤ from)) (λ way. (way ≡ to -ℤ from) × IsHeld (to -ℤ from)) }
 {
     i32::try_from(i64::from(to) - i64::from(from)).ok()
 }
 
-/// How far it is between the nearest whole units of a place and of that so far on, and that place; none where one is out of the range.
+/// The rounded distance between a coordinate and the one at a distance, and that coordinate. `None` if something is out
+/// of range.
 fn rounded_step(from: i32, distance: i64) -> Option<(Operand, i32)>
     ensures { MatchOption result (¬ IsStep from distance)
         (λ r. (r.0 ≡ rounded from distance) × (r.1 ≡ from +ℤ distance) × IsStep from distance) }
@@ -49,7 +50,7 @@ fn rounded_step(from: i32, distance: i64) -> Option<(Operand, i32)>
     Some((Operand::from_bits(way), to))
 }
 
-/// One step in whole units, and the place behind it; none where something is out of the range.
+/// A step in whole units, and the point after it. `None` if something is out of range.
 fn stepped(from: Point, step: Step) -> Option<(Operand, Point)>
     ensures { let here = at step.axis from in
         MatchOption result (¬ IsStep here step.distance)
@@ -67,9 +68,7 @@ fn stepped(from: Point, step: Step) -> Option<(Operand, Point)>
     }
 }
 
-/// Steps from a place on in whole units, and the place behind them.
-///
-/// Refused: `TooFar`, `Font` with `Memory`.
+/// Steps in whole units from a point on, and the point after them. The errors are `TooFar` and `Font` with `Memory`.
 pub(crate) fn walked(alloc: Global, from: Point, steps: &[Step]) -> Result<(Vec<Operand>, Point)>
     ensures ok { IfOk result (λ r. (r.0.items ≡ rounded_steps from steps.now) × (r.1 ≡ behind_steps from steps.now)) }
     ensures near { OnOk result (AreSteps from steps.now) }
@@ -87,9 +86,8 @@ pub(crate) fn walked(alloc: Global, from: Point, steps: &[Step]) -> Result<(Vec<
     Ok((operands, place))
 }
 
-/// The edges of stems in whole units: each operand is so far from the edge before it, and the first from 0.
-///
-/// Refused: `TooFar`, `Font` with `Memory`.
+/// The edges of stems in whole units. Each operand is the distance from the edge before, or from 0. The errors are
+/// `TooFar` and `Font` with `Memory`.
 pub(crate) fn edges(alloc: Global, operands: &[Operand]) -> Result<Vec<Operand>>
     ensures ok { IfOk result (λ edges. edges.items ≡ rounded_edges (pos 0) operands.now) }
     ensures near { OnOk result (AreEdges (pos 0) operands.now) }

@@ -1,4 +1,4 @@
-//! The table `CFF ` of a place.
+//! The `CFF ` table at a location.
 ghost use Rattle.std.specs.Prelude.{◌≡◌, ◌⊎◌, Some, length, slice_get, IsTrue, IfOk, IfErr, OnOk};
 ghost use Rattle.postscript_cff2.specs.Shown.{view_shown as varying_shown};
 ghost use Rattle.postscript_instance.specs.Advances.{AreAdvancesAt};
@@ -28,9 +28,13 @@ use postscript_variable_font::{Error as PlaceError, Place, charstring as varying
 use postscript_view::{FontView, PrivateDict};
 use std::alloc::Global;
 
-/// The charstring of Type 2 of a glyph of a variable font at a place, with a width, as `charstring` writes it.
+/// Writes the Type 2 charstring of a glyph of a variable font at a location, with a width, as
+/// [`charstring`](crate::charstring) does.
 ///
-/// Refused: `NoGlyph` where there is no such glyph, or where the font has no Font DICT for it that stands; else as `charstring` is.
+/// # Errors
+///
+/// - `NoGlyph`: there is no such glyph, or its Font DICT is missing or malformed.
+/// - The errors of [`charstring`](crate::charstring).
 pub fn glyph(
     alloc: Global,
     font: &Font<'_>,
@@ -38,7 +42,9 @@ pub fn glyph(
     place: &Place,
     width: Option<Operand>,
 ) -> Result<Vec<u8>>
+    // The code has the operations of the glyph's charstring at the location, and the width.
     ensures written { IfOk result (λ code. IsStaticGlyph font.now glyph place.now width code.items) }
+    // An error is justified: the glyph has no charstring, or `charstring` fails for it.
     ensures refused { IfErr result (λ e. NoStaticGlyph font.now glyph place.now width e) }
 {
     match varying(font, glyph, place) {
@@ -47,14 +53,14 @@ pub fn glyph(
     }
 }
 
-/// How numbers are written: as they are, in 16.16 bits, or in whole units.
+/// The form of numbers: exact 16.16 numbers, or whole units.
 #[derive(Clone, Copy)]
 enum Numbers {
     Exact,
     Whole,
 }
 
-/// The charstring of a glyph with a width, and with numbers so written.
+/// The charstring of a glyph with a width, in this form.
 fn code_of(
     alloc: Global,
     font: &Font<'_>,
@@ -72,7 +78,7 @@ fn code_of(
     }
 }
 
-/// The charstrings of the glyphs that have widths, with numbers so written.
+/// The charstrings of the glyphs with these widths, in this form.
 fn codes_of(
     alloc: Global,
     font: &Font<'_>,
@@ -90,7 +96,7 @@ fn codes_of(
     Ok(codes)
 }
 
-/// Whether an item is this code.
+/// Whether an item is this charstring.
 fn is_code(items: &IndexView<'_>, number: usize, code: &[u8]) -> bool
     ensures { IsTrue result → slice_get (items_of items.now) number ≡ Some code.now }
 {
@@ -100,7 +106,7 @@ fn is_code(items: &IndexView<'_>, number: usize, code: &[u8]) -> bool
     }
 }
 
-/// Whether the items are these codes.
+/// Whether the items are these charstrings.
 fn are_codes(items: &IndexView<'_>, codes: &[Vec<u8>]) -> bool
     ensures { IsTrue result → AreItems (items_of items.now) codes.now (length codes.now) }
 {
@@ -115,7 +121,7 @@ fn are_codes(items: &IndexView<'_>, codes: &[Vec<u8>]) -> bool
     true
 }
 
-/// Whether a Private DICT tells no nominal width.
+/// Whether a Private DICT has a nominal width of 0.
 fn has_no_width(part: &PrivateDict<'_>) -> bool
     ensures { IsTrue result → HasNoWidths (part_shown part.now) }
 {
@@ -125,7 +131,7 @@ fn has_no_width(part: &PrivateDict<'_>) -> bool
     }
 }
 
-/// Whether no Private DICT tells a nominal width.
+/// Whether all Private DICTs have a nominal width of 0.
 fn have_no_widths(parts: &[PrivateDict<'_>]) -> bool
     ensures { IsTrue result → HaveNoWidths (parts_shown parts.now) }
 {
@@ -137,7 +143,7 @@ fn have_no_widths(parts: &[PrivateDict<'_>]) -> bool
     true
 }
 
-/// Whether a glyph has the Font DICT of one number in both fonts.
+/// Whether a glyph has the Font DICT with the same number in both fonts.
 fn keeps_dictionary(old: &Font<'_>, new: &FontView<'_>, glyph: usize) -> bool
     ensures { IsTrue result → KeepsDictionary old.now new.now.bytes.now (view_shown new.now) glyph }
 {
@@ -147,7 +153,7 @@ fn keeps_dictionary(old: &Font<'_>, new: &FontView<'_>, glyph: usize) -> bool
     }
 }
 
-/// Whether each of so many glyphs has the Font DICT of one number in both fonts.
+/// Whether each glyph has the Font DICT with the same number in both fonts.
 fn keep_dictionaries(old: &Font<'_>, new: &FontView<'_>, glyphs: usize) -> bool
     ensures { IsTrue result → KeepDictionaries old.now new.now.bytes.now (view_shown new.now) glyphs }
 {
@@ -159,8 +165,8 @@ fn keep_dictionaries(old: &Font<'_>, new: &FontView<'_>, glyphs: usize) -> bool
     true
 }
 
-/// Reads back what was written. Refused: `NotReadBack` where it is not the font of these codes, called so, or where glyphs have other
-/// Font DICTs than in the old font; `Font` with `Memory`.
+/// Reads back the written font. The error is `NotReadBack` if its charstrings, its names or its Font DICTs are not the
+/// intended ones, or `Font` with `Memory`.
 fn read_back(
     alloc: Global,
     old: &Font<'_>,
@@ -187,9 +193,8 @@ fn read_back(
     Ok(())
 }
 
-/// Nothing, where no names are given, or one for each glyph, of a font of one Font DICT.
-///
-/// Refused: `OtherNames`, `NotOneDictionary`.
+/// Checks that there are no names, or one for each glyph of a font with one Font DICT. The errors are `OtherNames` and
+/// `NotOneDictionary`.
 fn counted(font: &Font<'_>, naming: &Naming<'_>) -> Result<()>
     ensures refused { IfErr result (λ e. IsMiscounted font.now naming.now e) }
 {
@@ -205,9 +210,8 @@ fn counted(font: &Font<'_>, naming: &Naming<'_>) -> Result<()>
     Ok(())
 }
 
-/// The advances of all glyphs, where names are counted well.
-///
-/// Refused: as `counted` is, then as `AdvancesAt::operands` is.
+/// The advance widths of all glyphs, if the names have the right number. The errors are those of `counted` and
+/// `AdvancesAt::operands`.
 fn widths_of(
     alloc: Global,
     font: &Font<'_>,
@@ -221,8 +225,8 @@ fn widths_of(
     advances.operands(alloc, font.char_strings.len())
 }
 
-/// The table of a place, with these widths, and with numbers so written. Refused: as `glyph` or `rounded_glyph` is, `TooLarge`,
-/// `NotReadBack`.
+/// The table at a location with these widths, in this form. The errors are those of `glyph` or `rounded_glyph`,
+/// `TooLarge` and `NotReadBack`.
 fn table_of(
     alloc: Global,
     font: &Font<'_>,
@@ -244,9 +248,7 @@ fn table_of(
     Ok(bytes)
 }
 
-/// The place of a font at normalized coordinates.
-///
-/// Refused: `NoData`, `Font` with `Memory`.
+/// The location with normalized coordinates. The errors are `NoData` and `Font` with `Memory`.
 fn place_of(alloc: Global, font: &Font<'_>, coordinates: &[i16]) -> Result<Place>
     ensures is { IfOk result (λ place. IsPlaceIn font.now.store coordinates.now place) }
     ensures refused { IfErr result (λ e. LacksPlace font.now.store e) }
@@ -263,7 +265,7 @@ fn place_of(alloc: Global, font: &Font<'_>, coordinates: &[i16]) -> Result<Place
     }
 }
 
-/// The table of a place, with numbers so written.
+/// The table at a location, in this form.
 fn table_at(
     alloc: Global,
     font: &Font<'_>,
@@ -282,45 +284,62 @@ fn table_at(
     }
 }
 
-/// The table `CFF ` of a place of a variable font, that of the coordinates of its advances, and with these names. Each glyph's
-/// charstring is that of `glyph`; its width is the glyph's advance at the place, and `nominalWidthX` is 0. Where glyphs have names, the
-/// char set and the strings tell them, but for the first, which is `.notdef`; where they have none, it is a CID-keyed font (ROS Adobe,
-/// Identity, 0), whose CIDs are the numbers of its glyphs, with the Font DICTs of the table CFF2. It has the FontMatrix of the table
-/// CFF2, and no subroutines.
+/// Writes the `CFF ` table of a variable font at the location of `advances`, with these names.
 ///
-/// The Private DICTs have the hints of those of CFF2: zones, widths of stems, and what goes with them. Those that are blended are at the
-/// nearest whole units, halves up: of a zone or a list of widths each edge is. A hint whose blends have other numbers than whole ones, or
-/// that have no room in 16 bits, is left out. What is written is read back: the contract says that it is read, what its glyphs, their
-/// widths, its nominal widths and their Font DICTs are, and what they are called. FontMatrix and the hints are tested
-/// (`postscript_variable_vectors`), and have no clause.
+/// The charstring of each glyph is as from [`glyph`]. Its width is the advance width of the glyph at the location, and
+/// nominalWidthX is 0. The font has the FontMatrix of the `CFF2` table, and no subroutines.
 ///
-/// Refused: `OtherNames` where there are not as many names as glyphs; `NotOneDictionary` where there are names, and not one Font DICT;
-/// as `AdvancesAt::operands` is; `NoData` for the first item variation data that do not stand; as `glyph` is, for the first glyph that
-/// is; `TooLarge` where there are more than 65,535 glyphs, more than 64,609 names or, without names, more than 256 Font DICTs, or where
-/// the charstrings and the names of the font and its glyphs are 2,000,000,000 bytes or more together; `NotReadBack` where what was written
-/// is not read as the font that it is to be.
+/// If glyphs have names, the charset and the strings contain them, apart from the first, which is `.notdef`. Otherwise
+/// the font is CID-keyed (ROS Adobe, Identity, 0). Then its CIDs are the glyph numbers, and it has the Font DICTs of
+/// the `CFF2` table.
+///
+/// The Private DICTs have the hints of the CFF2 ones, as zones and stem widths. Blended hints are rounded to the
+/// nearest whole unit, and up if it is halfway. In zones and lists of widths each edge is rounded. A hint is left out
+/// if it blends numbers that are not whole, or if it does not fit into 16 bits.
+///
+/// The table is read back after writing. The clauses cover the glyphs, their widths, nominal widths, Font DICTs and
+/// names. FontMatrix and the hints have no clause, but tests (`postscript_variable_vectors`).
+///
+/// # Errors
+///
+/// - `OtherNames`: the number of names is not the number of glyphs.
+/// - `NotOneDictionary`: there are names, but not exactly one Font DICT.
+/// - `NoData`: item variation data are missing or truncated. The first such number is given.
+/// - The errors of [`AdvancesAt::operands`].
+/// - The errors of [`glyph`], for the first glyph that fails.
+/// - `TooLarge`: there are more than 65,535 glyphs, more than 64,609 names, or more than 256 Font DICTs without names.
+///   The same error is returned if charstrings and names have 2,000,000,000 bytes or more together.
+/// - `NotReadBack`: the written table is not read back as the intended font.
 pub fn table(
     alloc: Global,
     font: &Font<'_>,
     naming: &Naming<'_>,
     advances: &AdvancesAt<'_>,
 ) -> Result<Vec<u8>>
+    // The table is a font with the glyphs at the location, their advance widths and the names.
     ensures written { IfOk result (λ bytes. IsTableOf font.now naming.now advances.now bytes.items) }
+    // An error has a justified cause in the input, or it is `NotReadBack` or `Memory`.
     ensures refused { IfErr result (λ e. NoTable font.now naming.now advances.now e) }
 {
     table_at(alloc, font, naming, advances, Numbers::Exact)
 }
 
-/// The table of a place as `table` writes it, with the charstrings of `rounded_glyph`: each point is at the nearest whole units.
+/// Writes the table as [`table`] does, with the charstrings of [`rounded_glyph`](crate::rounded_glyph): each point is
+/// rounded to whole units.
 ///
-/// Refused: as `table` is, and as `rounded_glyph` is.
+/// # Errors
+///
+/// - The errors of [`table`].
+/// - The errors of [`rounded_glyph`](crate::rounded_glyph).
 pub fn rounded_table(
     alloc: Global,
     font: &Font<'_>,
     naming: &Naming<'_>,
     advances: &AdvancesAt<'_>,
 ) -> Result<Vec<u8>>
+    // The table is a font as for `table`, but with glyphs in whole units.
     ensures written { IfOk result (λ bytes. IsRoundedTableOf font.now naming.now advances.now bytes.items) }
+    // An error has a justified cause in the input, or it is `NotReadBack` or `Memory`.
     ensures refused { IfErr result (λ e. NoRoundedTable font.now naming.now advances.now e) }
 {
     table_at(alloc, font, naming, advances, Numbers::Whole)

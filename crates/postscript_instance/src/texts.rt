@@ -1,4 +1,4 @@
-//! What is said, written as Type 2.
+//! Writes operations as Type 2 charstrings.
 ghost use Rattle.std.specs.Prelude.{◌≡◌, [], ◌∷◌, ◌++◌, ◌||◌, ℕ, List, None, nat_le, length, map, IfOk, OnOk, IfErr};
 ghost use Rattle.postscript_base.specs.declared.error.Error.TheVariants as causes;
 ghost use Rattle.postscript_variable.specs.Defaults.{AreHeld};
@@ -69,7 +69,7 @@ fn bears_width(operator: Operator) -> bool
     )
 }
 
-/// How many numbers a width is.
+/// The number of numbers of a width: 0 or 1.
 fn width_count(width: Option<Operand>) -> usize
     ensures { result ≡ length (width_numbers width) }
 {
@@ -79,7 +79,7 @@ fn width_count(width: Option<Operand>) -> usize
     }
 }
 
-/// Whether the numbers before an operator are no more than a stack holds.
+/// Whether the numbers before an operator fit on the stack.
 fn is_held(width: Option<Operand>, saying: &Saying<'_>) -> bool
     ensures { result ≡ nat_le (length (numbers_of width (said_of saying.now))) 48 }
 {
@@ -88,16 +88,15 @@ fn is_held(width: Option<Operand>, saying: &Saying<'_>) -> bool
     stems <= OPERANDS && operands <= OPERANDS && width_count(width) + stems + operands <= OPERANDS
 }
 
-/// Whether an operator is cut where a stack does not hold its operands, or a stack holds the numbers before it.
+/// Whether an operator can be split, or the numbers before it fit on the stack.
 fn has_room(width: Option<Operand>, saying: &Saying<'_>) -> bool
     ensures { let x = said_of saying.now in result ≡ (may_be_cut x.operator || nat_le (length (numbers_of width x)) 48) }
 {
     is_cut(saying.operator) || is_held(width, saying)
 }
 
-/// Nothing, where each operator that is not cut has no more numbers before it than a stack holds.
-///
-/// Refused: `TooManyOperands`.
+/// Checks that each operator that cannot be split has few enough numbers before it. The only error is
+/// `TooManyOperands`.
 fn counted(width: &Option<Operand>, sayings: &[Saying<'_>]) -> Result<()>
     ensures fits { OnOk result (AreHeldOrCut width.now (map said_of sayings.now)) }
     ensures refused { IfErr result (λ e. (e ≡ errors.TooManyOperands) × HasMoreUncut width.now (map said_of sayings.now)) }
@@ -112,9 +111,7 @@ fn counted(width: &Option<Operand>, sayings: &[Saying<'_>]) -> Result<()>
     Ok(())
 }
 
-/// Nothing, where the first operator may have the width before its operands.
-///
-/// Refused: `NoMove`.
+/// Checks that the first operator may have the width before its operands. The only error is `NoMove`.
 fn begun(width: &Option<Operand>, sayings: &[Saying<'_>]) -> Result<()>
     ensures bears { OnOk result (BearsWidth width.now (map said_of sayings.now)) }
     ensures refused { IfErr result (λ e. (e ≡ errors.NoMove) × LacksMove width.now (map said_of sayings.now)) }
@@ -128,7 +125,7 @@ fn begun(width: &Option<Operand>, sayings: &[Saying<'_>]) -> Result<()>
     }
 }
 
-/// Appends a width, where there is one.
+/// Appends a width, if there is one.
 fn put_width(out: &mut Vec<u8>, width: Option<Operand>) -> Result<()>
     ensures ok { OnOk result (out.new.items ≡ out.old.items ++ numbers_text (width_numbers width)) }
     ensures held { OnOk result (AreHeld (width_numbers width)) }
@@ -154,7 +151,7 @@ fn put_piece(out: &mut Vec<u8>, width: Option<Operand>, piece: Piece<'_>) -> Res
     Ok(())
 }
 
-/// Appends what is said at an operator, in pieces where a stack does not hold it.
+/// Appends an operation, in pieces if it does not fit on the stack.
 fn put_saying(out: &mut Vec<u8>, width: Option<Operand>, saying: &Saying<'_>) -> Result<()>
     ensures ok { OnOk result ((xs : List Phrase) (end : List ℕ) → IsWritten None xs out.new.items end →
         IsWritten width (said_of saying.now ∷ xs) out.old.items end) }
@@ -170,7 +167,7 @@ fn put_saying(out: &mut Vec<u8>, width: Option<Operand>, saying: &Saying<'_>) ->
     put_piece(out, width, rest)
 }
 
-/// Appends all that is said, the width before the first, and endchar behind the last.
+/// Appends all operations, with the width before the first, and `endchar` after the last.
 fn put_sayings(out: &mut Vec<u8>, width: Option<Operand>, sayings: &[Saying<'_>]) -> Result<()>
     ensures ok { OnOk result (IsWritten width (map said_of sayings.now) out.old.items out.new.items) }
     ensures err { IfErr result (λ e. e ≡ errors.Font causes.Memory) }
@@ -185,9 +182,8 @@ fn put_sayings(out: &mut Vec<u8>, width: Option<Operand>, sayings: &[Saying<'_>]
     Ok(())
 }
 
-/// All that is said as a charstring of Type 2, with a width before the first operator.
-///
-/// Refused: `NoMove`, `TooManyOperands`, `Font` with `Memory`.
+/// The operations as a Type 2 charstring, with a width before the first operator. The errors are `NoMove`,
+/// `TooManyOperands`, and `Font` with `Memory`.
 pub(crate) fn written(
     alloc: Global,
     width: Option<Operand>,

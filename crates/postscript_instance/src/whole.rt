@@ -1,4 +1,4 @@
-//! A glyph's charstring of Type 2 in whole units.
+//! Type 2 charstrings in whole units.
 ghost use Rattle.std.specs.Prelude.{◌≡◌, ◌++◌, map, IfOk, OnOk, IfErr};
 ghost use Rattle.postscript_base.specs.declared.error.Error.TheVariants as causes;
 ghost use Rattle.postscript_instance.specs.Axes.{is_hint as hints, steps_of as the_steps_of, behind_steps, IsNear, LeadsTooFar};
@@ -35,7 +35,7 @@ fn is_hint(operator: Operator) -> bool
     )
 }
 
-/// A flex is spelled by all its coordinates; every other operator stays.
+/// Replaces a special flex operator by `flex`.
 fn rounded_operator(operator: Operator) -> Operator
     ensures { result ≡ the_rounded_operator operator }
 {
@@ -45,7 +45,7 @@ fn rounded_operator(operator: Operator) -> Operator
     }
 }
 
-/// Appends the depth of a flex as it is, and 50 where the operator has none.
+/// Appends the depth of a flex, which is 50 if the operator has none.
 fn put_depth(out: &mut Vec<Operand>, operator: Operator, operands: &[Operand]) -> Result<()>
     ensures ok { OnOk result (out.new.items ≡ out.old.items ++ depth_of operator operands.now) }
     ensures err { IfErr result (λ e. e ≡ errors.Font causes.Memory) }
@@ -61,7 +61,7 @@ fn put_depth(out: &mut Vec<Operand>, operator: Operator, operands: &[Operand]) -
     Ok(())
 }
 
-/// What is said where the pen stands in whole units, and where it stands then.
+/// An operation in whole units from a point, and the point after it.
 fn in_whole_units<'l>(
     alloc: Global,
     place: Point,
@@ -88,7 +88,7 @@ fn in_whole_units<'l>(
     Ok((rounded, behind))
 }
 
-/// All that is said from the origin on, in whole units.
+/// All operations in whole units from the origin.
 fn all_in_whole_units<'l>(alloc: Global, sayings: &[Saying<'l>]) -> Result<Vec<Saying<'l>>>
     ensures ok { IfOk result (λ whole. map said_of whole.items ≡ all_in_units origin (map said_of sayings.now)) }
     ensures near { OnOk result (AreNear origin (map said_of sayings.now)) }
@@ -104,17 +104,28 @@ fn all_in_whole_units<'l>(alloc: Global, sayings: &[Saying<'l>]) -> Result<Vec<S
     Ok(whole)
 }
 
-/// A charstring of Type 2 that draws in whole units what a charstring of CFF2 draws where it is blended, with each point at the nearest
-/// whole units: of two as near, the upper. Places are rounded, not operands, so that no error adds up: the segments are the same, each
-/// point is at most half a unit off along each axis, and a contour that ends where it began still does. The edges of stems are rounded
-/// likewise: of each operator, and of those that a mask implies, the first is from 0, and the next from the one before it. Each number is
-/// whole, but a width, in 16.16 bits, and the depth of a flex, which are written as they are. The operators, the masks and the rest are as
-/// `charstring` has them, but for `hflex`, `hflex1` and `flex1`, which become `flex` with a depth of 50.
+/// Writes a Type 2 charstring that draws the outline of a blended CFF2 charstring in whole units.
 ///
-/// Refused: as `charstring` is; `TooFar` where a place or an edge is out of the range of 16.16 bits, as it is or in whole units, or the way
-/// to it in whole units is.
+/// Each point is rounded to the nearest whole unit, and up if it is halfway. Since points and not operands are rounded,
+/// errors do not add up. The segments are the same, each point moves by at most half a unit along each axis, and a
+/// contour that ends at its start still does.
+///
+/// The edges of stems are rounded likewise, for each operator and for the stems that a mask implies. The first edge of
+/// an operator counts from 0, and each other one from the one before. All numbers are whole, except a width, as a 16.16
+/// number, and the depth of a flex, which are unchanged.
+///
+/// Operators, masks and the rest are as [`charstring`](crate::charstring) writes them, except `hflex`, `hflex1` and
+/// `flex1`, which become `flex` with a depth of 50.
+///
+/// # Errors
+///
+/// - The errors of [`charstring`](crate::charstring).
+/// - `TooFar`: a point or an edge, as it is or rounded, does not fit into 16.16 bits, or the rounded distance to it
+///   does not.
 pub fn rounded(alloc: Global, charstring: Charstring<'_>, width: Option<Operand>) -> Result<Vec<u8>>
+    // The code draws in whole units what the CFF2 charstring draws, with this width and no calls.
     ensures written { IfOk result (λ code. IsRoundedOf charstring.entry width code.items) }
+    // An error is justified by the run, its operators, the width or the range, or is `Memory`.
     ensures refused { IfErr result (λ e. NotRounded charstring.entry width e) }
 {
     let sayings = charstring.sayings(alloc)?;
@@ -123,9 +134,13 @@ pub fn rounded(alloc: Global, charstring: Charstring<'_>, width: Option<Operand>
     Ok(code)
 }
 
-/// The charstring of Type 2 of a glyph of a variable font at a place in whole units, with a width, as `rounded` writes it.
+/// Writes the Type 2 charstring of a glyph of a variable font at a location in whole units, with a width, as
+/// [`rounded`] does.
 ///
-/// Refused: `NoGlyph` where there is no such glyph, or where the font has no Font DICT for it that stands; else as `rounded` is.
+/// # Errors
+///
+/// - `NoGlyph`: there is no such glyph, or its Font DICT is missing or malformed.
+/// - The errors of [`rounded`].
 pub fn rounded_glyph(
     alloc: Global,
     font: &Font<'_>,
@@ -133,7 +148,9 @@ pub fn rounded_glyph(
     place: &Place,
     width: Option<Operand>,
 ) -> Result<Vec<u8>>
+    // The code draws in whole units what the glyph's charstring draws at the location.
     ensures written { IfOk result (λ code. IsRoundedGlyph font.now glyph place.now width code.items) }
+    // An error is justified: the glyph has no charstring, or `rounded` fails for it.
     ensures refused { IfErr result (λ e. NoRoundedGlyph font.now glyph place.now width e) }
 {
     match varying(font, glyph, place) {
