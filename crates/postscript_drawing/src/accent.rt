@@ -1,4 +1,4 @@
-//! What an accented glyph names: the four operands that its `endchar` takes.
+//! The four operands of the `endchar` of a `seac` glyph.
 ghost use Rattle.std.specs.Prelude.{◌≡◌, ◌≢◌, ℕ, length, IfOk, IfErr, MatchOption};
 ghost use Rattle.postscript_drawing.specs.declared.error.Error.TheVariants as errors;
 ghost use Rattle.postscript_drawing.specs.Accents.{HasNoCodes, IsAccent, IsCode};
@@ -6,12 +6,12 @@ ghost use Rattle.postscript_drawing.specs.Accents.{HasNoCodes, IsAccent, IsCode}
 use crate::error::{Error, Result};
 use postscript_type2::Operand;
 
-/// What an accented glyph names: `adx ady bchar achar endchar` (Technical Note 5177, Appendix C).
+/// The operands of a `seac` glyph, `adx ady bchar achar endchar` (Technical Note 5177, Appendix C).
 #[derive(Clone, Copy, Debug, PartialEq, Eq)]
 pub struct Accent {
-    /// How far the accent is moved to the right, in 16.16 bits.
+    /// The offset of the accent to the right, in 16.16 format.
     pub dx: Operand,
-    /// How far the accent is moved up, in 16.16 bits.
+    /// The upward offset of the accent, in 16.16 format.
     pub dy: Operand,
     /// The code of the base in the standard encoding.
     pub base: u8,
@@ -20,12 +20,16 @@ pub struct Accent {
 }
 
 impl Accent {
-    /// What the operands that `endchar` took name (`Program::operands_at_end`), where they are four; else None.
+    /// Interprets the operands that `endchar` took (`Program::operands_at_end`). Returns `None` unless there are four.
     ///
-    /// Refused: `NoCode` where one of the last two is no whole number from 0 to 255.
+    /// # Errors
+    ///
+    /// - `NoCode`: one of the last two is not a whole number from 0 to 255.
     #[inline(always)]
     pub fn named_by(operands: &[Operand]) -> Result<Option<Accent>>
+        // `Some` has the values of the four operands. `None` means that there are not four.
         ensures told { IfOk result (λ found. MatchOption found (length operands.now ≢ 4) (λ accent. IsAccent operands.now accent)) }
+        // The error is `NoCode`, and there are four operands whose last two are not both codes.
         ensures why { IfErr result (λ e. (e ≡ errors.NoCode) × HasNoCodes operands.now) }
     {
         match operands {
@@ -40,7 +44,7 @@ impl Accent {
     }
 }
 
-/// The code that an operand is.
+/// An operand as a code.
 fn code_of(operand: Operand) -> Result<u8>
     ensures found { IfOk result (λ code. IsCode operand code) }
     ensures none { IfErr result (λ e. (e ≡ errors.NoCode) × ((code : ℕ) → IsCode operand code → ⊥)) }

@@ -1,4 +1,4 @@
-//! The components of accented glyphs.
+//! The components of `seac` glyphs.
 ghost use Rattle.std.specs.Prelude.{◌≡◌, IfOk, IfErr};
 ghost use Rattle.postscript_drawing.specs.Components.{HasNoComponent, IsComponent, standard_identifier as the_standard_identifier};
 
@@ -7,13 +7,18 @@ use postscript_base::compact1::StringID;
 use postscript_compact1::encoding::Encoding;
 use postscript_view::FontView;
 
-/// The glyph of a code of the standard encoding (Technical Note 5176, Appendix B): the first glyph of the font that has the
-/// name of the code; that of `.notdef`, the glyph 0, where the encoding does not list the code.
+/// Returns the glyph for a code of the standard encoding (Technical Note 5176, Appendix B). This is the first glyph of
+/// the font with the name for the code. If the encoding does not have the code, it is glyph 0, `.notdef`.
 ///
-/// Refused: `NoAccents` for a CID-keyed font, whose glyphs have no names; `MissingComponent` where no glyph has the name;
-/// `Font` with what the char set is refused with.
+/// # Errors
+///
+/// - `NoAccents`: the font is CID-keyed, so its glyphs have no names.
+/// - `MissingComponent`: no glyph has the name.
+/// - `Font`: the charset is malformed.
 pub fn component_of(font: &FontView<'_>, code: u8) -> Result<usize>
+    // On success it is the first glyph with the name that the standard encoding gives the code.
     ensures found { IfOk result (λ glyph. IsComponent font.now code glyph) }
+    // The error gives a cause that holds (`HasNoComponent`, specs/Components.antt).
     ensures why { IfErr result (λ e. HasNoComponent e font.now code) }
 {
     if font.is_cid_keyed() {
@@ -26,7 +31,7 @@ pub fn component_of(font: &FontView<'_>, code: u8) -> Result<usize>
     }
 }
 
-/// The identifier of the string that the standard encoding has for a code.
+/// The SID of the name for a code in the standard encoding.
 #[tactic(auto, unfolding(postscript_compact1::specs::Computed::Encodings::identifier_of))]
 fn standard_identifier(code: u8) -> StringID
     ensures { result ≡ the_standard_identifier code }

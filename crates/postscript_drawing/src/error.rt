@@ -1,4 +1,4 @@
-//! What drawing is refused with.
+//! The errors of drawing.
 ghost use Rattle.std.specs.Prelude.{◌≡◌};
 ghost use Rattle.postscript_drawing.specs.Undrawn.{error_of};
 ghost use Rattle.postscript_base.specs.declared.error.Error.TheVariants as causes;
@@ -12,40 +12,40 @@ use postscript_type2::Refused;
 use std::alloc::{AllocError, AllocFailed};
 use thiserror::Error;
 
-/// What a call answers, or the error that it is refused with.
+/// The result of a call that may fail with [`Error`].
 pub type Result<T> = std::result::Result<T, Error>;
 
-/// A refusal.
+/// An error of drawing.
 #[derive(Debug, Drop, Error)]
 pub enum Error {
-    /// The run of a glyph is refused, or the char set; a coordinate leaves the range (`Overflow`); or memory was asked for and
-    /// refused (`Memory`).
+    /// The run of a glyph fails, the charset is malformed, a coordinate leaves the range (`Overflow`), or memory runs out
+    /// (`Memory`).
     #[error("{0}")]
     Font(Cause),
-    /// The sink takes no more.
+    /// The sink takes no more segments.
     #[error("no more segments are taken")]
     Full,
-    /// The limit was used up before the end.
+    /// The limit is used up before the end.
     #[error("the run takes longer than the limit")]
     TooLong,
-    /// The font has no glyph of this number, or FDSelect gives it no font dictionary that stands.
+    /// The font has no glyph with this index, or `FDSelect` gives it no Font DICT of the font.
     #[error("there is no glyph {0}")]
     NoSuchGlyph(usize),
-    /// A glyph ends over four operands, of which the last two are no codes.
+    /// The `endchar` of a glyph has four operands, but the last two are not both codes.
     #[error("an accented glyph names no codes")]
     NoCode,
-    /// An accented glyph of a CID-keyed font: its glyphs have no names.
+    /// A `seac` glyph is in a CID-keyed font, whose glyphs have no names.
     #[error("a CID-keyed font has no accented glyphs")]
     NoAccents,
     /// No glyph of the font has the name that this code has in the standard encoding.
     #[error("there is no glyph of the code {0}")]
     MissingComponent(u8),
-    /// The glyph of this code is a part of an accented glyph, and is accented itself.
+    /// The glyph with this code is a component of a `seac` glyph, and is a `seac` glyph itself.
     #[error("the glyph of the code {0} is accented itself")]
     NestedAccent(u8),
 }
 
-/// A refusal of the font: `Font`. Never refused.
+/// Converts an error of the font into `Font`.
 impl From<Cause> for Error {
     ghost from_gives = { λ fault e. e ≡ errors.Font fault };
 
@@ -54,7 +54,7 @@ impl From<Cause> for Error {
     }
 }
 
-/// A refusal of a program: `Font`. Never refused.
+/// Converts an error of a program into `Font`.
 impl From<Refused> for Error {
     ghost from_gives = { λ refused e. e ≡ errors.Font (cause_of refused) };
 
@@ -63,7 +63,7 @@ impl From<Refused> for Error {
     }
 }
 
-/// Memory that was refused: `Font`. Never refused.
+/// Converts an allocation failure into `Font` with `Memory`.
 impl From<AllocError> for Error {
     ghost from_gives = { λ _ e. e ≡ errors.Font causes.Memory };
 
@@ -72,7 +72,7 @@ impl From<AllocError> for Error {
     }
 }
 
-/// Memory that was refused to a call that hands its value back: `Font`. Never refused.
+/// Converts an allocation failure of a call that returns its value into `Font` with `Memory`.
 impl<T: Drop> From<AllocFailed<T>> for Error {
     ghost from_gives = { λ _ e. e ≡ errors.Font causes.Memory };
 
@@ -81,7 +81,7 @@ impl<T: Drop> From<AllocFailed<T>> for Error {
     }
 }
 
-/// A sink that takes no more: `Full`. Never refused.
+/// Converts the error of a full sink into `Full`.
 impl From<Full> for Error {
     ghost from_gives = { λ _ e. e ≡ errors.Full };
 
@@ -90,7 +90,7 @@ impl From<Full> for Error {
     }
 }
 
-/// Why strokes are not drawn: `Font` with `Overflow`, or `Full`. Never refused.
+/// Converts an error of drawing strokes into `Font` with `Overflow`, or into `Full`.
 impl From<Undrawn> for Error {
     ghost from_gives = { λ undrawn e. e ≡ error_of undrawn };
 

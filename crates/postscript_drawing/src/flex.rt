@@ -47,7 +47,7 @@ pub(crate) fn hflex(operands: &[Operand]) -> Strokes<'_>
     }
 }
 
-/// So far across, and back from so far up.
+/// A vector with the opposite of `dy`.
 fn returning(dx: Operand, dy: i64) -> Vector
     requires { unsigned_abs dy ≤ 2 ^ 34 }
     ensures { result ≡ the_by dx (neg_ℤ dy) }
@@ -58,7 +58,7 @@ fn returning(dx: Operand, dy: i64) -> Vector
     }
 }
 
-/// So far across.
+/// A horizontal vector.
 fn level(dx: Operand) -> Vector
     ensures { result ≡ the_along Axis.Horizontal dx }
 {
@@ -82,7 +82,7 @@ pub(crate) fn hflex1(operands: &[Operand]) -> Strokes<'_>
     }
 }
 
-/// The sum, with room for more.
+/// The sum, with bounds that allow more terms.
 fn plus(a: i64, b: Operand) -> i64
     requires { unsigned_abs a ≤ 2 ^ 34 }
     ensures value { result ≡ a +ℤ b }
@@ -107,7 +107,7 @@ fn sum_of_five(a: Operand, b: Operand, c: Operand, d: Operand, e: Operand) -> i6
     plus(plus(sum_of_three(a, b, c), d), e)
 }
 
-/// The last vector of a flex1, behind those with this sum.
+/// The last vector of a `flex1`, after others with this sum.
 fn back(dx: i64, dy: i64, d6: Operand) -> Vector
     requires dx_room { unsigned_abs dx ≤ 2 ^ 34 }
     requires dy_room { unsigned_abs dy ≤ 2 ^ 34 }

@@ -1,4 +1,4 @@
-//! Glyphs that are drawn, accented ones with their components.
+//! Drawing of glyphs, with the components of `seac` glyphs.
 ghost use Rattle.std.specs.Prelude.{◌≡◌, ◌≢◌, ◌⊎◌, Err, List, [], IfOk, IfErr, OnErr, OnOk};
 ghost use Rattle.postscript_base.specs.declared.error.Error.TheVariants as causes;
 ghost use Rattle.postscript_drawing.specs.Accents.{IsTold, run_by};
@@ -23,23 +23,31 @@ use postscript_type2::laws::runs_end_so;
 use postscript_view::{FontView, Glyph};
 use std::alloc::Global;
 
-/// For how many segments there is room at first: most glyphs have fewer.
+/// The number of segments for which memory is allocated at first. Most glyphs have fewer.
 const ROOM: usize = 32;
 
-/// The outline of a glyph of a font: the segments that `draw_glyph` gives, and the width. Coordinates and the width are in 16.16
-/// bits, in the units of the font.
+/// Returns the outline of a glyph of a font: the segments that [`draw_glyph`] draws, and the width minus nominalWidthX.
+/// They are in 16.16 format, in the units of the font.
 ///
-/// Refused: as `draw_glyph` is, but never with `Full`: where its list asks for memory that is refused it is `Font` with `Memory`.
+/// # Errors
+///
+/// - The errors of [`draw_glyph`] except `Full`. If the list of segments runs out of memory, the error is `Font` with
+///   `Memory`.
 pub fn outline_of(
     alloc: Global,
     font: &FontView<'_>,
     glyph: usize,
     limit: &mut u64,
 ) -> Result<Outline>
+    // On success the outline has the segments of the glyph and its components, and the width.
     ensures found { IfOk result (λ outline. IsDrawnAs font.now glyph outline.segments.items outline.width_difference) }
+    // The error gives a cause that holds (`IsUndrawnGlyph`, specs/Refused.antt).
     ensures why { IfErr result (λ e. IsUndrawnGlyph font.now glyph limit.new e) }
+    // The error is never `Full`.
     ensures memory { result ≢ Err errors.Full }
+    // On success all phrases of the glyph and its components are paid from the limit.
     ensures paid { OnOk result (PaysDrawing font.now glyph limit.old limit.new) }
+    // Only phrases of the runs of at most three glyphs are paid from the limit.
     ensures spends { SpendsOnRuns font.now 3 limit.old limit.new }
 {
     match outlined(alloc, font, glyph, limit) {
@@ -48,7 +56,7 @@ pub fn outline_of(
     }
 }
 
-/// The same, but that a list that takes no more is told as such.
+/// The same, but it fails with `Full` if the list of segments runs out of memory.
 fn outlined(alloc: Global, font: &FontView<'_>, glyph: usize, limit: &mut u64) -> Result<Outline>
     ensures found { IfOk result (λ outline. IsDrawnAs font.now glyph outline.segments.items outline.width_difference) }
     ensures why { IfErr result (λ e. IsUndrawnGlyph font.now glyph limit.new e) }
@@ -63,18 +71,25 @@ fn outlined(alloc: Global, font: &FontView<'_>, glyph: usize, limit: &mut u64) -
     })
 }
 
-/// Gives the outline of a glyph to a sink, one segment after another, as the run comes to them, and answers the width. Where the
-/// glyph is accented (Technical Note 5177, Appendix C), its own segments come first, then those of the base, and then those of
-/// the accent, from the point that the glyph says. The width is that of the glyph's own run.
+/// Draws a glyph into a sink, and returns the width minus nominalWidthX of its own run. The sink receives the segments
+/// in order as the run produces them. For a `seac` glyph (Technical Note 5177, Appendix C) these are its own segments,
+/// then the base's, and then the accent's, moved as the operands say.
 ///
-/// The runs of the glyph, of its base and of its accent share the limit: `Program::step_within` says what they take of it, and what
-/// is left is told. Where it answers, all of them are paid from it.
+/// The runs of the glyph, of its base and of its accent share the limit, and `limit` is set to the units left.
+/// `Program::step_within` describes how they spend it. On success all of them are paid for.
 ///
-/// Refused: `NoSuchGlyph`; `NoCode`, as `Accent::named_by` is; `NoAccents` and `MissingComponent`, as `component_of` is, for the
-/// base or the accent; `NestedAccent` where one of these is accented itself; `TooLong` where the limit is used up before the end;
-/// `Full` where the sink takes no more; `Font` with what a run or the char set is refused with, with `Overflow` where a coordinate
-/// leaves the range, and with `Memory`. The sink has been given a front of what is drawn: nothing, or some of the glyph's own run, or
-/// all of that and some of the components.
+/// On an error the sink has received some first segments: none, some of the glyph's own run, or all of these and some
+/// of its components (`specs/Given.antt`). No clause states this if a coordinate leaves the range.
+///
+/// # Errors
+///
+/// - `NoSuchGlyph`: there is no such glyph.
+/// - `NoCode`: as for [`Accent::named_by`].
+/// - `NoAccents`, `MissingComponent`: as for [`component_of`], for the base or the accent.
+/// - `NestedAccent`: the base or the accent is itself a `seac` glyph.
+/// - `TooLong`: the limit is used up before the end.
+/// - `Full`: the sink takes no more segments.
+/// - `Font`: the error of a run or of the charset, `Overflow` if a coordinate leaves the range, or `Memory`.
 pub fn draw_glyph<S: Sink>(
     alloc: Global,
     font: &FontView<'_>,
@@ -82,11 +97,17 @@ pub fn draw_glyph<S: Sink>(
     limit: &mut u64,
     sink: &mut S,
 ) -> Result<Option<Operand>>
+    // On success the sink has received all segments, with components, and the width is the run's.
     ensures drawn { IfOk result (λ width. DrawsGlyph S.after (S.state sink.old) (S.state sink.new) font.now glyph width) }
+    // The error gives a cause that holds (`IsUndrawnGlyph`, specs/Refused.antt).
     ensures why { IfErr result (λ e. IsUndrawnGlyph font.now glyph limit.new e) }
+    // On an error, if all coordinates stay in the range, the sink has received some first segments.
     ensures front { OnErr result (GivesGlyph S.after (S.state sink.old) (S.state sink.new) font.now glyph) }
+    // On `Full` the sink is in a state in which it may be full (`refuses`).
     ensures full { result ≡ Err errors.Full → S.refuses (S.state sink.new) }
+    // On success all phrases of the glyph and its components are paid from the limit.
     ensures paid { OnOk result (PaysDrawing font.now glyph limit.old limit.new) }
+    // Only phrases of the runs of at most three glyphs are paid from the limit.
     ensures spends { SpendsOnRuns font.now 3 limit.old limit.new }
 {
     let Own { width, accent } = draw_own(alloc, font, glyph, Point::ORIGIN, limit, sink)?;
@@ -99,7 +120,7 @@ pub fn draw_glyph<S: Sink>(
     }
 }
 
-/// Where the origin of the accent is put.
+/// The origin of the accent.
 fn place_of(accent: &Accent) -> Point
     ensures { result ≡ point accent.now.dx accent.now.dy }
 {
@@ -109,14 +130,14 @@ fn place_of(accent: &Accent) -> Point
     }
 }
 
-/// What the run of a glyph tells but its segments: the width, and what it names.
+/// The results of the run of a glyph, apart from its segments: the width, and the operands of a `seac` glyph.
 #[derive(Drop)]
 struct Own {
     width: Option<Operand>,
     accent: Option<Accent>,
 }
 
-/// Draws a glyph of a font by itself, from a point.
+/// Draws a glyph of a font from a point, without components.
 fn draw_own<S: Sink>(
     alloc: Global,
     font: &FontView<'_>,
@@ -140,7 +161,7 @@ fn draw_own<S: Sink>(
     }
 }
 
-/// Draws the run of a glyph from a point, and looks at what its `endchar` took.
+/// Draws the run of a glyph from a point, and interprets the operands that its `endchar` took.
 fn draw_run<S: Sink>(
     alloc: Global,
     glyph: &Glyph<'_, '_>,
@@ -165,10 +186,12 @@ fn draw_run<S: Sink>(
     Ok(Own { width, accent })
 }
 
-/// Gives what an accented glyph names to a sink: the segments of the base, and then those of the accent, from the point that the
-/// glyph says. Their runs share the limit.
+/// Draws the components of a `seac` glyph into a sink: the segments of the base, and then those of the accent, moved as
+/// the operands say. Their runs share the limit.
 ///
-/// Refused: as `draw_glyph` is for the base or the accent.
+/// # Errors
+///
+/// - The errors of [`draw_glyph`] for the base or the accent.
 pub fn draw_components<S: Sink>(
     alloc: Global,
     font: &FontView<'_>,
@@ -176,18 +199,24 @@ pub fn draw_components<S: Sink>(
     limit: &mut u64,
     sink: &mut S,
 ) -> Result<()>
+    // On success the sink has received the segments of the base, and then of the accent.
     ensures drawn { OnOk result (Takes S.after (S.state sink.old) (S.state sink.new) (DrawsComponents font.now accent.now)) }
+    // On success all phrases of the base and of the accent are paid from the limit.
     ensures paid { OnOk result (PaysComponents font.now accent.now limit.old limit.new) }
+    // Only phrases of the runs of at most two glyphs are paid from the limit.
     ensures spends { SpendsOnRuns font.now 2 limit.old limit.new }
+    // The error gives a cause that holds (`IsWanting`, or `AreRefused` in specs/Refused.antt).
     ensures why { IfErr result (λ e. IsWanting limit.new e ⊎ AreRefused font.now accent.now e) }
+    // On an error, if all coordinates stay in the range, the sink has received some first segments.
     ensures front { OnErr result (GivesComponents S.after (S.state sink.old) (S.state sink.new) font.now accent.now) }
+    // On `Full` the sink is in a state in which it may be full (`refuses`).
     ensures full { result ≡ Err errors.Full → S.refuses (S.state sink.new) }
 {
     draw_component(alloc, font, accent.base, Point::ORIGIN, limit, sink)?;
     draw_component(alloc, font, accent.accent, place_of(accent), limit, sink)
 }
 
-/// Draws the glyph of a code from a point; it is a plain one.
+/// Draws the glyph with a code from a point. It must not be a `seac` glyph.
 fn draw_component<S: Sink>(
     alloc: Global,
     font: &FontView<'_>,

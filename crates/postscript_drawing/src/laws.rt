@@ -1,4 +1,4 @@
-//! Facts about the definitions, each the contract of a function that is there for it.
+//! Laws of the definitions. Each function does nothing: its contract is the theorem.
 ghost use Rattle.postscript_drawing.specs.Drawn.{DrawsContours};
 ghost use Rattle.postscript_drawing.specs.Fitting.{RunsFit};
 ghost use Rattle.postscript_drawing.specs.Flat.{FlatTextDrawsTheSame, InlinedTextDrawsTheSame};
@@ -6,35 +6,40 @@ ghost use Rattle.postscript_drawing.specs.Using.{StrokesUseOperands};
 
 use postscript_type2::laws::{flat_text_keeps_meaning, inlined_text_keeps_meaning};
 
-/// Each operation of a run has as many operands as its operator takes, so `Pen::apply` refuses none of them with
-/// `MalformedOperands`.
+/// States that each operation of a run has a number of operands that its operator takes. So `Pen::apply` never fails
+/// with `MalformedOperands` for one.
 pub fn runs_fit()
+    // Each operation of a run has a number of operands that its operator takes.
     ensures { RunsFit }
 {}
 
-/// Flat code draws the same: wherever `Program::flatten` answers code, its outline over any subroutines, also over none, has the
-/// segments and the width that the charstring's own has.
+/// States that flat code draws the same glyph. If `Program::flatten` returns code, that code has the segments and the
+/// width of the charstring, over any subroutines or none.
 pub fn flat_text_draws_the_same()
+    // Over any subroutines, flat text of a run without a fault has the same outline and width.
     ensures { FlatTextDrawsTheSame }
 {
     flat_text_keeps_meaning();
 }
 
-/// Inlined code draws the same: wherever `Program::inlined` answers code, its outline over any subroutines, also over none, has
-/// the segments and the width that the charstring's own has.
+/// States that desubroutinized (inlined) code draws the same glyph. If `Program::inlined` returns code, that code has
+/// the segments and the width of the charstring, over any subroutines or none.
 pub fn inlined_text_draws_the_same()
+    // Over any subroutines, inlined text of a run without a fault has the same outline and width.
     ensures { InlinedTextDrawsTheSame }
 {
     inlined_text_keeps_meaning();
 }
 
-/// Strokes use up the operands that fit: an operand that is another one makes another stroke. The depth of a `flex` alone draws
-/// nothing.
+/// States that strokes use all operands that fit: a different operand makes a different stroke. The only exception is
+/// the depth of a `flex`, which draws nothing.
 pub fn strokes_use_operands()
+    // If an operator draws equal strokes, its operands are equal, except the depth of a `flex`.
     ensures { StrokesUseOperands }
 {}
 
-/// What a glyph draws, with its components, is contours: each from a `MoveTo` to a `Close`.
+/// States that a glyph, with its components, is drawn as contours, each from a `MoveTo` to a `Close`.
 pub fn drawings_are_contours()
+    // The segments of a glyph, with its components, are contours.
     ensures { DrawsContours }
 {}

@@ -1,5 +1,6 @@
-//! Glyphs that are drawn: the segments that the operations of a charstring draw (Adobe Technical Note 5177, "Path Construction
-//! Operators"), and those of the base and the accent of an accented glyph (Appendix C, "Compatibility and Deprecated Operators").
+//! Drawing of glyphs. The operations of a charstring draw the segments (Adobe Technical Note 5177, "Path Construction
+//! Operators"). A `seac` glyph, whose `endchar` has four operands, also draws its components, a base and an accent
+//! (Appendix C, "Compatibility and Deprecated Operators").
 #![tactic(auto)]
 
 mod accent;

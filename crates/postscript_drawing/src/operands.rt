@@ -1,11 +1,11 @@
-//! Operands, off the front of a list.
+//! Operands at the front of a list.
 ghost use Rattle.std.specs.Prelude.{◌≡◌, ◌≤◌, ◌<◌, ◌^◌, ◌∷◌, length, MatchOption, unsigned_abs};
 ghost use Rattle.postscript_drawing.specs.Strokes.{alone as the_alone, by as the_by};
 
 use crate::stroke::Vector;
 use postscript_type2::Operand;
 
-/// The bits, with room for sums.
+/// The bits, in a type that can hold sums.
 #[inline(always)]
 pub(crate) fn wide(operand: Operand) -> i64
     ensures value { result ≡ operand }
@@ -25,7 +25,7 @@ pub(crate) fn by(dx: Operand, dy: Operand) -> Vector
     }
 }
 
-/// The operand, where it stands alone, and else zero.
+/// The operand if it is the only one, and zero otherwise.
 #[inline(always)]
 pub(crate) fn alone(operands: &[Operand]) -> i64
     ensures { result ≡ the_alone operands.now }
@@ -36,7 +36,7 @@ pub(crate) fn alone(operands: &[Operand]) -> i64
     }
 }
 
-/// One operand, and those behind it.
+/// One operand, and the rest.
 #[inline(always)]
 pub(crate) fn one(operands: &[Operand]) -> Option<(i64, &[Operand])>
     ensures { MatchOption result (length operands.now < 1) (λ v. operands.now ≡ v.0 ∷ v.1.now) }
@@ -47,7 +47,7 @@ pub(crate) fn one(operands: &[Operand]) -> Option<(i64, &[Operand])>
     }
 }
 
-/// A vector, and the operands behind it.
+/// A vector, and the rest of the operands.
 #[inline(always)]
 pub(crate) fn vector(operands: &[Operand]) -> Option<(Vector, &[Operand])>
     ensures { MatchOption result (length operands.now < 2) (λ v. operands.now ≡ v.0.dx ∷ v.0.dy ∷ v.1.now) }
@@ -58,7 +58,8 @@ pub(crate) fn vector(operands: &[Operand]) -> Option<(Vector, &[Operand])>
     }
 }
 
-/// How far a curve begins along an axis, its middle vector, and how far it ends along an axis.
+/// The distance along an axis at the start of a curve, its middle vector, the distance along an axis at its end, and
+/// the rest of the operands.
 #[derive(Clone, Copy)]
 pub(crate) struct CurveOperands<'o> {
     pub begin: i64,
@@ -67,7 +68,7 @@ pub(crate) struct CurveOperands<'o> {
     pub rest: &'o [Operand],
 }
 
-/// A bow, and the operands behind it.
+/// The operands of a curve that begins and ends along axes, and the rest.
 #[inline(always)]
 pub(crate) fn curve_operands(operands: &[Operand]) -> Option<CurveOperands<'_>>
     ensures { MatchOption result (length operands.now < 4) (λ v. operands.now ≡ v.begin ∷ v.middle.dx ∷ v.middle.dy ∷ v.end ∷ v.rest.now) }

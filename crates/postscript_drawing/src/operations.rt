@@ -14,28 +14,37 @@ use postscript_outline::Outline;
 use postscript_type2::{Operand, Operation};
 use std::alloc::Global;
 
-/// The outline that operations draw, one after another from the origin, with this width beside it: that of a run that
-/// answers these and then ends. At the end an open contour is closed.
+/// Returns the outline that operations draw, one after another from the origin. It has the given width, which is the
+/// width minus nominalWidthX. It is the outline of a run with these operations and this width. An open contour is
+/// closed at the end.
 ///
-/// Refused: at the first operation that is refused, `MalformedOperands` where its operator takes another number of
-/// operands, and `Overflow` where a coordinate leaves the range; `Memory`.
+/// # Errors
+///
+/// - `MalformedOperands`: the operator of an operation takes another number of operands.
+/// - `Overflow`: a coordinate leaves the range.
+/// - `Memory`: out of memory.
 pub fn outline_of_operations(
     alloc: Global,
     operations: &[Operation],
     width: Option<Operand>,
 ) -> Result<Outline>
+    // On success it is the outline of a run with these operations and this width.
     ensures drawn { IfOk result (λ outline. Outlines outline (run_telling operations.now width)) }
+    // On success each operation has a number of operands that its operator takes.
     ensures fit { OnOk result (AllFit (answers_of width operations.now)) }
+    // On success the segments are contours, each from a `MoveTo` to a `Close`.
     ensures contours { IfOk result (λ outline. AreContours outline.segments.items) }
+    // Apart from `Memory`, the result is what `outline_applied` computes (specs/Operations.antt).
     ensures exact { let run = run_telling operations.now width in
         MatchResult result (λ outline. OutlinesApplied outline run)
         (λ e. (e ≡ errors.Memory) ⊎ (outline_applied run ≡ Err (refusal_of e))) }
+    // The only errors are `Memory`, `MalformedOperands` and `Overflow`.
     ensures listed { IsListed (3 ∷ 20 ∷ 26 ∷ []) result }
 {
     applied(alloc, operations, width)
 }
 
-/// The same, as the pen applies them.
+/// The same, by applying the operations with a pen.
 fn applied(alloc: Global, operations: &[Operation], width: Option<Operand>) -> Result<Outline>
     ensures exact { let run = run_telling operations.now width in
         MatchResult result (λ outline. OutlinesApplied outline run)

@@ -1,4 +1,4 @@
-//! What operators draw.
+//! The strokes of operators.
 ghost use Rattle.std.specs.Prelude.{◌≡◌, [], ◌∷◌, ◌++◌, pos, MatchOption};
 ghost use Rattle.postscript_drawing.specs.Left.{left, Begins};
 ghost use Rattle.postscript_drawing.specs.Operators.{strokes};
@@ -10,8 +10,9 @@ use crate::stroke::{Axis, Stroke, Strokes, Vector};
 use postscript_type2::{Operand, Operator};
 
 impl<'o> Strokes<'o> {
-    /// Those of an operator with these operands. Never refused.
+    /// Returns the strokes of an operator with these operands.
     pub fn of(operator: Operator, operands: &'o [Operand]) -> Strokes<'o>
+        // The strokes left are the ones of the operator and its operands (specs/Operators.antt).
         ensures { left result ≡ strokes operator operands.now }
     {
         match operator {
@@ -36,8 +37,9 @@ impl<'o> Strokes<'o> {
         }
     }
 
-    /// The first one, and those behind it; None where nothing is left. Never refused.
+    /// Returns the first stroke and the rest, or `None` if none is left.
     pub fn next(self) -> Option<(Stroke, Strokes<'o>)>
+        // The result is the first stroke and the rest, or `None` if none is left.
         ensures { Begins (left self.entry) result }
     {
         match self {
@@ -89,7 +91,7 @@ fn curves_level(axis: Axis, operands: &[Operand]) -> Strokes<'_>
     Strokes::CurvesAlong(axis, first, rest)
 }
 
-/// d1?: of an odd number of operands the first, and those behind it; else zero, and all of them.
+/// d1?: the first operand and the rest, if the number of operands is odd. Otherwise zero, and all of them.
 #[inline(always)]
 pub(crate) fn first_aside(operands: &[Operand]) -> (i64, &[Operand])
     ensures { (axis : Axis) → the_curves_level axis operands.now ≡ the_curves_along axis result.0 result.1.now }
@@ -124,7 +126,7 @@ fn lines(operands: &[Operand]) -> Option<(Stroke, &[Operand])>
     Some((Stroke::Line(a), rest))
 }
 
-/// The three vectors of a curve, and the operands behind it.
+/// The three vectors of a curve, and the operands after it.
 #[derive(Clone, Copy)]
 pub(crate) struct CurveVectors<'o> {
     pub a: Vector,
@@ -139,7 +141,7 @@ pub(crate) fn curve(operands: &[Operand]) -> Option<CurveVectors<'_>>
     ensures { MatchOption result (the_curves operands.now ≡ [])
         (λ v. the_curves operands.now ≡ Stroke.Curve v.a v.b v.c ∷ the_curves v.rest.now) }
 {
-    // one test of the length in place of three
+    // one test of the length instead of three
     if operands.len() < 6 {
         return None;
     }

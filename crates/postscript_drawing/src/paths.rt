@@ -1,5 +1,5 @@
-//! Paths: what the operands of an operator spell is drawn as it is read, by one method for each pattern (Technical Note 5177,
-//! "Path Construction Operators"). Flexes are drawn by their strokes.
+//! Drawing of paths. Each pattern of operands has a method that draws them as it reads them (Technical Note 5177, "Path
+//! Construction Operators"). Flexes are drawn by their strokes.
 ghost use Rattle.std.specs.Prelude.{◌≡◌};
 ghost use Rattle.postscript_drawing.specs.Outcome.{DrawsStrokes};
 ghost use Rattle.postscript_drawing.specs.Operators.{strokes as the_strokes};
@@ -13,8 +13,8 @@ use crate::undrawn::Stroked;
 use postscript_outline::Sink;
 use postscript_type2::{Operand, Operator};
 
-/// The axis along which an operator goes that goes along one, or along both in turn, first. One call then draws those of both axes: what
-/// has one caller is put into it.
+/// The first axis of an operator that draws along one axis, or along both in turn. One call then draws for both axes,
+/// because a compiler inlines a function with one caller.
 #[inline(always)]
 fn first_axis(operator: Operator) -> Axis
     ensures hmove { operator ≡ Operator.HMoveTo → result ≡ Axis.Horizontal }
@@ -34,12 +34,18 @@ fn first_axis(operator: Operator) -> Axis
 }
 
 impl Pen {
-    /// Draws what an operator with these operands draws, into a sink, from where the pen stands: each operation of a run so, and then
-    /// `end`, draw what the run draws. Stems, masks and operators that do not draw give the sink nothing. Operands that are too few
-    /// for one more stroke draw nothing; no run tells of them (`laws::runs_fit`).
+    /// Draws an operator with its operands into a sink, from the current point. Each operation of a run, and then
+    /// [`Pen::end`], draws the glyph of the run. Stems, masks and operators that do not draw give the sink nothing.
+    /// Operands that are too few for another stroke draw nothing. No operation of a run has such operands
+    /// (`laws::runs_fit`).
     ///
-    /// Refused: `Undrawn::Overflow` where a coordinate leaves the range, `Undrawn::Full` where the sink takes no more. The sink has been
-    /// given a front of the segments.
+    /// On an error the sink has received the segments before it. No clause states this if a coordinate leaves the
+    /// range.
+    ///
+    /// # Errors
+    ///
+    /// - `Undrawn::Overflow`: a coordinate leaves the range.
+    /// - `Undrawn::Full`: the sink takes no more segments.
     #[inline(always)]
     pub fn draw_path<S: Sink>(
         &mut self,
@@ -47,6 +53,7 @@ impl Pen {
         operands: &[Operand],
         sink: &mut S,
     ) -> Stroked
+        // The sink receives segments of the strokes, and on success all of them (`DrawsStrokes`).
         ensures { DrawsStrokes S.after S.refuses (the_strokes operator operands.now) self.old (S.state sink.old) result self.new
             (S.state sink.new) }
     {
@@ -82,12 +89,12 @@ impl Pen {
                 *self = pen;
                 drawn
             }
-            // stems, masks and the operators of which no run tells
+            // stems, masks, and operators that are in no operation of a run
             _ => Ok(()),
         }
     }
 
-    /// What a flex draws. It stays a call, since few glyphs have one and strokes take much room.
+    /// Draws a flex. It stays a call, since few glyphs have one and strokes are large.
     #[inline(never)]
     fn flexes<S: Sink>(&mut self, operator: Operator, operands: &[Operand], sink: &mut S) -> Stroked
         ensures { DrawsStrokes S.after S.refuses (the_strokes operator operands.now) self.old (S.state sink.old) result self.new
@@ -130,7 +137,7 @@ impl Pen {
         Ok(())
     }
 
-    /// {da}+: a round draws one line along each axis.
+    /// {da}+: each round draws one line along each axis.
     #[inline(always)]
     fn lines_in_turn<S: Sink>(&mut self, first: Axis, operands: &[Operand], sink: &mut S) -> Stroked
         ensures { DrawsStrokes S.after S.refuses (the_lines_in_turn first operands.now) self.old (S.state sink.old) result self.new
@@ -192,7 +199,7 @@ impl Pen {
         Ok(())
     }
 
-    /// {da dxb dyb dc}+ de?: a round draws one curve that begins along each axis.
+    /// {da dxb dyb dc}+ de?: each round draws one curve that begins along each axis.
     #[inline(always)]
     fn curves_in_turn<S: Sink>(
         &mut self,

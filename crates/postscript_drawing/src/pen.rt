@@ -16,7 +16,7 @@ use postscript_base::{Error, Result};
 use postscript_outline::{Given, Point, Segment, Sink};
 use postscript_type2::{Operand, Operator};
 
-/// A pen: where it stands, and whether a contour is open.
+/// A pen: its current point, and whether a contour is open.
 #[derive(Clone, Copy, Debug, PartialEq, Eq)]
 pub struct Pen {
     pub at: Point,
@@ -24,8 +24,9 @@ pub struct Pen {
 }
 
 impl Pen {
-    /// A pen at the origin.
+    /// Creates a pen at the origin, without an open contour.
     pub fn new() -> Pen
+        // The pen is at the origin, and no contour is open.
         ensures { held result [] ≡ blank }
     {
         Pen {
@@ -34,12 +35,17 @@ impl Pen {
         }
     }
 
-    /// Ends the contour, if one is open.
+    /// Closes the contour, if one is open, by appending to a list of segments.
     ///
-    /// Refused: `Memory`.
+    /// # Errors
+    ///
+    /// - `Memory`: out of memory.
     pub fn close(&mut self, segments: &mut Vec<Segment>) -> Result<()>
+        // On success an open contour is closed, and nothing else changes.
         ensures ok { OnOk result (held self.new segments.new.items ≡ closed (held self.old segments.old.items)) }
+        // The only error is `Memory`, and it leaves pen and segments unchanged.
         ensures err { IfErr result (λ e. (e ≡ errors.Memory) × (held self.new segments.new.items ≡ held self.old segments.old.items)) }
+        // The earlier segments stay at the front of the list.
         ensures kept { take (length segments.old.items) segments.new.items ≡ segments.old.items }
     {
         if self.is_open {
@@ -49,13 +55,18 @@ impl Pen {
         Ok(())
     }
 
-    /// Ends the contour, if one is open: gives it to a sink.
+    /// Closes the contour, if one is open, by giving a segment to a sink.
     ///
-    /// Refused: where the sink takes no more. It holds what it held before.
+    /// # Errors
+    ///
+    /// - `Full`: the sink takes no more segments. Its state is unchanged.
     #[inline(always)]
     pub fn end<S: Sink>(&mut self, sink: &mut S) -> Given
+        // On success the sink has received a `Close` if a contour was open, and nothing otherwise.
         ensures ended { OnOk result (Receives S.after (S.state sink.old) (closing self.old) (S.state sink.new)) }
+        // On an error the state of the sink is unchanged.
         ensures full { OnErr result (S.state sink.new ≡ S.state sink.old) }
+        // On an error the sink is in a state in which it may be full (`refuses`).
         ensures refuses { OnErr result (S.refuses (S.state sink.new)) }
     {
         if self.is_open {
@@ -65,7 +76,7 @@ impl Pen {
         Ok(())
     }
 
-    /// Begins a contour here, if none is open.
+    /// Begins a contour at the current point, if none is open.
     #[inline(always)]
     fn begin<S: Sink>(&mut self, sink: &mut S) -> Given
         ensures begun { OnOk result (Receives S.after (S.state sink.old) (opening self.old) (S.state sink.new)) }
@@ -81,7 +92,7 @@ impl Pen {
         Ok(())
     }
 
-    /// Goes without drawing, and begins a contour there.
+    /// Moves without drawing, and begins a contour there.
     #[inline(always)]
     pub(crate) fn move_by<S: Sink>(&mut self, by: Vector, sink: &mut S) -> Stroked
         ensures { DrawsStrokes S.after S.refuses (Stroke.Move by ∷ []) self.old (S.state sink.old) result self.new (S.state sink.new) }
@@ -96,7 +107,7 @@ impl Pen {
         Ok(())
     }
 
-    /// A line from here.
+    /// Draws a line.
     #[inline(always)]
     pub(crate) fn line_by<S: Sink>(&mut self, by: Vector, sink: &mut S) -> Stroked
         ensures { DrawsStrokes S.after S.refuses (Stroke.Line by ∷ []) self.old (S.state sink.old) result self.new (S.state sink.new) }
@@ -110,7 +121,7 @@ impl Pen {
         Ok(())
     }
 
-    /// A curve from here.
+    /// Draws a curve.
     #[inline(always)]
     pub(crate) fn curve_by<S: Sink>(
         &mut self,
@@ -130,7 +141,7 @@ impl Pen {
         Ok(())
     }
 
-    /// A stroke from here.
+    /// Draws a stroke.
     fn draw<S: Sink>(&mut self, stroke: Stroke, sink: &mut S) -> Stroked
         ensures { DrawsStrokes S.after S.refuses (stroke ∷ []) self.old (S.state sink.old) result self.new (S.state sink.new) }
     {
@@ -141,7 +152,7 @@ impl Pen {
         }
     }
 
-    /// Strokes from here, one after another.
+    /// Draws strokes, one after another.
     pub(crate) fn draw_all<S: Sink>(&mut self, strokes: Strokes<'_>, sink: &mut S) -> Stroked
         ensures { DrawsStrokes S.after S.refuses (left strokes.entry) self.old (S.state sink.old) result self.new (S.state sink.new) }
     {
@@ -153,19 +164,25 @@ impl Pen {
         Ok(())
     }
 
-    /// Draws what an operator with these operands draws: appends the segments. Where it is refused, the pen and the
-    /// segments stay as they were.
+    /// Appends the segments that an operator draws with these operands. On an error, pen and segments are unchanged.
     ///
-    /// Refused: `MalformedOperands` where the operator takes another number of operands, which no run tells of
-    /// (`laws::runs_fit`); `Overflow` where a coordinate leaves the range; `Memory`.
+    /// # Errors
+    ///
+    /// - `MalformedOperands`: the operator takes another number of operands. No operation of a run has this fault
+    ///   (`laws::runs_fit`).
+    /// - `Overflow`: a coordinate leaves the range.
+    /// - `Memory`: out of memory.
     pub fn apply(
         &mut self,
         operator: Operator,
         operands: &[Operand],
         segments: &mut Vec<Segment>,
     ) -> Result<()>
+        // On an error pen and segments are unchanged.
         ensures unchanged { OnErr result (held self.new segments.new.items ≡ held self.old segments.old.items) }
+        // Apart from `Memory`, the result is what `applied` computes (specs/Applying.antt).
         ensures exact { Draws (applied operator operands.now (held self.old segments.old.items)) result (held self.new segments.new.items) }
+        // The only errors are `Memory`, `MalformedOperands` and `Overflow`.
         ensures listed { IsListed (3 ∷ 20 ∷ 26 ∷ []) result }
     {
         match operator.taken(operands.len()) {
@@ -176,7 +193,7 @@ impl Pen {
         }
     }
 
-    /// The same of operands that fit: others are not refused, and those that are too few for one more stroke draw nothing.
+    /// The same for operands that fit. Others are not rejected, and too few for another stroke draw nothing.
     fn draw_operation(
         &mut self,
         operator: Operator,

@@ -1,4 +1,4 @@
-//! Programs that are drawn into sinks.
+//! Drawing of programs into sinks.
 ghost use Rattle.std.specs.Prelude.{◌≡◌, ◌≢◌, ◌<◌, Err, IfOk, IfErr, OnErr};
 ghost use Rattle.postscript_drawing.specs.DrawnProgram.{DrawsFront, DrawsProgram, IsProgramRefused, IsSpent};
 ghost use Rattle.postscript_drawing.specs.declared.error.Error.TheVariants as errors;
@@ -11,30 +11,42 @@ use crate::pen::Pen;
 use postscript_outline::{Point, Sink};
 use postscript_type2::{Operand, Program, Within};
 
-/// A limit for a glyph of a font that may be a stranger's, in units of `Program::step_within`.
+/// A limit for a glyph of an untrusted font, in units of `Program::step_within`.
 pub const LIMIT: u64 = 20_000_000;
 
-/// Draws what a program still answers into a sink, with the origin of the glyph at a point: gives the sink the segments, one after
-/// another, as the run comes to them, and answers the width. The program is at its end then. Takes no memory but the program's.
+/// Draws the rest of a program into a sink, with the origin of the glyph at a point. It gives the sink the segments in
+/// order as the run produces them. It returns the width minus nominalWidthX, and leaves the program at its end. Memory
+/// is allocated only for the program.
 ///
-/// The limit bounds how long it takes: `Program::step_within` says what the run takes of it, and what is left is told. A run that
-/// costs less than the limit is never stopped.
+/// The limit bounds the time, and `limit` is set to the units left. `Program::step_within` describes how the run spends
+/// it. A run that costs less than the limit is never stopped.
 ///
-/// Refused: `TooLong` where the limit is used up before the end; `Full` where the sink takes no more; `Font` with what the program
-/// is refused with, as `Program::next` is, with `Overflow` where a coordinate leaves the range, and with `Memory`. The sink has
-/// been given the segments up to there.
+/// On an error the sink has received the segments before it. No clause states this if a coordinate leaves the range.
+///
+/// # Errors
+///
+/// - `TooLong`: the limit is used up before the end.
+/// - `Full`: the sink takes no more segments.
+/// - `Font`: an error of `Program::next`, `Overflow` if a coordinate leaves the range, or `Memory`.
 pub fn draw_program<S: Sink>(
     program: &mut Program<'_>,
     origin: Point,
     limit: &mut u64,
     sink: &mut S,
 ) -> Result<Option<Operand>>
+    // On success the sink has received all segments, from `origin` on, and the width is the run's.
     ensures drawn { IfOk result (λ width. DrawsProgram S.after origin (S.state sink.old) (S.state sink.new) width program.old) }
+    // The error gives a cause that holds (`IsProgramRefused`, specs/DrawnProgram.antt).
     ensures why { IfErr result (λ e. IsProgramRefused origin program.old limit.new e) }
+    // On an error, if all coordinates stay in the range, the sink has received some first segments.
     ensures front { OnErr result (DrawsFront S.after origin (S.state sink.old) (S.state sink.new) program.old.answers) }
+    // On `Full` the sink is in a state in which it may be full (`refuses`).
     ensures full { result ≡ Err errors.Full → S.refuses (S.state sink.new) }
+    // On success the program is at its end, with the operands that `endchar` took.
     ensures ended { IfOk result (λ width. program.new ≡ ended_over (taken_by program.old.end) width) }
+    // The phrases that were run are paid from the limit, and on success all are.
     ensures spends { IsSpent limit.old program.old.trace limit.new result }
+    // If the phrases left cost less than the limit, the error is not `TooLong`.
     ensures suffices { cost program.old.trace < limit.old → result ≢ Err errors.TooLong }
 {
     let mut pen = Pen {

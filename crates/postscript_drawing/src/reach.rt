@@ -1,4 +1,4 @@
-//! Where vectors lead.
+//! The end points of vectors.
 ghost use Rattle.std.specs.Prelude.{◌≡◌, ◌+ℤ◌, Ok, Err, MatchOption};
 ghost use Rattle.postscript_base.specs.Refusal.{overflow};
 ghost use Rattle.postscript_drawing.specs.Bends.{IsDrawnBy, IsCurveRefused};
@@ -8,7 +8,7 @@ ghost use Rattle.postscript_type2.specs.Program.FixedPoint.{fit};
 use crate::stroke::Vector;
 use postscript_outline::Point;
 
-/// The point that a vector leads to; none where a coordinate leaves the range.
+/// The end point of a vector. `None` if a coordinate leaves the range.
 #[inline(always)]
 pub(crate) fn reach(from: Point, by: Vector) -> Option<Point>
     ensures { MatchOption result (reached from by ≡ Err overflow) (λ point. reached from by ≡ Ok point) }
@@ -19,7 +19,7 @@ pub(crate) fn reach(from: Point, by: Vector) -> Option<Point>
     })
 }
 
-/// The control points and the end of a curve of these vectors; none where a coordinate leaves the range.
+/// The control points and the end point of a curve given by vectors. `None` if a coordinate leaves the range.
 #[inline(always)]
 pub(crate) fn reach_by_curve(
     from: Point,
@@ -34,7 +34,7 @@ pub(crate) fn reach_by_curve(
     Some((first, second, reach(second, c)?))
 }
 
-/// A coordinate so far on, if it stays in the range.
+/// A coordinate moved by a distance, if it stays in the range.
 #[inline(always)]
 fn sum(from: i32, by: i64) -> Option<i32>
     ensures { MatchOption result (fit (from +ℤ by) ≡ Err overflow) (λ sum. fit (from +ℤ by) ≡ Ok sum) }

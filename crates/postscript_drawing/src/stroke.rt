@@ -1,17 +1,17 @@
-//! Strokes: lines and curves from wherever the pen stands.
+//! Strokes: moves, lines and curves, relative to the current point of the pen.
 ghost use Rattle.std.specs.Prelude.{◌≡◌};
 ghost use Rattle.postscript_drawing.specs.Strokes.{aside as the_aside, along as the_along, other as the_other};
 
 use postscript_type2::Operand;
 
-/// A way to go, in 16.16 bits.
+/// A vector, in 16.16 format.
 #[derive(Clone, Copy, Debug, PartialEq, Eq)]
 pub struct Vector {
     pub dx: i64,
     pub dy: i64,
 }
 
-/// One of the two ways that coordinates count.
+/// A coordinate axis.
 #[derive(Clone, Copy, Debug, PartialEq, Eq)]
 pub enum Axis {
     Horizontal,
@@ -19,9 +19,10 @@ pub enum Axis {
 }
 
 impl Axis {
-    /// The other one.
+    /// Returns the other axis.
     #[inline(always)]
     pub fn other(self) -> Axis
+        // The result is the other axis.
         ensures { result ≡ the_other self }
     {
         match self {
@@ -30,9 +31,10 @@ impl Axis {
         }
     }
 
-    /// So far along the axis, and so far aside of it.
+    /// Returns the vector of `distance` along the axis and `off` along the other axis.
     #[inline(always)]
     pub fn aside(self, distance: i64, off: i64) -> Vector
+        // The result is `distance` along the axis and `off` along the other one.
         ensures { result ≡ the_aside self distance off }
     {
         match self {
@@ -47,27 +49,28 @@ impl Axis {
         }
     }
 
-    /// So far along the axis.
+    /// Returns the vector of `distance` along the axis.
     #[inline(always)]
     pub fn along(self, distance: i64) -> Vector
+        // The result is `distance` along the axis.
         ensures { result ≡ the_along self distance }
     {
         self.aside(distance, 0)
     }
 }
 
-/// What a pen draws at a time, from where it stands: each vector begins where the one before it ends.
+/// A stroke of the pen, from its current point. Each vector begins at the end of the one before it.
 #[derive(Clone, Copy, Debug, PartialEq, Eq)]
 pub enum Stroke {
-    /// Goes without drawing.
+    /// A move without drawing.
     Move(Vector),
     /// A straight line.
     Line(Vector),
-    /// A Bézier curve: to its first control point, from there to its second, and from there to its end.
+    /// A Bézier curve: the vectors to its first control point, from there to its second, and from there to its end.
     Curve(Vector, Vector, Vector),
 }
 
-/// The strokes of an operation that are not drawn yet.
+/// The strokes of an operation that are left to draw.
 #[derive(Clone, Copy)]
 pub enum Strokes<'o> {
     Nothing,

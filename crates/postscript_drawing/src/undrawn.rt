@@ -1,4 +1,4 @@
-//! Why strokes are not drawn: small types, since an error may hold a fault of a tape.
+//! The errors of drawing strokes. They are small types, whereas an error may hold an I/O error of a tape.
 ghost use Rattle.std.specs.Prelude.{◌≡◌};
 ghost use Rattle.postscript_drawing.specs.Undrawn.{cause_of};
 ghost use Rattle.postscript_drawing.specs.declared.undrawn.Undrawn.TheVariants as cases;
@@ -6,14 +6,14 @@ ghost use Rattle.postscript_drawing.specs.declared.undrawn.Undrawn.TheVariants a
 use postscript_base::Error;
 use postscript_outline::Full;
 
-/// A coordinate leaves the range, or the sink takes no more.
+/// An error of drawing strokes: a coordinate leaves the range, or the sink takes no more segments.
 #[derive(Clone, Copy, Debug, PartialEq, Eq)]
 pub enum Undrawn {
     Overflow,
     Full,
 }
 
-/// What a pen answers that draws.
+/// The result of drawing strokes.
 pub type Stroked = std::result::Result<(), Undrawn>;
 
 impl From<Full> for Undrawn {
