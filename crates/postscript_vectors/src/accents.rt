@@ -1,4 +1,4 @@
-//! Accented glyphs: a font whose glyphs name others by their codes in the standard encoding.
+//! `seac` glyphs: a font whose glyphs name others by their codes in the standard encoding.
 use crate::checks::{bytes_of, holds, holds_at, is_text, put_shown};
 use postscript::type2::{Operand, Program};
 use postscript_drawing::{Error, LIMIT, draw_glyph, outline_of};
@@ -7,24 +7,24 @@ use postscript_view::FontView;
 use std::alloc::Global;
 use std::process::Abort;
 
-/// A font of thirteen glyphs: `.notdef`, `A`, `acute`, and from `C` on those of the rows.
+/// A font of thirteen glyphs: `.notdef`, `A`, `acute`, and from `C` on the glyphs of the rows.
 const FONT: &str = "01000401 000101010250 000101010e 1c002a0f1c0043118b1c00b112 0000 \
     0001010108 c2a963ccf7560e 00 0022 007d 0024 0025 0026 0027 0028 0029 002a 002b 002c 002d \
     000d01 01020a161c2a303640484a4e535e 0e 959f15ef06bd070e 928c8d158e8f90919293080e a963ccf7560e \
     949016939305f75cf7c0ccf7560e 8b8bcef7560e 8b8bcdf7560e 8b8bff00418000f7560e 1c7fff8bccf7560e \
     201d 8c8d8e0e 8b8bcccd0e 90169393058c8d8e8f0c0e";
 
-/// The glyphs: the path data and the width, or the refusal. What is drawn is as fontTools 4.38 draws it, where it draws the glyph; the
-/// refusals, the width of three operands and the last row are by the rules.
+/// The glyphs: the path data and the width, or the error. Paths are as fontTools 4.38 draws them, if it draws the
+/// glyph. The errors, the width of three operands and the last row follow the rules.
 const ROWS: [&str; 13] = [
     "",
     "M10 20L110 20L110 70Z",
     "M1 2C4 6 9 12 16 20Z width 7",
     // The base, and then the accent, 30 to the right and 40 down.
     "M10 20L110 20L110 70ZM31 -38C34 -34 39 -28 46 -20Z",
-    // A width and a contour of its own.
+    // Its own width and contour.
     "M5 0L13 8ZM10 20L110 20L110 70ZM201 302C204 306 209 312 216 320Z width 9",
-    // The base is accented itself.
+    // The base is a `seac` glyph itself.
     "the glyph of the code 67 is accented itself",
     // No glyph is called `B`.
     "there is no glyph of the code 66",
@@ -32,7 +32,7 @@ const ROWS: [&str; 13] = [
     "an accented glyph names no codes",
     // The accent is moved out of the range.
     "found an overflow",
-    // The operands stand in a subroutine, with a width beneath them.
+    // The operands are in a subroutine, with a width beneath them.
     "M10 20L110 20L110 70ZM31 -38C34 -34 39 -28 46 -20Z width 55",
     // Three operands name nothing, and the one on top is the width.
     " width 3",
@@ -42,7 +42,7 @@ const ROWS: [&str; 13] = [
     "M5 0L13 8Z",
 ];
 
-/// What is told of a glyph.
+/// Describes a glyph.
 fn told<R: Abort>(rt: &R, alloc: Global, font: &FontView<'_>, glyph: usize) -> String {
     let mut text = String::new(alloc);
     let mut limit = LIMIT;
@@ -92,7 +92,7 @@ fn an_accented_glyph_is_given_to_a_sink(rt: HostRuntime) {
     );
 }
 
-/// What is told of the accented glyph that is drawn within a limit: the path data, whether it was stopped, and what is left.
+/// Describes the `seac` glyph drawn within a limit: the path data, whether it was stopped, and the rest of the limit.
 fn within<R: Abort>(rt: &R, alloc: Global, font: &FontView<'_>, limit: u64) -> (String, bool, u64) {
     let mut left = limit;
     let mut segments: Vec<Segment> = Vec::new(alloc);
@@ -122,7 +122,8 @@ fn an_accented_glyph_within_a_limit(rt: HostRuntime) {
     }
 }
 
-/// Codes, and how many operands their `endchar` takes: four, none of three, none where the code is used up or is refused.
+/// Codes, and the number of operands of their `endchar`: four, or none if there are three, the code is used up, or it
+/// fails.
 const ENDS: [(&str, usize); 5] = [
     ("a963ccf7560e", 4),
     ("90169393058b8bccf7560e", 4),
@@ -131,7 +132,7 @@ const ENDS: [(&str, usize); 5] = [
     ("8c8d8e8f00", 0),
 ];
 
-/// The program at its end, or at its refusal.
+/// The program at its end, or at its error.
 fn at_end<'l>(alloc: Global, code: &'l [u8]) -> Program<'l> {
     let mut program = Program::new(alloc, code, &[], &[]);
     for _ in 0..code.len() {

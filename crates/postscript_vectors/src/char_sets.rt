@@ -1,4 +1,4 @@
-//! Char sets and encodings, and the strings that they name.
+//! Charsets and encodings, and the strings that they name.
 mod tables;
 
 use crate::checks::{Wanted, code_of, holds, holds_at, put, put_shown, read_given};
@@ -30,7 +30,7 @@ fn check_strings<R: Abort>(rt: &R, words: &[&'static str]) {
     }
 }
 
-/// A predefined set.
+/// A predefined charset.
 enum Set {
     ISOAdobe,
     Expert,
@@ -46,7 +46,7 @@ fn name_of(set: &Set, number: u16) -> Option<&'static str> {
     }
 }
 
-/// Compares each glyph of a set with the words, the first of which is the name of glyph 1.
+/// Compares each glyph of a charset with the words, the first of which is the name of glyph 1.
 fn check_set<R: Abort>(rt: &R, set: &Set, words: &[&'static str], count: usize) {
     holds(rt, words.len() == count, "the number of glyphs");
     for number in 0..=u16::MAX {
@@ -69,7 +69,7 @@ fn every_glyph_of_the_predefined_sets(rt: HostRuntime) {
     check_set(&rt, &Set::ExpertSubset, subset.as_slice(), 86);
 }
 
-/// Some glyphs of the predefined sets, and their names.
+/// Some glyphs of the predefined charsets, and their names.
 #[rattlefmt::skip]
 const GLYPHS: &[(Set, u16, Option<&str>)] = &[
     (Set::Expert, 2, Some("exclamsmall")), (Set::Expert, 12, Some("comma")), (Set::Expert, 166, None),
@@ -85,7 +85,7 @@ fn some_glyphs_of_the_predefined_sets(rt: HostRuntime) {
     holds(&rt, last, "the last standard string");
 }
 
-/// Compares the glyph of each code with the words of a text, in which a code without a glyph has a word that is no number.
+/// Compares the glyph of each code with the words of a text. The word for a code without a glyph is not a number.
 fn check_codes<R: Abort>(rt: &R, encoding: Encoding, text: &str) {
     let mut codes = 0u16;
     for word in text.split(' ') {
@@ -109,7 +109,7 @@ fn every_code_of_the_encodings(rt: HostRuntime) {
     holds(&rt, Encoding::Standard.get(42) == Some(11), "code 42");
 }
 
-/// Bytes, and the number of glyphs; the set as a text, or the number of the refusal.
+/// Bytes, and the number of glyphs. The charset as a text, or the code of the error.
 type Row = (&'static [u8], usize, Wanted<&'static str>);
 
 #[rattlefmt::skip]
@@ -125,7 +125,7 @@ const ROWS: &[Row] = &[
     (&[2, 0, 1, 0, 2], 5, Err(1)), (&[2, 0, 1, 0, 2, 0, 9, 0, 0], 5, Ok("Format2 2: 1+2 9+0")),
     (&[2, 0, 1, 1, 0], 258, Ok("Format2 2: 1+256")), (&[2, 0, 1, 1, 0], 257, Err(10)),
     (&[2], 1, Ok("Format2 2:")), (&[2], 0, Err(10)), (&[2], 4, Err(1)),
-    // Sums that 16 bits do not count.
+    // Sums that do not fit in 16 bits.
     (&[2, 0, 1, 255, 255], 65_537, Ok("Format2 2: 1+65535")),
     (&[2, 0, 1, 255, 255], 65_536, Err(10)), (&[2, 0, 1, 255, 255, 0, 1, 255, 255], 2, Err(10)),
     (&[2, 0, 1, 255, 255, 0, 1, 255, 255], 65_540, Err(10)),
@@ -134,7 +134,7 @@ const ROWS: &[Row] = &[
     (&[], 0, Err(1)),
 ];
 
-/// Adds the glyphs of a set that lists them.
+/// Adds the glyphs of a charset that lists them.
 fn put_glyphs<R: Abort>(rt: &R, text: &mut String, set: &CharSet0) {
     put_shown(rt, text, " ", &set.format);
     put(rt, text, ":");
@@ -163,7 +163,7 @@ fn put_long_ranges<R: Abort>(rt: &R, text: &mut String, set: &CharSet2) {
     }
 }
 
-/// Whether this is the text of a set: its name, its format, and its glyphs or ranges.
+/// Whether this is the text of a charset: its name, its format, and its glyphs or ranges.
 fn is_set<R: Abort>(rt: &R, alloc: Global, set: &CharSet, wanted: &str) -> bool {
     let mut text = String::new(alloc);
     put(rt, &mut text, set.name());
@@ -176,7 +176,7 @@ fn is_set<R: Abort>(rt: &R, alloc: Global, set: &CharSet, wanted: &str) -> bool 
     text.as_str() == wanted
 }
 
-/// Whether each front of bytes is refused as cut.
+/// Whether each prefix of the bytes is an error, as truncated.
 fn are_cut(alloc: Global, bytes: &[u8], glyphs: usize) -> bool {
     let mut are_so = true;
     for length in 0..bytes.len() {
@@ -185,7 +185,7 @@ fn are_cut(alloc: Global, bytes: &[u8], glyphs: usize) -> bool {
     are_so
 }
 
-/// Whether a set and its clone are as wanted, and the fronts of its bytes are cut.
+/// Whether a charset and its clone are as wanted, and the prefixes of its bytes are truncated.
 fn is_whole<R: Abort>(rt: &R, alloc: Global, set: &CharSet, row: &Row, text: &str) -> bool {
     let same = set.clone().expect(rt, "memory");
     is_set(rt, alloc, set, text)
@@ -194,7 +194,7 @@ fn is_whole<R: Abort>(rt: &R, alloc: Global, set: &CharSet, row: &Row, text: &st
         && are_cut(alloc, row.0, row.1)
 }
 
-/// Whether a set is read as a row wants.
+/// Whether a charset is read as a row wants.
 fn is_wanted<R: Abort>(rt: &R, alloc: Global, read: &Result<CharSet>, row: &Row) -> bool {
     match (read, &row.2) {
         (Ok(set), Ok(text)) => is_whole(rt, alloc, set, row, text),
@@ -203,7 +203,7 @@ fn is_wanted<R: Abort>(rt: &R, alloc: Global, read: &Result<CharSet>, row: &Row)
     }
 }
 
-/// Whether a set is read as a row wants, and its bytes to their end.
+/// Whether a charset is read as a row wants, and its bytes to their end.
 fn is_row<R: Abort>(rt: &R, alloc: Global, row: &Row) -> bool {
     let mut tape = Cursor::new(row.0);
     let read = Tape::take_given::<CharSet>(&mut tape, alloc, row.1);
@@ -219,12 +219,12 @@ fn rows_of_char_sets(rt: HostRuntime) {
     }
 }
 
-/// A format alone, and the numbers of the refusals where it is read as each of the three, for one glyph.
+/// A format by itself, and the codes of the errors if it is read as each of the three, for one glyph.
 #[rattlefmt::skip]
 const FORMATS: &[(u8, [u8; 3])] =
     &[(0, [0, 10, 10]), (1, [10, 0, 10]), (2, [10, 10, 0]), (3, [10, 10, 10])];
 
-/// The numbers of the refusals of bytes as a set of each format, for one glyph.
+/// The codes of the errors of bytes as a charset of each format, for one glyph.
 fn codes_of_formats(alloc: Global, bytes: &[u8]) -> [u8; 3] {
     [
         code_of(read_given::<CharSet0>(alloc, bytes, 1)),
@@ -233,14 +233,14 @@ fn codes_of_formats(alloc: Global, bytes: &[u8]) -> [u8; 3] {
     ]
 }
 
-/// Reads a set of format 0, and clones it.
+/// Reads a charset of format 0, and clones it.
 fn check_format0<R: Abort>(rt: &R, alloc: Global) {
     let set: CharSet0 = read_given(alloc, &[0, 1, 1], 2).expect(rt, "a set");
     let same = set.clone().expect(rt, "memory");
     holds(rt, same.glyphs.as_slice() == [257].as_slice(), "a clone");
 }
 
-/// Whether two sets are of format 2, of the same two ranges.
+/// Whether two charsets are of format 2, with the same two ranges.
 fn are_same(set: &CharSet2, other: &CharSet2) -> bool {
     let mut are_so = set.format == 2 && other.format == 2;
     are_so = are_so && set.ranges.len() == 2 && other.ranges.len() == 2;
@@ -250,7 +250,7 @@ fn are_same(set: &CharSet2, other: &CharSet2) -> bool {
     are_so
 }
 
-/// Reads a set of format 2, and clones it.
+/// Reads a charset of format 2, and clones it.
 fn check_format2<R: Abort>(rt: &R, alloc: Global) {
     let bytes = [2, 0, 7, 1, 0, 0, 9, 0, 0];
     let set: CharSet2 = read_given(alloc, &bytes, 259).expect(rt, "a set");
@@ -281,7 +281,7 @@ fn ranges_of_both_formats(rt: HostRuntime) {
     holds(&rt, is_so, "a range of format 2");
 }
 
-/// Whether a set is predefined, and its clone has its name.
+/// Whether a charset is predefined, and its clone has its name.
 fn is_predefined<R: Abort>(rt: &R, set: &CharSet) -> bool {
     let same = set.clone().expect(rt, "memory");
     set.is_predefined() && same.name() == set.name()
@@ -297,7 +297,7 @@ fn predefined_sets_and_their_clones(rt: HostRuntime) {
     holds(&rt, subset, "ExpertSubset");
 }
 
-/// The bytes of so many ranges of glyph 7 on with so many left, one less than the count, and of a last one of 254.
+/// Makes `count - 1` ranges that begin with glyph 7 and have `left` glyphs left, and a last one if `left` is 255.
 fn ranges<R: Abort>(rt: &R, alloc: Global, left: u8, count: usize) -> Vec<u8> {
     let mut bytes = Vec::from_slice(alloc, &[1]).expect(rt, "memory");
     for _ in 1..count {

@@ -5,31 +5,31 @@ use std::fmt::Display;
 use std::io::Cursor;
 use std::process::Abort;
 
-/// What a row wants: a value, or the number of the refusal.
+/// The wanted result of a row: a value, or the code of the error.
 pub type Wanted<T> = std::result::Result<T, u8>;
 
-/// Fails the test where a fact does not hold, and names the fact.
+/// Fails the test if a fact does not hold, and names the fact.
 pub fn holds<R: Abort>(rt: &R, is_so: bool, fact: &str) {
     if !is_so {
         rt.panic(fact)
     }
 }
 
-/// Fails the test where a fact does not hold, and names where.
+/// Fails the test if a fact does not hold, and names the row.
 pub fn holds_at<R: Abort>(rt: &R, is_so: bool, place: &str, number: usize) {
     if !is_so {
         panic!(rt; "at {place} {number}")
     }
 }
 
-/// Fails the test where a text is not the wanted one, and names where.
+/// Fails the test if a text is not the wanted one, and names the row.
 pub fn is_text<R: Abort>(rt: &R, found: &str, wanted: &str, place: &str) {
     if found != wanted {
         panic!(rt; "at {place}: {found}")
     }
 }
 
-/// The number of a refusal, 0 where there is none.
+/// The code of an error, 0 if there is none.
 pub fn code_of<T: Drop>(outcome: Result<T>) -> u8 {
     match outcome {
         Ok(_) => 0,
@@ -42,7 +42,7 @@ pub fn read<V: Value>(alloc: Global, bytes: &[u8]) -> Result<V> {
     Cursor::new(bytes).take(alloc)
 }
 
-/// The value at the start of bytes that is read by a parameter.
+/// The value at the start of bytes that is read with a parameter.
 pub fn read_given<W: Walue>(alloc: Global, bytes: &[u8], parameter: W::Parameter) -> Result<W> {
     Cursor::new(bytes).take_given(alloc, parameter)
 }

@@ -9,7 +9,7 @@ use std::process::Abort;
 /// 10^18.
 const QUINTILLION: i128 = 1_000_000_000_000_000_000;
 
-/// A mantissa and an exponent; the operand's; and the value, where it is a whole number of 32 bits.
+/// A mantissa and an exponent, the same for the operand, and the value if it is an integer of 32 bits.
 type Made = ((i128, i32), Option<(i64, i32)>, Option<i32>);
 
 #[rattlefmt::skip]
@@ -27,7 +27,7 @@ const MADE: &[Made] = &[
     ((-2_147_483_649, 0), Some((-2_147_483_649, 0)), None), ((0, 0), Some((0, 0)), Some(0)),
 ];
 
-/// Bytes, and the text of the number with its value where that is a whole number of 32 bits, or the number of the refusal.
+/// Bytes, and the text of the number with its value if that is an integer of 32 bits, or the code of the error.
 type Read = (&'static [u8], Wanted<(&'static str, Option<i32>)>);
 
 #[rattlefmt::skip]
@@ -56,7 +56,7 @@ const READ: &[Read] = &[
     (&[0x1e, 0xef], Err(7)), (&[0x1e, 0x1b, 0xef], Err(7)), (&[0x1e, 0x1c, 0xe2, 0xff], Err(7)),
     (&[0x1e, 0x1a, 0x2a, 0x3f], Err(7)), (&[0x1e, 0x0d], Err(7)), (&[0x1f], Err(7)),
     (&[0xff], Err(7)),
-    // Cut ones.
+    // Truncated ones.
     (&[0x1e, 0x12], Err(1)), (&[], Err(1)), (&[0x1c, 0x00], Err(1)),
     (&[0x1d, 0x00, 0x00, 0x00], Err(1)), (&[0xf7], Err(1)),
 ];

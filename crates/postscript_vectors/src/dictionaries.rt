@@ -1,4 +1,4 @@
-//! Dictionaries: their operators, their operations, and the map that they leave.
+//! Dictionaries: their operators, their operations, and the map that they make.
 use crate::checks::{Wanted, code_of, holds, holds_at, put_shown, read};
 use crate::errors::is_named;
 use crate::tapes::{Trouble, TroubledTape};
@@ -8,7 +8,7 @@ use std::alloc::Global;
 use std::io::Cursor;
 use std::process::Abort;
 
-/// Bytes; and each operator with its operands as texts, or the number of the refusal.
+/// Bytes, and each operator with its operands as texts, or the code of the error.
 type Row = (&'static [u8], Wanted<&'static [(Operator, &'static str)]>);
 
 #[rattlefmt::skip]
@@ -25,10 +25,10 @@ const ROWS: &[Row] = &[
     (&[0x1e, 0xd0], Err(7)),
     (&[0x8b, 0x0c, 0x1d], Err(9)),
     (&[0x1f], Err(9)),
-    // The top dictionary and the private one of the smallest font.
+    // The Top DICT and the Private DICT of the smallest font.
     (&[0xa3, 0x11, 0x8d, 0xa9, 0x12], Ok(&[(Operator::CharStrings, "24"), (Operator::Private, "2 3e1")])),
     (&[0x8d, 0x13], Ok(&[(Operator::Subrs, "2")])),
-    // Operands of each form, cut before the operator, and before the end of each.
+    // Operands of each form, truncated before the operator, and before the end of each.
     (
         &[0x1c, 0x27, 0x10, 0x1d, 0, 1, 0x86, 0xa0, 0x1e, 0xe2, 0xa2, 0x5f, 0xfa, 0x7c, 0x05],
         Ok(&[(Operator::FontBBox, "1e4 1e5 -225e-2 1e3")]),
@@ -37,7 +37,7 @@ const ROWS: &[Row] = &[
     (&[0x8c, 0x00, 0x1d, 0, 1, 0x86], Ok(&[(Operator::Version, "1")])),
     (&[0x8c, 0x00, 0x1e, 0xe2, 0xa2], Ok(&[(Operator::Version, "1")])),
     (&[0x8c, 0x00, 0xfa], Ok(&[(Operator::Version, "1")])),
-    // What is refused behind an operation, and behind an operand.
+    // Errors after an operation, and after an operand.
     (&[0x8c, 0x00, 0x8c, 0x16], Err(9)),
     (&[0x8c, 0x00, 0x1e, 0x1b, 0x10, 0x01, 0xff], Err(8)),
 ];
@@ -94,7 +94,7 @@ fn rows_of_dictionaries(rt: HostRuntime) {
     }
 }
 
-/// Each operator: its code, its name, and the texts of its default operands, `-` where it has none (Technical Note 5176,
+/// Each operator: its code, its name, and the texts of its default operands, `-` if it has none (Technical Note 5176,
 /// Tables 9, 10 and 23).
 #[rattlefmt::skip]
 const OPERATORS: &[(u16, &str, &str)] = &[
@@ -118,7 +118,7 @@ const OPERATORS: &[(u16, &str, &str)] = &[
     (0x0c26, "FontName", "-"),
 ];
 
-/// Whether operands have this text, `-` where there are none.
+/// Whether operands have this text, `-` if there are none.
 fn are<R: Abort>(rt: &R, alloc: Global, operands: &Option<Operands<'_>>, text: &str) -> bool {
     match operands {
         Some(operands) => texts(rt, alloc, operands.as_slice()).as_str() == text,
@@ -126,13 +126,13 @@ fn are<R: Abort>(rt: &R, alloc: Global, operands: &Option<Operands<'_>>, text: &
     }
 }
 
-/// Whether the default operands of an operator have this text, also where a map has no operations.
+/// Whether the default operands of an operator have this text, even if a map has no operations.
 fn is_default<R: Abort>(rt: &R, alloc: Global, operator: Operator, text: &str) -> bool {
     let none = Operations::empty(alloc);
     are(rt, alloc, &operator.default(), text) && are(rt, alloc, &none.get(operator), text)
 }
 
-/// Whether a code has the operator of a row, which refusals name, or none where there is no row.
+/// Whether a code has the operator of a row, whose name errors contain, or none if there is no row.
 fn is_known<R: Abort>(
     rt: &R,
     alloc: Global,
@@ -169,12 +169,12 @@ fn each_operator_its_defaults_and_its_refusals(rt: HostRuntime) {
     }
 }
 
-/// The whole number of an operator's one operand.
+/// The integer that is an operator's one operand.
 fn single(map: &Operations, operator: Operator) -> Option<i32> {
     map.get_single(operator)?.to_i32()
 }
 
-/// Whether a map has Private 0 and the font's box from 3, 4 on, and answers the defaults where it has nothing.
+/// Whether a map has Private 0 and the font's box from 3, 4 on, and gives the defaults for other operators.
 fn is_looked_up(map: &Operations) -> bool {
     let box_front = map
         .get_double(Operator::FontBBox)
@@ -219,12 +219,13 @@ fn one_operation(rt: HostRuntime) {
     holds(&rt, text.as_str() == "1", "the operand");
 }
 
-/// Whether a byte alone is a dictionary: an operator of one byte, or the beginning of an operand or of an operator of two.
+/// Whether a single byte is a dictionary: an operator of one byte, or the beginning of an operand or of an operator of
+/// two.
 fn stands_alone(byte: u8) -> bool {
     byte <= 0x15 || matches!(byte, 0x1c..=0x1e | 0x20..=0xfe)
 }
 
-/// Whether a byte alone is a dictionary, of an operator where it is one, or refused.
+/// Whether a single byte is a dictionary, with an operator if it is one, or an error.
 fn is_first(read: &Result<Operations>, byte: u8) -> bool {
     match read {
         Ok(map) => {
@@ -258,7 +259,7 @@ fn first_bytes_long_dictionaries_and_tapes_that_stand_still(rt: HostRuntime) {
     holds(&rt, map.0.len() == 1, "one operator");
     let last = single(&map, Operator::Version);
     holds(&rt, last == Some(2), "the last operation");
-    // A tape that goes on for ever and stands still.
+    // A tape that goes on for ever, with the same offset.
     let mut still = TroubledTape::new(&[], Trouble::Still);
     let code = code_of(Tape::take::<Operations>(&mut still, alloc));
     holds(&rt, code == 4, "a tape that stands still");

@@ -1,4 +1,4 @@
-//! The numbers and the texts of refusals.
+//! The codes and the messages of errors.
 use crate::checks::{holds, holds_at, is_text};
 use postscript::Error;
 use postscript::compact1::Operator;
@@ -8,7 +8,7 @@ use std::io;
 use std::io::ErrorKind;
 use std::process::Abort;
 
-/// The refusals but a fault of the tape, their numbers and their texts.
+/// The errors except a fault of the tape, their codes and their messages.
 #[rattlefmt::skip]
 const REFUSALS: &[(Error, u8, &str)] = &[
     (Error::UnexpectedEof, 1, "failed to fill whole buffer"),
@@ -41,14 +41,14 @@ const REFUSALS: &[(Error, u8, &str)] = &[
     (Error::AlreadyFailed, 30, "the program has failed before"),
 ];
 
-/// The number and the text of a refusal.
+/// The code and the message of an error.
 fn check<R: Abort>(rt: &R, alloc: Global, error: &Error, code: u8, message: &str) {
     holds_at(rt, error.code() == code, "refusal", usize::from(code));
     let text = error.to_string(alloc).expect(rt, "memory");
     is_text(rt, text.as_str(), message, message);
 }
 
-/// Whether the refusal with this number, at an operator of this name, has this front of its text and then the name.
+/// Whether the error with this code, for an operator of this name, has this start of its message and then the name.
 fn names<R: Abort>(
     rt: &R,
     alloc: Global,
@@ -61,7 +61,7 @@ fn names<R: Abort>(
     error.code() == code && text.as_str().strip_prefix(front) == Some(name)
 }
 
-/// Whether both refusals that name an operator name this one.
+/// Whether both errors that name an operator name this one.
 pub fn is_named<R: Abort>(rt: &R, alloc: Global, operator: Operator, name: &str) -> bool {
     let malformed = Error::MalformedOperation(operator);
     let missing = Error::MissingOperation(operator);
@@ -86,7 +86,7 @@ fn refusals(rt: HostRuntime) {
     }
     let fault = Error::Io(io::Error::from(ErrorKind::NotFound));
     check(&rt, alloc, &fault, 2, "found a fault of the tape");
-    // Faults of others.
+    // Faults of other kinds.
     let end = Error::from(io::Error::from(ErrorKind::UnexpectedEof));
     holds(&rt, matches!(end, Error::UnexpectedEof), "the end");
     holds(&rt, is_fault(ErrorKind::PermissionDenied), "denied");

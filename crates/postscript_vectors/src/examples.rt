@@ -24,19 +24,19 @@ const CODE: [u8; 7] = [0x8e, 0x8c, 0x8d, 0x15, 0x20, 0x0a, 0x0e];
 /// A line of 1, and a return.
 const LINE: &str = "8c060b";
 
-/// The same glyph without a call: its number and the return's zero are dropped.
+/// The same glyph without a call: the subroutine number and the return's zero are dropped.
 const FLAT: [u8; 13] = [
     0x8e, 0x8c, 0x8d, 0x15, 0x20, 0x0c, 0x12, 0x8c, 0x06, 0x8b, 0x0c, 0x12, 0x0e,
 ];
 
-/// A font of the name A with this glyph: its header, its names, its dictionary (`CharStrings` at 24; `Private` of 2 bytes
-/// at 36), no strings, no global subroutines, its charstrings, its private dictionary (`Subrs` 2 behind it), its subroutine.
+/// A font of the name A with this glyph: its header, its names, its Top DICT (`CharStrings` at 24, `Private` of 2 bytes
+/// at 36), no strings, no global subroutines, its charstrings, its Private DICT (`Subrs` 2 after it), its subroutine.
 const FONT: [u8; 46] = [
     1, 0, 4, 1, 0, 1, 1, 1, 2, 0x41, 0, 1, 1, 1, 6, 0xa3, 0x11, 0x8d, 0xaf, 0x12, 0, 0, 0, 0, 0, 1,
     1, 1, 8, 0x8e, 0x8c, 0x8d, 0x15, 0x20, 0x0a, 0x0e, 0x8d, 0x13, 0, 1, 1, 1, 4, 0x8c, 0x06, 0x0b,
 ];
 
-/// The same font with the nominal width 100 in its private dictionary, which has 4 bytes (`Subrs` 4 behind it).
+/// The same font with nominalWidthX 100 in its Private DICT, which has 4 bytes (`Subrs` 4 after it).
 const WIDE: [u8; 48] = [
     1, 0, 4, 1, 0, 1, 1, 1, 2, 0x41, 0, 1, 1, 1, 6, 0xa3, 0x11, 0x8f, 0xaf, 0x12, 0, 0, 0, 0, 0, 1,
     1, 1, 8, 0x8e, 0x8c, 0x8d, 0x15, 0x20, 0x0a, 0x0e, 0xef, 0x15, 0x8f, 0x13, 0, 1, 1, 1, 4, 0x8c,
@@ -97,7 +97,7 @@ fn are_its_operators<R: Abort>(rt: &R, alloc: Global, local: &[Vec<u8>]) -> bool
     matches!(found.as_slice(), [Operator::RMoveTo, Operator::HLineTo])
 }
 
-/// Whether `CODE` is `FLAT` as flat code with these local subroutines, which then draws it with none.
+/// Whether `CODE` has the flattened code `FLAT` with these local subroutines, and `FLAT` draws it with none.
 fn is_flat<R: Abort>(rt: &R, alloc: Global, local: &[Vec<u8>]) -> bool {
     let code = flat(alloc, &CODE, &[], local).expect(rt, "flat code");
     code.as_slice() == FLAT.as_slice() && draws_it(rt, alloc, &code, &[])
@@ -117,7 +117,7 @@ fn a_glyph(rt: HostRuntime) {
     holds(&rt, is_flat(&rt, alloc, &local), "its flat code");
 }
 
-/// Whether there is this text alone.
+/// Whether this text is the only one.
 fn are(texts: &[String], wanted: &str) -> bool {
     match texts {
         [text] => text.as_str() == wanted,
@@ -125,7 +125,7 @@ fn are(texts: &[String], wanted: &str) -> bool {
     }
 }
 
-/// Whether there is one glyph, that of `CODE`.
+/// Whether there is exactly the glyph of `CODE`.
 fn is_it_alone(glyphs: &[Glyph]) -> bool {
     match glyphs {
         [glyph] => is_it(glyph),
@@ -133,14 +133,14 @@ fn is_it_alone(glyphs: &[Glyph]) -> bool {
     }
 }
 
-/// Whether a font has the glyph of `CODE` alone, in its first dictionary.
+/// Whether the glyph of `CODE` is the only one in a font, in its first dictionary.
 fn has_the_glyph<R: Abort>(rt: &R, alloc: Global, font: &FontSet) -> bool {
     let first = glyphs_of(alloc, font, 0).expect(rt, "glyphs");
     let second = glyphs_of(alloc, font, 1).expect(rt, "no glyphs");
     is_it_alone(&first) && second.is_empty()
 }
 
-/// Whether its flat code draws it with no subroutines.
+/// Whether its flattened code draws it with no subroutines.
 fn has_it_flat<R: Abort>(rt: &R, alloc: Global, font: &FontSet) -> bool {
     let codes = flat_glyphs_of(alloc, font, 0).expect(rt, "flat codes");
     is_it_alone(&each_glyph(alloc, &codes, &[], &[]).expect(rt, "glyphs"))
@@ -175,7 +175,7 @@ fn an_advance(rt: HostRuntime) {
     holds(&rt, advances_by(alloc, &WIDE, 103), "a nominal width");
 }
 
-/// Whether the operands of a dictionary have this text alone.
+/// Whether the operands of a dictionary have only this text.
 fn is_told<R: Abort>(rt: &R, alloc: Global, map: &Operations, key: Key, wanted: &str) -> bool {
     are(&texts_of(alloc, map, key).expect(rt, "texts"), wanted)
 }
@@ -190,7 +190,7 @@ fn a_dictionary(rt: HostRuntime) {
     holds(&rt, angle == Some((-125, -1)), "the angle");
     let is_so = is_told(&rt, alloc, &map, Key::ItalicAngle, "-125e-1");
     holds(&rt, is_so, "the text of the angle");
-    // What the dictionary does not say has its default.
+    // An operator that the dictionary does not have has its default.
     let is_so = is_told(&rt, alloc, &map, Key::BlueScale, "39625e-6");
     holds(&rt, is_so, "a default");
     let refused = dictionary_of(alloc, &[0xff]);

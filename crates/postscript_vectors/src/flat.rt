@@ -1,4 +1,4 @@
-//! Flat code, and inlined code.
+//! Flattened code, and desubroutinized code (no calls).
 use crate::checks::{bytes_of, code_of, holds};
 use crate::programs::{DOUBLING, routines_of, told};
 use postscript::Result;
@@ -24,45 +24,45 @@ const FLAT: &[Row] = &[
     ("200a", "8c0b", "200c128c8b0c12"),
     ("200a8c8d150e", "8c16", "200c128c16"),
     ("200a0e", "210a 0e", "200c12210c120e"),
-    // The end in a subroutine leaves the outer bytes out.
+    // `endchar` in a subroutine drops the outer bytes.
     ("200aff", "0e", "200c120e"),
     ("0eff", "", "0e"),
     // A mask keeps its bytes.
     ("8c8d8c8d200a0e", "13800b", "8c8d8c8d200c1213808b0c120e"),
     ("8e8c8d13800e", "", "8e8c8d13800e"),
-    // Operands in front of a call and of a return.
+    // Operands before a call and before a return.
     ("8e8c200a150e", "8d0b", "8e8c200c128d8b0c12150e"),
-    // What a routine stores, flat code stores.
+    // Flattened code stores the numbers that a routine stores.
     ("200a8b0c1516", "908b0c140b", "200c12908b0c148b0c128b0c1516"),
 ];
 
 const INLINED: &[Row] = &[
     ("", "", ""),
-    // A drop that the code has itself stays.
+    // A `drop` of the code itself stays.
     ("8c8d8b0c12150e", "", "8c8d8b0c12150e"),
     ("200a0e", "8c8d150b", "8c8d150e"),
     ("200a0e", "210a 0e", "0e"),
     ("200aff", "0e", "0e"),
     ("0eff", "", "0e"),
-    // The operands in front of a call and of a return stay.
+    // The operands before a call and before a return stay.
     ("8e8c200a150e", "8d0b", "8e8c8d150e"),
     ("200a8b0c1516", "908b0c140b", "908b0c148b0c1516"),
     // Used up in a subroutine, and after a return: no operator takes the operand that is left.
     ("200a8c8d150e", "8c16", "8c16"),
     ("8c16200a", "8c0b", "8c16"),
     ("8c168d200a", "8e210a 8f0b", "8c16"),
-    // A mask keeps its bytes, also one that could begin a number or an operator.
+    // A mask keeps its bytes, even one that could begin a number or an operator.
     ("8c8d8c8d200a0e", "13800b", "8c8d8c8d13800e"),
     ("8c8d1320200a0e", "0b", "8c8d13200e"),
     ("8c8d131c200a0e", "0b", "8c8d131c0e"),
     ("8c8d130c200a0e", "8c160b", "8c8d130c8c160e"),
-    // The number of the call in three bytes and in five, and numbers of each form in front of it.
+    // The number of the call in three bytes and in five, and numbers of each form before it.
     ("1cff950a0e", "8c160b", "8c160e"),
     ("ffff9500000a0e", "8c160b", "8c160e"),
     ("fb00f7001cff950a0e", "150b", "fb00f700150e"),
     ("1c2020200a0e", "160b", "1c2020160e"),
     ("ff202020208c200a0e", "150b", "ff202020208c150e"),
-    // Operators worked out the number of the call, or a subroutine left it.
+    // Operators computed the number of the call, or a subroutine left it.
     ("208b0c0a0a0e", "8c160b", "208b0c0a0c128c160e"),
     ("200a0a0e", "210b 8c160b", "210c128c160e"),
 ];
@@ -80,11 +80,11 @@ const FAULTY: &[Faulty] = &[
     ("8cab0c14", "", 21),
 ];
 
-/// A code in hex, its local subroutines in hex, and the least limit within which its flat code is told.
+/// A code in hex, its local subroutines in hex, and the least limit within which its flattened code is given.
 const LEAST: &[(&str, &str, u64)] = &[
     // Each byte of a phrase costs a unit, and the last phrase is begun while one is left.
     ("200a0e", "8c8d150b", 7),
-    // That the code is used up is seen while one is left.
+    // The end of the code is seen while one unit is left.
     ("8c16", "", 3),
     ("", "", 1),
     // A roll costs 4096 more, and a square root 8 more.
@@ -114,7 +114,7 @@ fn stays<R: Abort>(rt: &R, alloc: Global, form: Form, code: &[u8]) -> bool {
     again.as_slice() == code
 }
 
-/// Whether the runs of a code and of one without calls answer the same.
+/// Whether the runs of a code and of one without calls have the same results.
 fn are_same<R: Abort>(rt: &R, alloc: Global, code: &[u8], local: &[Vec<u8>], flat: &[u8]) -> bool {
     let before = told(rt, alloc, code, (&[], local));
     let after = told(rt, alloc, flat, (&[], &[]));
@@ -134,7 +134,7 @@ fn check<R: Abort>(rt: &R, alloc: Global, form: Form, row: &Row) {
     holds(rt, are_same(rt, alloc, &bytes, &local, &wanted), row.0);
 }
 
-/// A code whose run is refused is neither written nor measured.
+/// A code whose run fails is neither written nor measured.
 fn check_faulty<R: Abort>(rt: &R, alloc: Global, form: Form, row: &Faulty) {
     let bytes = bytes_of(rt, alloc, row.0);
     let local = routines_of(rt, alloc, row.1);
@@ -144,7 +144,8 @@ fn check_faulty<R: Abort>(rt: &R, alloc: Global, form: Form, row: &Faulty) {
     holds(rt, code == row.2, row.0);
 }
 
-/// Whether the flat code is told within a limit, by the charstring and by its program. Where it is told it is that of `flatten`.
+/// Whether the flattened code is given within a limit, by the charstring and by its program. If so, it is that of
+/// `flatten`.
 fn is_told_within<R: Abort>(rt: &R, alloc: Global, row: &(&str, &str, u64), limit: u64) -> bool {
     let code = bytes_of(rt, alloc, row.0);
     let local = routines_of(rt, alloc, row.1);

@@ -1,4 +1,4 @@
-//! Fonts: what is read of them, and what they are refused with.
+//! Fonts, their summaries and their errors.
 use crate::checks::{bytes_of, changed, code_of, holds, holds_at, is_text, put, put_shown, read};
 use crate::tapes::{Trouble, TroubledTape};
 use postscript::compact1::{FontSet, Header};
@@ -7,13 +7,13 @@ use std::alloc::Global;
 use std::io::{BufReader, Cursor};
 use std::process::Abort;
 
-/// The smallest font with a name, a glyph, a private dictionary and local subroutines.
+/// The smallest font with a name, a glyph, a Private DICT and local subroutines.
 pub const FONT: &str = "01000401000101010241000101 0106a3118da912000000000001010102 0e8d130000";
 
 pub const OF_FONT: &str =
     "header 1 0 4 1|name A|strings 0|globals 0|font Standard ISOAdobe glyphs 1 locals 0";
 
-/// The smallest font behind three bytes.
+/// The smallest font after three other bytes.
 const BEHIND: &str =
     "ffffff 01000401000101010241000101 0106a3118da912000000000001010102 0e8d130000";
 
@@ -22,14 +22,14 @@ pub const TWO_DICTIONARIES: &str =
 
 const OWN_CHAR_SET: &str = "010004010000 0001010108a111a90f8da712 0000 0000 00010101020e8d130000";
 
-/// Its char set stands at 32, behind the local subroutines: the byte 2, and for one glyph no range.
+/// Its charset is at 32, after the local subroutines: the byte 2, and no range, since there is one glyph.
 const CHAR_SET_OF_FORMAT_2: &str =
     "010004010000 0001010108a111ab0f8da712 0000 0000 00010101020e8d130000 02";
 
 const PAIR: &str =
     "header 1 0 4 1|strings 0|globals 0|font Standard ISOAdobe glyphs 1 locals 0|font Standard ISOAdobe glyphs 1 locals 0";
 
-/// Digits with spaces; the place of the font; its summary or its fault; and the next place, where there is a font.
+/// Digits with spaces, the offset of the font, its summary or its fault, and the next offset, if there is a font.
 type Row = (&'static str, u64, &'static str, Option<u64>);
 
 #[rattlefmt::skip]
@@ -41,7 +41,7 @@ const ROWS: &[Row] = &[
     (BEHIND, 3, OF_FONT, Some(37)),
     (OWN_CHAR_SET, 0, "header 1 0 4 1|strings 0|globals 0|font Standard Format0 glyphs 1 locals 0", Some(32)),
     (CHAR_SET_OF_FORMAT_2, 0, "header 1 0 4 1|strings 0|globals 0|font Standard Format2 glyphs 1 locals 0", Some(32)),
-    // Private: no operand, one operand, and one that is no whole number.
+    // Private: no operand, one operand, and one that is not an integer.
     ("010004010000 00010101039c11 0000 0000 00010101020e", 0, "fault 14", None),
     ("010004010000 0001010108a1111e2a5f8b12 0000 0000 00010101020e", 0, "fault 13", None),
     // CharStrings.
@@ -51,12 +51,12 @@ const ROWS: &[Row] = &[
     ("010004010000 00010101051e2a5f11 0000 0000", 0, "fault 13", None),
     ("010004010000 00010101091e2147483648ff11 0000 0000", 0, "fault 13", None),
     ("010004010000 000101010211 0000 0000", 0, "fault 14", None),
-    // CharStringType 1, and an encoding of the font's own before CharStrings is missed.
+    // CharStringType 1, and a custom encoding before CharStrings is missed.
     ("010004010000 00010101068f118c0c06 0000 0000", 0, "fault 12", None),
     ("010004010000 00010101038910 0000 0000", 0, "fault 16", None),
 ];
 
-/// The place of a byte of the smallest font, what it is changed to, and its summary or its fault. Others stand in `lenient`.
+/// The offset of a byte of the smallest font, its new value, and its summary or its fault. Others are in `lenient`.
 type Change = (usize, u8, &'static str);
 
 const CHANGES: &[Change] = &[
@@ -84,7 +84,7 @@ fn put_names<R: Abort>(rt: &R, text: &mut String, names: &[String]) {
     }
 }
 
-/// Adds a dictionary's char set.
+/// Adds a dictionary's charset.
 fn put_char_set<R: Abort>(rt: &R, text: &mut String, font: &FontSet, i: usize) {
     if let Some(set) = font.char_sets.get(i) {
         put(rt, text, " ");
@@ -92,7 +92,7 @@ fn put_char_set<R: Abort>(rt: &R, text: &mut String, font: &FontSet, i: usize) {
     }
 }
 
-/// Adds how many glyphs and local subroutines a dictionary has.
+/// Adds the numbers of glyphs and local subroutines of a dictionary.
 fn put_counts<R: Abort>(rt: &R, text: &mut String, font: &FontSet, i: usize) {
     if let Some(glyphs) = font.char_strings.get(i) {
         put_shown(rt, text, " glyphs ", &glyphs.len());
@@ -112,9 +112,9 @@ fn put_dictionary<R: Abort>(rt: &R, text: &mut String, font: &FontSet, i: usize)
     put_counts(rt, text, font, i);
 }
 
-/// The fields of the header, the names, how many strings and global subroutines there are, and for each dictionary its
-/// encoding, its char set, and how many glyphs and local subroutines it has. It says so where there are not as many global
-/// as local dictionaries.
+/// The fields of the header, the names, and the numbers of strings and global subroutines. Then for each dictionary its
+/// encoding, its charset, and the numbers of glyphs and local subroutines. It says so if the numbers of global and
+/// local dictionaries differ.
 fn summary<R: Abort>(rt: &R, alloc: Global, font: &FontSet) -> String {
     let mut text = String::new(alloc);
     put_header(rt, &mut text, &font.header);
@@ -130,7 +130,7 @@ fn summary<R: Abort>(rt: &R, alloc: Global, font: &FontSet) -> String {
     text
 }
 
-/// The summary of a font, or the number of the refusal.
+/// The summary of a font, or the code of the error.
 pub fn told<R: Abort>(rt: &R, alloc: Global, read: &Result<FontSet>) -> String {
     match read {
         Ok(font) => summary(rt, alloc, font),
@@ -142,17 +142,17 @@ pub fn told<R: Abort>(rt: &R, alloc: Global, read: &Result<FontSet>) -> String {
     }
 }
 
-/// What is told of the font on a tape.
+/// Describes the font on a tape.
 pub fn told_on<R: Abort, T: Tape>(rt: &R, alloc: Global, tape: &mut T) -> String {
     told(rt, alloc, &Tape::take::<FontSet>(tape, alloc))
 }
 
-/// What is told of the font at the start of bytes.
+/// Describes the font at the start of bytes.
 fn told_of<R: Abort>(rt: &R, alloc: Global, bytes: &[u8]) -> String {
     told_on(rt, alloc, &mut Cursor::new(bytes))
 }
 
-/// Reads a row, and compares the next place where there is a font.
+/// Reads a row, and compares the next offset if there is a font.
 fn is_row<R: Abort>(rt: &R, alloc: Global, row: &Row) -> bool {
     let bytes = bytes_of(rt, alloc, row.0);
     let mut tape = Cursor::new(bytes.as_slice());
@@ -161,7 +161,7 @@ fn is_row<R: Abort>(rt: &R, alloc: Global, row: &Row) -> bool {
     text.as_str() == row.2 && row.3.unwrap_or(tape.position()) == tape.position()
 }
 
-/// Whether a check answers where a text tells a font, and else is refused with the fault that the text tells.
+/// Whether a check succeeds if a text describes a font, and otherwise fails with the fault that the text gives.
 pub fn is_told<R: Abort>(rt: &R, alloc: Global, checked: Result<()>, wanted: &str) -> bool {
     match checked {
         Ok(()) => !wanted.starts_with("fault"),
@@ -173,7 +173,7 @@ pub fn is_told<R: Abort>(rt: &R, alloc: Global, checked: Result<()>, wanted: &st
     }
 }
 
-/// Checks a row, and compares the next place where there is a font.
+/// Checks a row, and compares the next offset if there is a font.
 fn is_checked<R: Abort>(rt: &R, alloc: Global, row: &Row) -> bool {
     let bytes = bytes_of(rt, alloc, row.0);
     let mut tape = Cursor::new(bytes.as_slice());
@@ -215,14 +215,14 @@ fn changed_and_cut_fonts(rt: HostRuntime) {
 #[test]
 fn local_subroutines_among_the_strings(rt: HostRuntime) {
     let alloc = rt.alloc();
-    // Nothing stands behind the char strings any more: the list of local subroutines is that of the strings.
+    // Nothing follows the charstrings: the list of local subroutines is that of the strings.
     let mut bytes = changed(&rt, alloc, FONT, 30, 0x81);
     bytes.truncate(32);
     let text = told_of(&rt, alloc, bytes.as_slice());
     is_text(&rt, text.as_str(), OF_FONT, "a font cut to 32");
 }
 
-/// Whether a tape holds the smallest font.
+/// Whether a tape contains the smallest font.
 fn holds_font<R: Abort, T: Tape>(rt: &R, alloc: Global, tape: &mut T) -> bool {
     told_on(rt, alloc, tape).as_str() == OF_FONT
 }
@@ -248,8 +248,8 @@ fn a_clone(rt: HostRuntime) {
     is_text(&rt, text.as_str(), OF_FONT, "a clone");
 }
 
-/// Whether the smallest font is read on a tape that fails after so many calls: it is refused with the one failure, or
-/// none was met. Of 0 calls one is met, and of 79 none.
+/// Whether the smallest font is read on a tape that fails after `calls` calls: reading fails with the one failure, or
+/// none occurred. With 0 calls one occurs, and with 79 none.
 fn is_failing<R: Abort>(rt: &R, alloc: Global, font: &[u8], calls: u32) -> bool {
     let mut tape = TroubledTape::new(font, Trouble::FailsAfter(calls));
     let text = told_on(rt, alloc, &mut tape);

@@ -7,12 +7,12 @@ use postscript::compact1::FontSet;
 use std::alloc::Global;
 use std::process::Abort;
 
-/// Whether a font may be answered by an outcome of this number: a font, the end of the tape, or a cause in the font.
+/// Whether an outcome with this code is possible for a font: a font, the end of the tape, or a cause in the font.
 fn is_of_a_font(code: u8) -> bool {
     matches!(code, 0 | 1 | 5..=16)
 }
 
-/// Reads the smallest font with each value in one place.
+/// Reads the smallest font with each value at one offset.
 fn check_values<R: Abort>(rt: &R, alloc: Global, place: usize) {
     for value in 0..=255u8 {
         let bytes = changed(rt, alloc, FONT, place, value);
@@ -30,7 +30,7 @@ fn fonts_with_a_byte_changed(rt: HostRuntime) {
     }
 }
 
-/// Whether a font on a troubled tape is told so by both readings.
+/// Whether both readings of a font on a troubled tape report this.
 fn is_told<R: Abort>(rt: &R, alloc: Global, bytes: &[u8], trouble: Trouble, wanted: &str) -> bool {
     let strictly = told_on(rt, alloc, &mut TroubledTape::new(bytes, trouble));
     let found = FontSet::read_lenient(alloc, &mut TroubledTape::new(bytes, trouble));
@@ -38,7 +38,7 @@ fn is_told<R: Abort>(rt: &R, alloc: Global, bytes: &[u8], trouble: Trouble, want
     strictly.as_str() == wanted && leniently.as_str() == wanted
 }
 
-/// Reads three zeros of a tape of zeros whose place is always the first.
+/// Reads three zeros of a tape of zeros whose offset is always 0.
 fn check_still<R: Abort>(rt: &R, alloc: Global) {
     let mut still = TroubledTape::new(&[], Trouble::Still);
     let number = Tape::take::<u32>(&mut still, alloc);
@@ -53,7 +53,7 @@ fn fonts_on_strange_tapes(rt: HostRuntime) {
     let font = bytes_of(&rt, alloc, FONT);
     let interrupted = is_told(&rt, alloc, font.as_slice(), Trouble::Interrupted, OF_FONT);
     holds(&rt, interrupted, "interrupted");
-    // The lists stand behind the header, where no place is left.
+    // The lists follow the header, and no offset is left there.
     let header = [0x01, 0x00, 0x04, 0x01];
     let far = is_told(&rt, alloc, &header, Trouble::Far, "fault 15");
     holds(&rt, far, "no place is left");

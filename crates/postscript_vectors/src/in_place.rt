@@ -5,12 +5,12 @@ use postscript_base::index::IndexView;
 use std::alloc::Global;
 use std::process::Abort;
 
-/// Bytes, what they are opened as, and what they are read as: items, of which one without bytes is a dash, and the place behind the INDEX;
-/// or the number of the refusal.
+/// Bytes, and the results of `open` and of `read`. Each is the items (a dash for an empty one) and the offset after the
+/// INDEX, or the code of the error.
 type Row = (&'static str, &'static str, &'static str);
 
-/// Counts of two bytes: no items; two; offsets that fall; offsets that begin with 2; sizes of 0 and of 5; an end in the items, where the
-/// offsets fall as well, in the offsets, before the size, and in the count.
+/// Counts of two bytes: no items, two, decreasing offsets, offsets that begin with 2, and sizes of 0 and of 5. Then the
+/// end is in the items (with decreasing offsets), in the offsets, before the size, and in the count.
 const ROWS: [Row; 11] = [
     ("00 00", "behind 2", "behind 2"),
     (
@@ -33,7 +33,7 @@ const ROWS: [Row; 11] = [
     ("00", "refused 1", "refused 1"),
 ];
 
-/// Counts of four bytes: no items; two; offsets that fall; a size of 0; an end in the items, and in the count.
+/// Counts of four bytes: no items, two, decreasing offsets, a size of 0, and an end in the items and in the count.
 const WIDE_ROWS: [Row; 6] = [
     ("00 00 00 00", "behind 4", "behind 4"),
     (
@@ -68,7 +68,7 @@ fn put_items<R: Abort>(rt: &R, alloc: Global, text: &mut String, items: &IndexVi
     }
 }
 
-/// What is told of an INDEX.
+/// Describes an INDEX.
 fn told<R: Abort>(rt: &R, alloc: Global, answer: Result<(IndexView<'_>, usize)>) -> String {
     let mut text = String::new(alloc);
     match answer {

@@ -1,4 +1,4 @@
-//! Indices, and what their items are read as.
+//! INDEX structures, and the results of parsing their items.
 use crate::checks::{Wanted, code_of, holds, holds_at, read, read_given};
 use crate::tapes::{Trouble, TroubledTape};
 use postscript::compact1::index::{CharStrings, Dictionaries, Names, Strings, Subroutines};
@@ -8,14 +8,14 @@ use std::alloc::Global;
 use std::io::Cursor;
 use std::process::Abort;
 
-/// Bytes; and the items and the next place, or the number of the refusal.
+/// Bytes, and the items and the next offset, or the code of the error.
 type Row = (&'static [u8], Wanted<(&'static [&'static [u8]], u64)>);
 
 #[rattlefmt::skip]
 const ROWS: &[Row] = &[
     (&[0, 0], Ok((&[], 2))), (&[0, 0, 5], Ok((&[], 2))), (&[], Err(1)), (&[0], Err(1)),
     (&[0, 1], Err(1)),
-    // Offsets that do not begin with 1, or do not rise. The first that is wrong is refused before the next is read.
+    // Offsets that do not begin with 1, or do not increase. The first wrong one is an error before the next is read.
     (&[0, 1, 1, 1, 1], Err(6)), (&[0, 1, 1, 2, 3], Err(6)), (&[0, 1, 1, 2], Err(6)),
     (&[0, 1, 1, 0], Err(6)), (&[0, 2, 1, 1, 3, 2], Err(6)),
     // Sizes of offsets.
@@ -24,7 +24,7 @@ const ROWS: &[Row] = &[
     (&[0, 1, 2, 0, 1, 0, 3, 0x41, 0x42], Ok((&[&[0x41, 0x42]], 9))),
     (&[0, 1, 3, 0, 0, 1, 0, 0, 2, 0x0e], Ok((&[&[0x0e]], 10))),
     (&[0, 1, 4, 0, 0, 0, 1, 0, 0, 0, 2, 0x0e, 0x0f], Ok((&[&[0x0e]], 12))),
-    // An item that is cut, one of 4 GiB, and 65,535 of them.
+    // A truncated item, one of 4 GiB, and 65,535 of them.
     (&[0, 1, 1, 1, 3, 0x41], Err(1)), (&[0, 1, 4, 0, 0, 0, 1, 0xff, 0xff, 0xff, 0xff], Err(1)),
     (&[0xff, 0xff, 1, 1, 2, 3, 4, 5, 6, 7], Err(1)), (TWO, Ok((&[&[0x41], &[0x42, 0x43]], 9))),
 ];
@@ -43,7 +43,7 @@ fn has_items(index: &Index, items: &[&[u8]]) -> bool {
     same && index.item(items.len()).is_none() && index.item(usize::MAX).is_none()
 }
 
-/// Whether an INDEX is that of the two items.
+/// Whether an INDEX has exactly the two items.
 fn is_two(index: &Index) -> bool {
     index.count == 2
         && index.offset_size == 1
@@ -51,7 +51,7 @@ fn is_two(index: &Index) -> bool {
         && has_items(index, &[&[0x41], &[0x42, 0x43]])
 }
 
-/// Whether an INDEX is that of no items.
+/// Whether an INDEX is the one without items.
 fn is_empty(index: &Index) -> bool {
     index.count == 0 && index.offset_size == 0 && index.offsets.is_empty() && has_items(index, &[])
 }
@@ -94,7 +94,7 @@ fn cut_copied_and_empty_indices(rt: HostRuntime) {
     holds(&rt, is_empty(&empty), "no items");
 }
 
-/// Reads the two items on a tape that fails after so many calls.
+/// Reads the two items on a tape that fails after `calls` calls.
 fn check_failing<R: Abort>(rt: &R, alloc: Global, calls: u32) {
     let mut tape = TroubledTape::new(TWO, Trouble::FailsAfter(calls));
     let code = code_of(Tape::take::<Index>(&mut tape, alloc));
@@ -122,10 +122,10 @@ fn indices_on_troubled_tapes(rt: HostRuntime) {
     holds(&rt, one_byte, "one byte a read");
 }
 
-/// How long items are that are read in one piece or in more.
+/// The lengths of items that are read in one piece or in more.
 const LONG: [usize; 4] = [1, 65_535, 65_536, 65_537];
 
-/// An item of so many bytes.
+/// An item of `length` bytes.
 fn long_item<R: Abort>(rt: &R, alloc: Global, byte: usize, length: usize) -> Vec<u8> {
     vec![in alloc; short(byte); length].expect(rt, "memory")
 }
@@ -155,7 +155,7 @@ fn long_items(rt: HostRuntime) {
     }
 }
 
-/// Char strings of another format are refused before a byte is read.
+/// Charstrings of another format are an error before a byte is read.
 fn are_refused(alloc: Global) -> bool {
     let mut tape = Cursor::new(TWO);
     let mut are_so = true;
@@ -166,12 +166,12 @@ fn are_refused(alloc: Global) -> bool {
     are_so
 }
 
-/// Whether an INDEX and its clone are those of the two items.
+/// Whether an INDEX and its clone have exactly the two items.
 fn are_two(index: &Index, same: &Index) -> bool {
     is_two(index) && is_two(same)
 }
 
-/// Whether the two items are char strings, in a clone too.
+/// Whether the two items are charstrings, in a clone too.
 fn are_char_strings<R: Abort>(rt: &R, alloc: Global) -> bool {
     let items: CharStrings = read_given(alloc, TWO, 2).expect(rt, "char strings");
     are_two(&*items, &*items.clone().expect(rt, "memory"))
@@ -219,7 +219,7 @@ fn short(number: usize) -> u8 {
     u8::try_from(number).unwrap_or(u8::MAX)
 }
 
-/// Adds the offsets behind items.
+/// Adds the offsets after items.
 fn put_offsets<R: Abort>(rt: &R, bytes: &mut Vec<u8>, items: &[&[u8]]) {
     let mut offset = 1u8;
     for item in items {
@@ -240,7 +240,7 @@ fn index_of<R: Abort>(rt: &R, alloc: Global, items: &[&[u8]]) -> Vec<u8> {
 }
 
 /// Bytes and their text. The last four are the Unicode Standard's tables 3-8 to 3-11 (3.9, "U+FFFD Substitution of
-/// Maximal Subparts"): forms that are not the shortest, surrogates, other bytes, and sequences that are cut.
+/// Maximal Subparts"): forms that are not the shortest, surrogates, other bytes, and truncated sequences.
 #[rattlefmt::skip]
 const TEXTS: &[(&[u8], &str)] = &[
     (b"A", "A"),
@@ -263,7 +263,7 @@ fn index_of_texts<R: Abort>(rt: &R, alloc: Global) -> Vec<u8> {
     index_of(rt, alloc, items.as_slice())
 }
 
-/// Whether the name at a place has this text.
+/// Whether the name at an index has this text.
 fn is_name(names: &[String], i: usize, text: &str) -> bool {
     match names.get(i) {
         Some(name) => name.as_str() == text,
@@ -283,14 +283,14 @@ fn texts_of_names(rt: HostRuntime) {
     }
 }
 
-/// Fails where the string of a number has another text.
+/// Fails if the string of a number has another text.
 fn check_string<R: Abort>(rt: &R, alloc: Global, strings: &Strings, sid: u16, text: Option<&str>) {
     let string = strings.get(alloc, sid).expect(rt, "memory");
     let is_so = string.as_deref() == text;
     holds_at(rt, is_so, "string", usize::from(sid));
 }
 
-/// Numbers of standard strings and of none, and their texts.
+/// SIDs of standard strings and of none, and their texts.
 const NUMBERS: &[(u16, Option<&str>)] = &[
     (0, Some(".notdef")),
     (175, Some("Aring")),
@@ -320,7 +320,7 @@ fn dictionaries_of<R: Abort>(rt: &R, alloc: Global, items: &[&[u8]]) -> Dictiona
     read(alloc, bytes.as_slice()).expect(rt, "dictionaries")
 }
 
-/// Whether a map has this operation alone, of this operand.
+/// Whether a map has exactly this operation, with this operand.
 fn is_single(map: &Operations, operator: Operator, operand: i32) -> bool {
     match map.get_single(operator) {
         Some(found) => map.0.len() == 1 && found.to_i32() == Some(operand),
@@ -343,7 +343,7 @@ fn map_of<R: Abort>(rt: &R, alloc: Global, all: &Dictionaries, i: usize) -> Opti
     all.operations(alloc, i).expect(rt, "operations")
 }
 
-/// Whether a dictionary has this operation alone, of this operand.
+/// Whether a dictionary has exactly this operation, with this operand.
 fn has_single(map: &Option<Operations>, operator: Operator, operand: i32) -> bool {
     match map {
         Some(map) => is_single(map, operator, operand),
@@ -372,8 +372,8 @@ fn dictionaries_of_items(rt: HostRuntime) {
     holds(&rt, are_maps(maps.as_slice()), "all dictionaries");
 }
 
-/// Items, the numbers of the refusals of the first two of them, of the third of them, and of all of them. Where there is no third,
-/// nothing is refused.
+/// Items, and the codes of the errors of the first two of them, of the third, and of all. If there is no third, there
+/// is no error for it.
 type Refused = (&'static [&'static [u8]], [u8; 4]);
 
 #[rattlefmt::skip]
@@ -386,7 +386,7 @@ const REFUSED: &[Refused] = &[
     (&[&[0x8c, 0x00], &[0x1e, 0x1b, 0x10, 0x01, 0xff], &[0x8b, 0x0c, 0x1d]], [0, 8, 9, 8]),
 ];
 
-/// The numbers of the refusals of three items, one by one, and of all items.
+/// The codes of the errors of three items, one by one, and of all items.
 fn codes_of<R: Abort>(rt: &R, alloc: Global, items: &[&[u8]]) -> [u8; 4] {
     let all = dictionaries_of(rt, alloc, items);
     let first = code_of(all.operations(alloc, 0));

@@ -1,4 +1,4 @@
-//! Fonts that lack private dictionaries or local subroutines, by both readings.
+//! Fonts that lack Private DICTs or local subroutines, by both readings.
 use crate::checks::{changed, holds_at, is_text, put_shown, read};
 use crate::fonts::{FONT, TWO_DICTIONARIES, is_told, told};
 use postscript::Result;
@@ -7,8 +7,8 @@ use std::alloc::Global;
 use std::io::Cursor;
 use std::process::Abort;
 
-/// Digits with spaces, and a place of the bytes and what it is changed to; what the strict reading tells, and what the
-/// lenient one does.
+/// Digits with spaces, and an offset in the bytes and the new value there. Then the descriptions by the strict reading
+/// and by the lenient one.
 type Row = (&'static str, usize, u8, &'static str, &'static str);
 
 const OF_FONT: &str =
@@ -30,22 +30,22 @@ const FIRST_WITHOUT: &str =
 #[rattlefmt::skip]
 const ROWS: &[Row] = &[
     (FONT, 0, 0x01, OF_FONT, OF_FONT),
-    // No Private, and no Subrs behind DefaultWidthX.
+    // No Private, and no Subrs after DefaultWidthX.
     (FONT, 19, 0x13, "fault 14", WITHOUT),
     (FONT, 31, 0x14, "fault 14", WITH_WIDTH),
-    // A size of 0 reads no bytes, also where the place lies past the end; a negative offset is refused.
+    // A size of 0 reads no bytes, even if the offset is past the end. A negative offset is an error.
     (FONT, 17, 0x8b, "fault 14", WITHOUT),
     ("01000401000101010241000101 0106a3118bf612000000000001010102 0e8d130000", 0, 0x01, "fault 14", WITHOUT),
     (FONT, 18, 0x8a, "fault 15", "fault 15"),
     ("01000401000101010241000101 0106a3118b8a12000000000001010102 0e8d130000", 0, 0x01, "fault 15", "fault 15"),
-    // No operand of Private, and one that is no whole number.
+    // No operand of Private, and one that is not an integer.
     ("01000401 0000 0001010103 9c11 0000 0000 00010101020e", 0, 0x01, "fault 14", NAMELESS),
     ("01000401 0000 0001010108 a1111e2a5f8b12 0000 0000 00010101020e", 0, 0x01, "fault 13", "fault 13"),
     // Two dictionaries, the first of which has no Private.
     (TWO_DICTIONARIES, 16, 0x13, "fault 14", FIRST_WITHOUT),
 ];
 
-/// Adds how many operators a private dictionary has, and its default width.
+/// Adds the number of operators of a Private DICT, and its default width.
 fn put_local<R: Abort>(rt: &R, text: &mut String, local: &Operations) {
     put_shown(rt, text, "|local ", &local.0.len());
     if let Some(width) = local.get_single(Operator::DefaultWidthX) {
@@ -53,7 +53,7 @@ fn put_local<R: Abort>(rt: &R, text: &mut String, local: &Operations) {
     }
 }
 
-/// Adds what is told of each private dictionary.
+/// Adds the description of each Private DICT.
 fn put_locals<R: Abort>(rt: &R, text: &mut String, read: &Result<FontSet>) {
     if let Ok(font) = read {
         for local in &font.local_dictionaries {
@@ -62,8 +62,8 @@ fn put_locals<R: Abort>(rt: &R, text: &mut String, read: &Result<FontSet>) {
     }
 }
 
-/// The summary of a font, and for each private dictionary how many operators it has and its default width; or the
-/// number of the refusal.
+/// The summary of a font, and for each Private DICT the number of its operators and its default width. Or the code of
+/// the error.
 fn told_long<R: Abort>(rt: &R, alloc: Global, read: &Result<FontSet>) -> String {
     let mut text = told(rt, alloc, read);
     put_locals(rt, &mut text, read);
@@ -73,7 +73,7 @@ fn told_long<R: Abort>(rt: &R, alloc: Global, read: &Result<FontSet>) -> String 
 #[test]
 fn clone_of_a_font_with_empty_lists(rt: HostRuntime) {
     let alloc = rt.alloc();
-    // The first of two dictionaries has no private one, and so no local subroutines.
+    // The first of two dictionaries has no Private DICT, and so no local subroutines.
     let bytes = changed(&rt, alloc, TWO_DICTIONARIES, 16, 0x13);
     let found = FontSet::read_lenient(alloc, &mut Cursor::new(bytes.as_slice()));
     let copy = found.expect(&rt, "a font").clone();

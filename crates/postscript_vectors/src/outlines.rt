@@ -7,8 +7,8 @@ use postscript_outline::{Bounds, Full, Given, Outline, Point, Segment, Sink, Tig
 use std::alloc::Global;
 use std::process::Abort;
 
-/// A code in hex, with spaces, and the path that it draws: each operator that draws, with each form of its operands. The
-/// paths are those that fontTools 4.38 draws.
+/// A code in hex, with spaces, and the path that it draws: each operator that draws, with each form of its operands.
+/// FontTools 4.38 draws the same paths.
 const ROWS: &[(&str, &str)] = &[
     ("8c8d15 8e8f9091 05 0e", "M1 2L4 6L9 12Z"),
     (
@@ -66,8 +66,8 @@ const ROWS: &[(&str, &str)] = &[
     ("ff00018000 8b15 8b ff00008000 05 0e", "M1.5 0L1.5 0.5Z"),
 ];
 
-/// A code and its path, as above: each operator that takes lists of operands, with one list and more of each form, and with as many
-/// as the stack holds.
+/// A code and its path, as above: each operator that takes lists of operands, with one list and more of each form, and
+/// with as many operands as the stack can have.
 const COUNTS: &[(&str, &str)] = &[
     ("8c8d15 888f 05 0e", "M1 2L-2 6Z"),
     ("8c8d15 888f8990 05 0e", "M1 2L-2 6L-4 11Z"),
@@ -257,7 +257,7 @@ fn outline_of(alloc: Global, code: &[u8]) -> postscript_drawing::Result<Outline>
     })
 }
 
-/// The number of a refusal of a run.
+/// The code of an error of a run.
 fn number_of(error: &Error) -> u8 {
     match error {
         Error::Font(cause) => cause.code(),
@@ -265,7 +265,7 @@ fn number_of(error: &Error) -> u8 {
     }
 }
 
-/// The path of a code, or the number of its refusal.
+/// The path of a code, or the code of its error.
 fn path_of<R: Abort>(rt: &R, alloc: Global, digits: &str) -> String {
     let code = bytes_of(rt, alloc, digits);
     match outline_of(alloc, code.as_slice()) {
@@ -299,7 +299,7 @@ fn corners_of(outline: &Outline) -> Option<[i32; 4]> {
 #[test]
 fn box_and_width_of_an_outline(rt: HostRuntime) {
     let alloc = rt.alloc();
-    // A width of 5 stands before the first stem.
+    // A width of 5 is before the first stem.
     let code = bytes_of(&rt, alloc, "90 8c8d01 8e8f15 8e8f908b8d8e08 0e");
     let outline = outline_of(alloc, code.as_slice()).expect(&rt, "an outline");
     let width = outline.width_difference.and_then(|width| width.to_int());
@@ -308,8 +308,8 @@ fn box_and_width_of_an_outline(rt: HostRuntime) {
     holds(&rt, corners == Some([3, 4, 13, 11]), "the box");
 }
 
-/// A code in hex, and the left, lower, right and upper sides round its lines and curves, in 65536ths, rounded outwards. They are
-/// those of the bounds that fontTools 4.38 gives: the tops of curves, not their control points.
+/// A code in hex, and the left, lower, right and upper sides round its lines and curves, in 65536ths, rounded outwards.
+/// They are the bounds that fontTools 4.38 gives: the extremes of curves, not their control points.
 const TIGHT_ROWS: &[(&str, [i32; 4])] = &[
     // a curve up and back
     ("8b8b15 8bef ef8b 8b27 08 0e", [0, 0, 6553600, 4915200]),
@@ -360,7 +360,7 @@ fn boxes_round_curves(rt: HostRuntime) {
     }
     let none = tight_corners_of(&rt, alloc, "0e");
     holds(&rt, none.is_none(), "nothing drawn");
-    // The top at 12 units stands at a third, which no halving meets: the box may go one 65536th further.
+    // The top at 12 units is at a third, which no halving meets. The box may go one 65536th further.
     let third = tight_corners_of(&rt, alloc, "8b8b15 8ba6 8b70 8b8b 08 0e");
     holds(
         &rt,
@@ -372,7 +372,7 @@ fn boxes_round_curves(rt: HostRuntime) {
 #[test]
 fn outlines_that_are_refused(rt: HostRuntime) {
     let alloc = rt.alloc();
-    // A line past the greatest coordinate, and a run that is refused behind a line.
+    // A line past the greatest coordinate, and a run that fails after a line.
     let past = path_of(&rt, alloc, "1c7fff 16 1c7fff 06 0e");
     is_text(&rt, past.as_str(), "26", "a line too long");
     let fault = path_of(&rt, alloc, "8c8d15 8e06 0b");
@@ -434,7 +434,7 @@ fn outlines_of_operations(rt: HostRuntime) {
     );
 }
 
-/// A sink that takes so many more segments, and then no other one.
+/// A sink that takes a number of segments, and then no other one.
 #[derive(Drop)]
 struct Few {
     left: u32,
@@ -494,7 +494,7 @@ fn a_sink_of_ones_own(rt: HostRuntime) {
     );
 }
 
-/// The path that two programs draw into one list, and the width of the latter.
+/// The path that two programs draw into one list, and the width of the second.
 fn path_of_two(
     alloc: Global,
     first: &[u8],
@@ -614,7 +614,7 @@ fn a_path_with_no_list(rt: HostRuntime) {
 #[test]
 fn a_program_that_is_stopped(rt: HostRuntime) {
     let alloc = rt.alloc();
-    // A move of three bytes and a line of two; the last phrase begun may cost more than is left.
+    // A move of three bytes and a line of two. The last phrase begun may cost more than the rest of the limit.
     let code = bytes_of(&rt, alloc, "8c8d15 8e06 0e");
     let mut program = Program::new(alloc, code.as_slice(), &[], &[]);
     let mut limit = 3;

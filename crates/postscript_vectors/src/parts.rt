@@ -7,13 +7,13 @@ use std::io::Cursor;
 
 const TEN: [u8; 10] = [0x01, 0x02, 0x03, 0x04, 0x05, 0x06, 0x07, 0x08, 0x09, 0x0a];
 
-/// A place among ten bytes, the size of an offset there, the offset or the number of the refusal, and the next place.
+/// An offset in ten bytes, the size of a stored offset there, its value or the code of the error, and the next offset.
 type Row = (u64, u8, Wanted<u32>, u64);
 
 #[rattlefmt::skip]
 const OFFSETS: &[Row] = &[
     (0, 1, Ok(0x01), 1), (1, 2, Ok(0x0203), 3), (3, 3, Ok(0x04_0506), 6), (6, 4, Ok(0x0708_090a), 10),
-    // Another size is refused before a byte is read, also at the end of the tape.
+    // Another size is an error before a byte is read, even at the end of the tape.
     (0, 0, Err(5), 0), (0, 5, Err(5), 0), (0, 255, Err(5), 0),
     (10, 0, Err(5), 10), (10, 5, Err(5), 10), (10, 255, Err(5), 10),
 ];

@@ -1,4 +1,4 @@
-//! Operations that are told with their phrases and their masks.
+//! Operations with their phrases and their masks.
 use crate::checks::{bytes_of, holds};
 use crate::programs::routines_of;
 use postscript::type2::{Operand, Program, Told};
@@ -13,19 +13,19 @@ type Spelled = (&'static str, &'static str, &'static [i32]);
 const PHRASES: &[(&str, &str, &[Spelled])] = &[
     ("8c8d150e", "", &[("8c8d15", "", &[])]),
     ("8c8d0113ff0e", "", &[("8c8d01", "", &[]), ("13ff", "ff", &[])]),
-    // The operands of a mask are stems: four of them in all, and so one byte.
+    // The operands of a mask are stems: four in all, and so the mask has one byte.
     ("8c8d8e8f128c8d8e8f13f08c16", "", &[("8c8d8e8f12", "", &[]), ("8c8d8e8f13f0", "f0", &[65_536, 131_072, 196_608, 262_144]),
         ("8c16", "", &[])]),
-    // Beneath them is the width, once.
+    // The width is beneath them, once.
     ("8b8c8d13808c16", "", &[("8b8c8d1380", "80", &[65_536, 131_072]), ("8c16", "", &[])]),
-    // Those that were calculated, or stand before a call, are told too.
+    // Operands that were calculated, or are before a call, are given too.
     ("8c8d8e0c0a200a", "14c0", &[("14c0", "c0", &[65_536, 327_680])]),
     // Nine stems: two bytes, of which each would be an operator.
     ("8c8c8c8c8c8c8c8c8c8c8c8c8c8c8c8c8c8c12130c16140e050e", "",
         &[("8c8c8c8c8c8c8c8c8c8c8c8c8c8c8c8c8c8c12", "", &[]), ("130c16", "0c16", &[]), ("140e05", "0e05", &[])]),
     // A number of each form before the operator, and one whose bytes would be operators.
     ("1c0e0ef70efb0eff000e000e130e0e", "", &[("1c0e0ef70efb0eff000e000e130e", "0e", &[235_798_528, 7_995_392, -7_995_392, 917_518])]),
-    // What stands before a call, and what is calculated, is no part of the phrase.
+    // Bytes before a call, and calculations, are no part of the phrase.
     ("8c200a8d160e", "160b", &[("16", "", &[]), ("8d16", "", &[])]),
     ("8c8d0c0a160e", "", &[("16", "", &[])]),
     // An operator of two bytes.
@@ -58,7 +58,7 @@ fn is_told<R: Abort>(rt: &R, alloc: Global, program: &mut Program<'_>, spelled: 
     }
 }
 
-/// Whether nothing is told where nothing is left of a limit.
+/// Whether no operation is given if nothing is left of the limit.
 fn is_paused(program: &mut Program<'_>) -> bool {
     matches!(program.tell_within(&mut 0), Ok(Told::Paused))
 }

@@ -1,4 +1,4 @@
-//! Charstrings, and what their runs answer.
+//! Charstrings, and the results of their runs.
 mod arithmetic;
 mod calls;
 mod codes;
@@ -17,8 +17,8 @@ use std::io::Cursor;
 use std::process::Abort;
 use steps::STEPS;
 
-/// A code in hex, its local subroutines in hex, each after a space, and the answers of the run: a text for each
-/// operation, for the end, and for the width, where there is one.
+/// A code in hex, its local subroutines in hex, each after a space, and the results of the run. These are a text for
+/// each operation, for the end, and for the width, if there is one.
 type Row = (&'static str, &'static str, &'static str);
 
 /// The global subroutines and the local ones.
@@ -34,7 +34,7 @@ pub fn routines_of<R: Abort>(rt: &R, alloc: Global, words: &str) -> Vec<Vec<u8>>
     routines
 }
 
-/// So many routines, the last one moving and the others empty.
+/// Routines, of which the last one moves and the others are empty.
 fn long_list<R: Abort>(rt: &R, alloc: Global, count: usize) -> Vec<Vec<u8>> {
     let mut routines = Vec::new(alloc);
     for _ in 1..count {
@@ -53,14 +53,14 @@ fn put_operands<R: Abort>(rt: &R, text: &mut String, operator: Operator, operand
     }
 }
 
-/// Adds the width, where there is one.
+/// Adds the width, if there is one.
 fn put_width<R: Abort>(rt: &R, text: &mut String, word: &str, width: Option<Operand>) {
     if let Some(width) = width {
         put_shown(rt, text, word, &width);
     }
 }
 
-/// Adds the number of a fault, or the end where there is none.
+/// Adds the number of a fault, or the end if there is none.
 fn put_end<R: Abort>(rt: &R, text: &mut String, fault: Option<&Error>) {
     match fault {
         Some(fault) => put_shown(rt, text, "fault ", &fault.code()),
@@ -78,7 +78,7 @@ fn operations_of<R: Abort>(rt: &R, alloc: Global, answers: &Answers) -> String {
     text
 }
 
-/// The answers of a run as a text.
+/// The results of a run as a text.
 fn text_of<R: Abort>(rt: &R, alloc: Global, answers: &Answers) -> String {
     let mut text = operations_of(rt, alloc, answers);
     put_end(rt, &mut text, answers.fault.as_ref());
@@ -86,24 +86,25 @@ fn text_of<R: Abort>(rt: &R, alloc: Global, answers: &Answers) -> String {
     text
 }
 
-/// What the run of a code answers.
+/// The results of the run of a code.
 fn run<R: Abort>(rt: &R, alloc: Global, code: &[u8], lists: Lists<'_>) -> Answers {
     type2::run(alloc, code, lists.0, lists.1).expect(rt, "memory")
 }
 
-/// What the run of a code answers, as a text.
+/// The results of the run of a code, as a text.
 pub fn told<R: Abort>(rt: &R, alloc: Global, code: &[u8], lists: Lists<'_>) -> String {
     text_of(rt, alloc, &run(rt, alloc, code, lists))
 }
 
-/// Runs a code in hex, and compares the answers.
+/// Runs a code in hex, and compares the results.
 fn check<R: Abort>(rt: &R, alloc: Global, code: &str, lists: Lists<'_>, wanted: &str) {
     let bytes = bytes_of(rt, alloc, code);
     let text = told(rt, alloc, bytes.as_slice(), lists);
     is_text(rt, text.as_str(), wanted, code);
 }
 
-/// Whether the operations of a front begin the whole code's, and its fault is that of the whole code, or the input ends early.
+/// Whether the operations of a prefix begin the whole code's, and its fault is that of the whole code, or the input
+/// ends early.
 fn is_front<R: Abort>(rt: &R, alloc: Global, part: &Answers, whole: &Answers) -> bool {
     let begun = operations_of(rt, alloc, part);
     let all = operations_of(rt, alloc, whole);
@@ -111,7 +112,7 @@ fn is_front<R: Abort>(rt: &R, alloc: Global, part: &Answers, whole: &Answers) ->
     all.as_str().starts_with(begun.as_str()) && (fault < 2 || fault == fault_of(whole))
 }
 
-/// The number of the fault of a run, 0 where there is none.
+/// The number of the fault of a run, 0 if there is none.
 fn fault_of(answers: &Answers) -> u8 {
     match &answers.fault {
         Some(fault) => fault.code(),
@@ -119,13 +120,13 @@ fn fault_of(answers: &Answers) -> u8 {
     }
 }
 
-/// Whether the run of a front of a code begins the run of the whole code.
+/// Whether the run of a prefix of a code begins the run of the whole code.
 fn begins<R: Abort>(rt: &R, alloc: Global, front: &[u8], code: &[u8], lists: Lists<'_>) -> bool {
     let part = run(rt, alloc, front, lists);
     is_front(rt, alloc, &part, &run(rt, alloc, code, lists))
 }
 
-/// Runs a code of a table, and each front of it.
+/// Runs a code of a table, and each prefix of it.
 fn check_row<R: Abort>(rt: &R, alloc: Global, row: &Row) {
     let local = routines_of(rt, alloc, row.1);
     let lists: Lists<'_> = (&[], local.as_slice());
@@ -196,12 +197,12 @@ fn check_doubling<R: Abort>(rt: &R, alloc: Global) {
     );
 }
 
-/// Whether a run has no fault and so many operations.
+/// Whether a run has no fault and `count` operations.
 fn has_run(answers: &Answers, count: usize) -> bool {
     answers.fault.is_none() && answers.operations.len() == count
 }
 
-/// Whether a charstring of so many operations is run without a fault.
+/// Whether a charstring of `count` operations is run without a fault.
 fn is_run<R: Abort>(rt: &R, alloc: Global, count: usize) -> bool {
     let code = charstring(alloc, count).expect(rt, "memory");
     has_run(&run(rt, alloc, code.as_slice(), (&[], &[])), count)
@@ -222,7 +223,7 @@ fn runs_with_other_lists(rt: HostRuntime) {
     }
 }
 
-/// Adds what the next step of a program answers.
+/// Adds the result of a program's next step.
 fn put_step<R: Abort>(rt: &R, text: &mut String, program: &mut Program<'_>) {
     match program.next() {
         Ok(Some(operation)) => put_operands(rt, text, operation.0, operation.1.as_slice()),
@@ -231,7 +232,7 @@ fn put_step<R: Abort>(rt: &R, text: &mut String, program: &mut Program<'_>) {
     }
 }
 
-/// Adds what the next step of a program answers where its operands are lent.
+/// Adds the result of a program's next step, which borrows its operands.
 fn put_lent_step<R: Abort>(rt: &R, text: &mut String, program: &mut Program<'_>) {
     match program.step() {
         Ok(Some((operator, operands))) => put_operands(rt, text, operator, operands),
@@ -240,7 +241,7 @@ fn put_lent_step<R: Abort>(rt: &R, text: &mut String, program: &mut Program<'_>)
     }
 }
 
-/// What the next step of a program answers, and the width after it.
+/// The result of a program's next step, and the width after it.
 fn step<R: Abort>(rt: &R, alloc: Global, program: &mut Program<'_>, is_lent: bool) -> String {
     let mut text = String::new(alloc);
     if is_lent {
@@ -252,7 +253,7 @@ fn step<R: Abort>(rt: &R, alloc: Global, program: &mut Program<'_>, is_lent: boo
     text
 }
 
-/// Asks a program step by step, by `next` and, where this is so, by `step`, the two in turn.
+/// Runs a program step by step. The values of `lent` choose in turn between `step` and `next`.
 fn check_steps<R: Abort>(rt: &R, alloc: Global, row: &(&str, &str, &[&str]), lent: [bool; 2]) {
     let bytes = bytes_of(rt, alloc, row.0);
     let local = routines_of(rt, alloc, row.1);
@@ -274,7 +275,7 @@ fn next_and_step_by_turns(rt: HostRuntime) {
     }
 }
 
-/// Whether a program reads the number as well, which it draws a line by.
+/// Whether a program reads the number too, and draws a line by it.
 fn is_run_so<R: Abort>(rt: &R, alloc: Global, number: &[u8], operand: Operand) -> bool {
     let mut code = Vec::from_slice(alloc, number).expect(rt, "memory");
     code.push(0x06).expect(rt, "memory");
@@ -294,7 +295,7 @@ fn is_number<R: Abort>(rt: &R, alloc: Global, bytes: &[u8], wanted: &Wanted<i32>
     }
 }
 
-/// Each code, and no other, has its operator.
+/// Each code has its operator, and no other code has one.
 fn check_operators<R: Abort>(rt: &R) {
     for (code, name) in OPERATORS {
         let operator = Operator::from(*code).expect(rt, "an operator");

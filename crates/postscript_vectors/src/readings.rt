@@ -1,4 +1,4 @@
-//! Readings of tapes of every kind.
+//! Reading from tapes of every kind.
 use crate::checks::{Wanted, code_of, holds, holds_at, read_given};
 use crate::tapes::{Trouble, TroubledTape};
 use postscript::compact1::char_set::Range1;
@@ -26,7 +26,7 @@ fn read_each<T: Tape>(alloc: Global, tape: &mut T) -> Result<Each> {
     ))
 }
 
-/// The place of a tape.
+/// The offset of a tape.
 fn place_of<R: Abort, T: Tape>(rt: &R, tape: &mut T) -> u64 {
     Tape::position(tape).expect(rt, "a place")
 }
@@ -39,7 +39,7 @@ fn reads_each<R: Abort, T: Tape>(rt: &R, alloc: Global, tape: &mut T) -> bool {
         && code_of(Tape::take::<u8>(tape, alloc)) == 1
 }
 
-/// A place, the byte there, the number of the two bytes there, and the refusals of looks at two and at four bytes.
+/// An offset, the byte there, the number of the two bytes there, and the errors of peeks at two and at four bytes.
 const PLACES: [(u64, u8, u16, u8, u8); 5] = [
     (11, 0x0c, 0, 1, 1),
     (0, 0x01, 0x0102, 0, 0),
@@ -48,30 +48,30 @@ const PLACES: [(u64, u8, u16, u8, u8); 5] = [
     (1, 0x02, 0x0203, 0, 0),
 ];
 
-/// Whether a look at a byte and at two bytes sees these.
+/// Whether peeks at a byte and at two bytes see these.
 fn sees<R: Abort, T: Tape>(rt: &R, alloc: Global, tape: &mut T, byte: u8, number: u16) -> bool {
     let seen = tape.peek::<u8>(alloc).expect(rt, "a look");
     seen == byte && tape.peek::<u16>(alloc).unwrap_or(0) == number
 }
 
-/// Whether looks at two and at four bytes are refused so.
+/// Whether peeks at two and at four bytes fail so.
 fn refuses<T: Tape>(alloc: Global, tape: &mut T, two: u8, four: u8) -> bool {
     code_of(tape.peek::<u16>(alloc)) == two && code_of(tape.peek::<u32>(alloc)) == four
 }
 
-/// Whether a tape arrives at a place.
+/// Whether a tape moves to an offset.
 fn arrives<R: Abort, T: Tape>(rt: &R, tape: &mut T, place: u64) -> bool {
     tape.jump(place).expect(rt, "a jump") == place && place_of(rt, tape) == place
 }
 
-/// Whether a tape reads a byte at this place and goes on behind it.
+/// Whether a tape reads a byte at this offset and moves past it.
 fn takes<R: Abort, T: Tape>(rt: &R, alloc: Global, tape: &mut T, place: u64, byte: u8) -> bool {
     place_of(rt, tape) == place
         && Tape::take::<u8>(tape, alloc).expect(rt, "a byte") == byte
         && place_of(rt, tape) == place.saturating_add(1)
 }
 
-/// Reads the twelve bytes of a tape that stands at the first: the high byte comes first, jumps arrive, and looks stay.
+/// Reads the twelve bytes of a tape from its start. Numbers are big-endian, jumps arrive, and peeks do not move.
 fn read_twelve<R: Abort, T: Tape>(rt: &R, alloc: Global, tape: &mut T, name: &str) {
     holds(rt, reads_each(rt, alloc, tape), name);
     for (place, byte, number, two, four) in PLACES {
@@ -89,13 +89,13 @@ fn read_owned<R: Abort>(rt: &R, alloc: Global) {
     read_twelve(rt, alloc, &mut Cursor::new(owned), "a cursor of a vector");
 }
 
-/// Reads a borrowed cursor of which nothing but its bytes is told.
+/// Reads a borrowed cursor about which contracts know only its bytes.
 fn read_opaque<R: Abort>(rt: &R, alloc: Global) {
     let mut opaque = Opaque(Cursor::new(TWELVE.as_slice()));
     read_twelve(rt, alloc, &mut &mut opaque, "an opaque cursor");
 }
 
-/// Reads a cursor behind a buffer.
+/// Reads a cursor through a buffer.
 fn read_buffered<R: Abort>(rt: &R, alloc: Global) {
     let buffered = BufReader::new(alloc, Cursor::new(TWELVE.as_slice()));
     let mut buffered = buffered.expect(rt, "memory");
@@ -113,7 +113,7 @@ fn read_troubled<R: Abort>(rt: &R, alloc: Global, trouble: Trouble) {
     read_twelve(rt, alloc, &mut buffered, "a buffered troubled tape");
 }
 
-/// A cursor goes past its end, where nothing can be read.
+/// A cursor moves past its end, but cannot read there.
 fn go_past<R: Abort>(rt: &R, alloc: Global) {
     let mut tape = Cursor::new(TWELVE.as_slice());
     for place in [12, 13, u64::MAX] {
@@ -143,19 +143,19 @@ fn tapes(rt: HostRuntime) {
     fs::remove_file(&rt, "twelve.bin").expect(&rt, "a file");
 }
 
-/// What is asked of a tape.
+/// A request to a tape.
 enum Question {
-    /// A value of each width, of which the second is answered.
+    /// A value of each width. The result is the second.
     Each,
     /// A byte.
     Byte,
-    /// A look at two bytes.
+    /// A peek at two bytes.
     Look,
     /// A jump to the fourth byte.
     Jump,
 }
 
-/// What a troubled tape is handed in as.
+/// The type as which a troubled tape is passed.
 enum Wrapping {
     Bare,
     Opaque,
@@ -168,7 +168,7 @@ const WRAPPINGS: &[(Wrapping, &str)] = &[
     (Wrapping::Buffered, "buffered"),
 ];
 
-/// What a tape answers.
+/// Sends a request to a tape.
 fn asked<T: Tape>(alloc: Global, tape: &mut T, question: &Question) -> Result<u64> {
     match question {
         Question::Each => Ok(u64::from(read_each(alloc, tape)?.1)),
@@ -178,7 +178,7 @@ fn asked<T: Tape>(alloc: Global, tape: &mut T, question: &Question) -> Result<u6
     }
 }
 
-/// What a troubled tape answers in a wrapping. Behind a buffer it has room for a byte, so that nothing is read ahead.
+/// Sends a request to a troubled tape in a wrapping. The buffer holds one byte, so that nothing is read ahead.
 fn wrapped<R: Abort>(
     rt: &R,
     alloc: Global,
@@ -196,7 +196,7 @@ fn wrapped<R: Abort>(
     }
 }
 
-/// The number of the refusal; 0 for a fault that is not the tape's own.
+/// The code of the error, 0 for a fault that is not the tape's own.
 fn number_of(refusal: Error) -> u8 {
     match refusal {
         Error::Io(fault) if fault.kind() != ErrorKind::PermissionDenied => 0,
@@ -204,7 +204,7 @@ fn number_of(refusal: Error) -> u8 {
     }
 }
 
-/// What a troubled tape answers in a wrapping, or the number of the refusal.
+/// The result of a request to a troubled tape in a wrapping, or the code of the error.
 fn answer<R: Abort>(
     rt: &R,
     alloc: Global,
@@ -218,10 +218,10 @@ fn answer<R: Abort>(
     }
 }
 
-/// What is asked, what is answered, the place after it, and how many reads have been asked for by then.
+/// A request, its result, the offset after it, and the number of reads so far.
 type Asked = (Question, Wanted<u64>, u64, u32);
 
-/// How many calls pass before the one that fails, and what is asked.
+/// The number of calls before the one that fails, and the requests.
 #[rattlefmt::skip]
 const FAILING: &[(u32, &[Asked])] = &[
     (0, &[(Question::Each, Err(2), 0, 1)]),
@@ -230,16 +230,16 @@ const FAILING: &[(u32, &[Asked])] = &[
     (3, &[(Question::Each, Err(2), 7, 4)]),
     (4, &[(Question::Each, Err(2), 10, 5)]),
     (5, &[(Question::Each, Ok(0x0203), 12, 5), (Question::Jump, Err(2), 12, 5), (Question::Jump, Ok(3), 3, 5)]),
-    // A look whose question for the place fails reads nothing.
+    // A peek that cannot get the offset reads nothing.
     (0, &[(Question::Look, Err(2), 0, 0), (Question::Look, Ok(0x0102), 0, 1)]),
     (1, &[(Question::Byte, Ok(1), 1, 1), (Question::Look, Err(2), 1, 1), (Question::Look, Ok(0x0203), 1, 2)]),
-    // A look whose reading fails goes back.
+    // A peek whose reading fails moves back.
     (1, &[(Question::Look, Err(2), 0, 1), (Question::Look, Ok(0x0102), 0, 2)]),
-    // A failed seek back is told in place of the reading.
+    // A failed seek back is reported instead of the reading.
     (2, &[(Question::Look, Err(2), 2, 1)]),
 ];
 
-/// Whether a troubled tape answers as wanted, and stands where it is wanted after so many reads.
+/// Whether a troubled tape gives the wanted result, offset and number of reads.
 fn is_answered<R: Abort>(
     rt: &R,
     alloc: Global,
@@ -252,7 +252,7 @@ fn is_answered<R: Abort>(
         && tape.reads() == asked.3
 }
 
-/// Whether a tape that fails once answers each question as wanted.
+/// Whether a tape that fails once gives the wanted result for each request.
 fn is_failing<R: Abort>(rt: &R, alloc: Global, row: &(u32, &[Asked]), wrapping: &Wrapping) -> bool {
     let mut tape = TroubledTape::new(&TWELVE, Trouble::FailsAfter(row.0));
     let mut is_so = true;
@@ -262,7 +262,7 @@ fn is_failing<R: Abort>(rt: &R, alloc: Global, row: &(u32, &[Asked]), wrapping: 
     is_so && tape.failures() == 1
 }
 
-/// Wanting bytes are the end of the tape, and no fault of it.
+/// Missing bytes are the end of the tape, and no fault of it.
 fn is_cut<R: Abort>(rt: &R, alloc: Global, length: usize, wrapping: &Wrapping) -> bool {
     let bytes = TWELVE.get(..length).unwrap_or(&[]);
     let mut tape = TroubledTape::new(bytes, Trouble::OneByte);
@@ -282,7 +282,7 @@ fn failing_tapes(rt: HostRuntime) {
     }
 }
 
-/// Whether so many bytes are refused as wanting.
+/// Whether reading `count` bytes fails because some are missing.
 fn are_wanting(alloc: Global, count: usize) -> bool {
     code_of(read_given::<Vec<u8>>(alloc, &[0x01, 0x02], count)) == 1
 }
@@ -318,7 +318,7 @@ fn check_numbers<R: Abort>(rt: &R, alloc: Global) {
     holds(rt, code == 1, "a number too many");
 }
 
-/// Reads bytes at a place, and ranges, each given how many glyphs the ones before it leave.
+/// Reads bytes at an offset, and ranges, each given the number of glyphs that the ones before it leave.
 fn check_places<R: Abort>(rt: &R, alloc: Global) {
     let mut tape = Cursor::new([0, 7, 1, 0, 9, 0].as_slice());
     let ranges = read_chain::<Range1, _>(alloc, &mut tape, 3, 2);
@@ -328,7 +328,8 @@ fn check_places<R: Abort>(rt: &R, alloc: Global) {
     holds(rt, is_so, "bytes at a place");
 }
 
-/// Whether a list that no memory holds is refused for memory, with the list and the place of the tape as they were.
+/// Whether a list that is too big for memory fails with `Memory`, and leaves the list and the offset of the tape
+/// unchanged.
 fn is_growth_refused<R: Abort>(rt: &R, alloc: Global) -> bool {
     let mut tape = TroubledTape::new(TWELVE.as_slice(), Trouble::OneByte);
     let mut bytes = Vec::from_array(alloc, [7u8]).expect(rt, "memory");

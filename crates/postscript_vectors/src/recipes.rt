@@ -7,8 +7,8 @@ use postscript_sfnt::FontFile;
 use std::alloc::Global;
 use std::process::Abort;
 
-/// An OpenType file of two glyphs, `.notdef` and `A`, made by hand. FontTools 4.38 draws `A` as the path below, with an advance
-/// of 600 by its charstring and by the table `hmtx`.
+/// An OpenType file of two glyphs, `.notdef` and `A`, made by hand. FontTools 4.38 draws `A` as the path below, with an
+/// advance of 600 by its charstring and by the `hmtx` table.
 const FILE: &str =
     "4f54544f000700400002003043464620e024abe00000007c00000050636d6170000c0074000000cc0000002c \
     68656164616a43a1000000f8000000366868656102efff080000013000000024686d7478044c006400000154 \
@@ -21,7 +21,7 @@ const FILE: &str =
     0002000000000002001e0003000104090001000a00000003000104090002000e000a0053006d0061006c006c \
     0052006500670075006c006100720000";
 
-/// The names of the glyphs, one behind the other.
+/// The names of the glyphs, one after the other.
 fn names_of<R: Abort>(rt: &R, alloc: Global, cff: &[u8]) -> String {
     let mut text = String::new(alloc);
     for name in &glyph_names(alloc, cff).expect(rt, "names") {

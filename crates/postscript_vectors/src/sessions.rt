@@ -1,5 +1,5 @@
-//! Sessions with faults and with waits. The stored run of `psfont`, its files `stdin` and `stdout`, shows what lines are
-//! answered with.
+//! Sessions with faults and with waits. The stored run of `psfont`, its files `stdin` and `stdout`, shows the replies
+//! to lines.
 use crate::checks::{code_of, holds_at};
 use psfont_session::{session, session_within};
 use std::alloc::Global;
@@ -7,8 +7,8 @@ use std::cell::Cell;
 use std::io;
 use std::io::{BufRead, ErrorKind, Read, Write};
 
-/// A reader of text that shows so many bytes at a time, fails once, and notes whether something written waits while it is asked
-/// for more.
+/// A reader of text that shows a few bytes at a time, fails once, and notes whether output waits to be flushed while it
+/// is asked for more.
 #[derive(Drop)]
 struct Shown<'l> {
     text: &'l [u8],
@@ -60,7 +60,7 @@ impl BufRead for Shown<'_> {
     }
 }
 
-/// A writer that takes so many bytes, and then fails.
+/// A writer that takes a number of bytes, and then fails.
 #[derive(Drop)]
 struct Full {
     taken: Vec<u8>,
@@ -84,7 +84,7 @@ impl Write for Full {
     }
 }
 
-/// A writer that notes whether something written waits to be flushed, and counts its flushes.
+/// A writer that notes whether output waits to be flushed, and counts its flushes.
 #[derive(Drop)]
 struct Flushed<'l> {
     waits: &'l Cell<bool>,
@@ -104,12 +104,12 @@ impl Write for Flushed<'_> {
     }
 }
 
-/// What a session answers to a code and its run.
+/// The replies of a session to a code and its run.
 const OUTPUT: &str = "ok\nHLineTo 1\nend\nwidth none\n";
 
-/// What the reader fails with, and after how many looks; the session's code, and what was answered before.
+/// The reader's fault, and the number of reads before it. The session's error code, and the replies before.
 ///
-/// Ten looks show the first line, three more the second, and the fourteenth the end.
+/// Ten reads show the first line, three more the second, and the fourteenth the end.
 #[rattlefmt::skip]
 const FAULTS: &[(Option<ErrorKind>, usize, u8, &str)] = &[
     (None, 0, 0, OUTPUT),
@@ -140,7 +140,7 @@ fn meets_faults_of_the_reader(rt: HostRuntime) {
     }
 }
 
-/// Whether a session ends with this number whose writer fails so behind so much of the output.
+/// Whether a session whose writer fails after a part of the output ends with this number.
 fn is_full(alloc: Global, room: usize, kind: ErrorKind, wanted: u8) -> bool {
     let mut reader = b"code 8c06\nrun".as_slice();
     let mut writer = Full {
@@ -163,7 +163,8 @@ fn meets_faults_of_the_writer(rt: HostRuntime) {
     }
 }
 
-/// Whether a session of which so many bytes are shown at a time flushes before it waits, and more than twice where this is so.
+/// Whether a session whose reader shows a few bytes at a time flushes before it waits, and more than twice if this is
+/// set.
 fn is_flushed(alloc: Global, step: usize, is_often: bool) -> bool {
     let waits = Cell::new(false);
     let mut reader = Shown::new(b"code\nrun\nflat\nrun\n", step, &waits);
@@ -183,7 +184,7 @@ fn flushes_before_it_waits(rt: HostRuntime) {
     }
 }
 
-/// A limit, and what a session within it answers to a code whose run costs two units, its run and its flat code.
+/// A limit, and the replies of a session within it to a code whose run costs two units, its run and its flattened code.
 #[rattlefmt::skip]
 const LIMITS: &[(u64, &str)] = &[
     (0, "ok\ntoo long: code 8c06 takes more than --limit 0\ntoo long: code 8c06 takes more than --limit 0\n"),
@@ -191,7 +192,7 @@ const LIMITS: &[(u64, &str)] = &[
     (3, "ok\nHLineTo 1\nend\nwidth none\nflat 8c06\n"),
 ];
 
-/// Whether a session within a limit answers so.
+/// Whether a session within a limit replies so.
 fn is_within(alloc: Global, limit: u64, wanted: &str) -> bool {
     let mut reader = b"code 8c06\nrun\nflat".as_slice();
     let mut writer = Vec::new(alloc);

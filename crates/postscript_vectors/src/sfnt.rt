@@ -1,4 +1,4 @@
-//! OpenType files: faces, tables, numbers of them, names and characters.
+//! OpenType files: faces, tables, face numbers, names and characters.
 mod rows;
 
 use crate::checks::{bytes_of, holds, holds_at, is_text};
@@ -37,7 +37,7 @@ fn a_file_of_one_face(rt: HostRuntime) {
     holds(&rt, glyphs(maxp) == Some(3), "the glyphs");
 }
 
-/// How a face of a file is read: the number of its tables, or the refusal.
+/// The result of opening a face of a file: the number of its tables, or the error.
 fn read<R: Abort>(rt: &R, alloc: Global, digits: &str, face: usize) -> String {
     let bytes = bytes_of(rt, alloc, digits);
     match FontFile::read(bytes.as_slice(), face) {
@@ -118,7 +118,7 @@ fn names_that_are_cut(rt: HostRuntime) {
     holds(&rt, names.is_none(), "records that are cut");
 }
 
-/// The names of the first glyphs, with a space behind each, and a line for those without one.
+/// The names of the first glyphs, with a space after each, and a line for those without one.
 fn glyph_names<R: Abort>(rt: &R, alloc: Global, names: &GlyphNames<'_>) -> String {
     let mut text = String::new(alloc);
     for glyph in 0..7usize {

@@ -44,7 +44,7 @@ const LARGE: &[u8] = &[
 /// Two metrics.
 const HMTX: &[u8] = &[0x01, 0xf4, 0xff, 0xfd, 0xff, 0xff, 0x80, 0x00];
 
-/// Of 258 glyphs.
+/// A `maxp` table of 258 glyphs.
 const MAXP: &[u8] = &[0, 0, 0x50, 0, 1, 2];
 
 /// Version 3.0, and a byte that was there.

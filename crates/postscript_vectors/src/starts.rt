@@ -1,4 +1,4 @@
-//! What `psfont` does by the words after its name.
+//! The results of `psfont` by the words after its name.
 use crate::checks::holds;
 use psfont_session::start;
 use std::alloc::{AllocGlobal, Global};
@@ -9,37 +9,37 @@ use std::process::Abort;
 
 const USAGE: &str = "usage: psfont [font PATH | lenient PATH]\n";
 
-/// A font of the name A with one glyph: its header, its names, its dictionary (`CharStrings` at 24; `Private` of 2 bytes
-/// at 30), no strings, no global subroutines, its char strings, its private dictionary (`Subrs` 2 behind it), and no local
+/// A font of the name A with one glyph: its header, its names, its Top DICT (`CharStrings` at 24, `Private` of 2 bytes
+/// at 30), no strings, no global subroutines, its charstrings, its Private DICT (`Subrs` 2 after it), and no local
 /// subroutines.
 const FONT: &[u8] = &[
     1, 0, 4, 1, 0, 1, 1, 1, 2, 0x41, 0, 1, 1, 1, 6, 0xa3, 0x11, 0x8d, 0xa9, 0x12, 0, 0, 0, 0, 0, 1,
     1, 1, 2, 0x0e, 0x8d, 0x13, 0, 0,
 ];
 
-/// The same, but that its private dictionary names no local subroutines.
+/// The same, but its Private DICT names no local subroutines.
 const NO_LOCALS: &[u8] = &[
     1, 0, 4, 1, 0, 1, 1, 1, 2, 0x41, 0, 1, 1, 1, 6, 0xa3, 0x11, 0x8d, 0xa9, 0x12, 0, 0, 0, 0, 0, 1,
     1, 1, 2, 0x0e, 0x8d, 0x14, 0, 0,
 ];
 
-/// What is printed of the one, and of the other where it is read leniently.
+/// The output for the first, and for the second if it is read leniently.
 const ONE_GLYPH: &str =
     "header 1 0 4 1\nnames 1\nname A\nstrings 0\nglobals 0\ndictionaries 1\nfont Standard ISOAdobe glyphs 1 locals 0\nend\n";
 
 /// A font with no names and no dictionaries.
 const NO_NAMES: &[u8] = &[0, 0, 0, 0, 0, 0, 0, 0];
 
-/// What is printed of it.
+/// The output for it.
 const NOTHING: &str = "header 0 0 0 0\nnames 0\nstrings 0\nglobals 0\ndictionaries 0\nend\n";
 
 /// Names with offsets of 5 bytes.
 const LONG_OFFSETS: &[u8] = &[1, 0, 4, 1, 0, 1, 0, 5];
 
-/// What a start is given: its words, the bytes of the file font.cff, and the input.
+/// The input of a start: its words, the bytes of the file font.cff, and the standard input.
 type Given = (&'static [&'static str], &'static [u8], &'static [u8]);
 
-/// What comes of it: its status, what is printed, and what is told as an error.
+/// The outcome: the status, the output, and the error output.
 type Outcome = (u8, &'static str, &'static str);
 
 #[rattlefmt::skip]
@@ -78,7 +78,7 @@ fn texts<R: Abort>(rt: &R, alloc: Global, words: &[&str]) -> Vec<String> {
     texts
 }
 
-/// Whether the start with what is given has this outcome. What is not flushed does not count as printed.
+/// Whether the start with this input has this outcome. Output that is not flushed does not count as printed.
 fn comes_to<R: Files + AllocGlobal + Abort>(rt: &R, given: &Given, outcome: &Outcome) -> bool {
     let alloc = rt.alloc();
     let words = texts(rt, alloc, given.0);

@@ -1,4 +1,4 @@
-//! Charstrings that are made, for measuring.
+//! Generated charstrings, for measuring.
 use std::alloc::{AllocError, Global};
 
 /// The operators that draw and move, each with a number of operands that it takes.
@@ -21,10 +21,10 @@ const SHAPES: [(u8, u8); 16] = [
     (0x19, 10),
 ];
 
-/// So many operations in one charstring without calls, always the same ones.
+/// A charstring of `count` operations without calls. They are always the same ones.
 ///
 /// The first two declare two horizontal and two vertical stems. From then on each 32nd is a hint mask, and the others
-/// are paths of 1 to 12 operands, drawn by a linear congruence. Its numbers have one, two, three or five bytes, the
+/// are paths of 1 to 12 operands, chosen by a linear congruence. Its numbers have one, two, three or five bytes, the
 /// short forms more often. The charstring ends with `endchar`.
 pub fn charstring(alloc: Global, operations: usize) -> Result<Vec<u8>, AllocError> {
     let mut code = Vec::new(alloc);
@@ -58,7 +58,7 @@ fn drawn(seed: &mut u32) -> u8 {
     (*seed >> 24) as u8
 }
 
-/// Adds so many numbers.
+/// Adds `count` numbers.
 fn push_numbers(code: &mut Vec<u8>, seed: &mut u32, count: u8) -> Result<(), AllocError> {
     for _ in 0..count {
         let form = drawn(seed) % 16;

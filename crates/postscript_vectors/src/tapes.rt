@@ -3,18 +3,18 @@ use postscript::tape::ReadSeek;
 use std::io;
 use std::io::{Cursor, ErrorKind, Read, Seek, SeekFrom};
 
-/// How a tape misbehaves.
+/// The ways in which a tape misbehaves.
 #[derive(Clone, Copy)]
 pub enum Trouble {
-    /// So many reads and seeks pass, and the next one fails with the kind `PermissionDenied`; then it goes on.
+    /// A number of reads and seeks pass, and the next one fails with the kind `PermissionDenied`. Then it goes on.
     FailsAfter(u32),
-    /// The first read answers `Interrupted`.
+    /// The first read fails with `Interrupted`.
     Interrupted,
     /// Each read gives one byte.
     OneByte,
-    /// It tells the last place of all, wherever it is sent.
+    /// It reports the greatest offset of all, wherever it is sent.
     Far,
-    /// It holds zeros without end, and tells the place 0, wherever it is sent.
+    /// It contains zeros without end, and reports the offset 0, wherever it is sent.
     Still,
 }
 
@@ -37,22 +37,22 @@ impl<'l> TroubledTape<'l> {
         }
     }
 
-    /// How many reads were asked for.
+    /// The number of reads.
     pub fn reads(&self) -> u32 {
         self.reads
     }
 
-    /// How many calls have failed with the kind `PermissionDenied`.
+    /// The number of calls that have failed with the kind `PermissionDenied`.
     pub fn failures(&self) -> u32 {
         self.failures
     }
 
-    /// The place of the tape, asked of the bytes themselves.
+    /// The offset of the tape, as the bytes themselves have it.
     pub fn place(&self) -> u64 {
         self.bytes.position()
     }
 
-    /// Counts a read or a seek, which fails where it is its turn.
+    /// Counts a read or a seek, which fails if it is its turn.
     fn count(&mut self) -> io::Result<()> {
         match self.trouble {
             Some(Trouble::FailsAfter(0)) => {

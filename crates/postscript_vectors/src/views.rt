@@ -1,4 +1,4 @@
-//! Fonts in place: a CID-keyed one, one with an encoding of its own, and what refuses only a part.
+//! Fonts in place: a CID-keyed one, one with its own encoding, and fonts in which only a part is bad.
 pub mod rows;
 
 use crate::checks::{bytes_of, changed, code_of, holds, holds_at, is_text, put_shown};
@@ -13,7 +13,7 @@ use std::alloc::Global;
 use std::io::Cursor;
 use std::process::Abort;
 
-/// The bytes of a font, and behind them others.
+/// The bytes of a font, followed by others.
 pub fn joined<R: Abort>(rt: &R, alloc: Global, font: &str, behind: &str) -> Vec<u8> {
     let mut bytes = bytes_of(rt, alloc, font);
     let more = bytes_of(rt, alloc, behind);
@@ -37,7 +37,7 @@ fn put_advance<R: Abort>(rt: &R, text: &mut String, advance: &Advance) {
     }
 }
 
-/// What is told of a glyph of a CID-keyed font.
+/// Describes a glyph of a CID-keyed font.
 pub fn told<R: Abort>(rt: &R, alloc: Global, font: &FontView<'_>, glyph: usize) -> String {
     let mut text = String::new(alloc);
     let set = font.char_set().expect(rt, "a char set");
@@ -216,7 +216,7 @@ fn no_names_behind_the_last_glyph(rt: HostRuntime) {
 #[test]
 fn fonts_of_another_version(rt: HostRuntime) {
     let alloc = rt.alloc();
-    // `FontSet` reads the version and does not judge it, and `FontView` opens what `FontSet` reads.
+    // `FontSet` reads the version without checking it, and `FontView` opens every font that `FontSet` reads.
     let bytes = changed(&rt, alloc, RANGE, 0, 9);
     let font = FontView::read(alloc, bytes.as_slice()).expect(&rt, "a font in place");
     holds(&rt, font.char_strings.len() == 4, "four glyphs");
@@ -243,7 +243,7 @@ fn scale_of<R: Abort>(rt: &R, alloc: Global, bytes: &[u8], glyph: usize) -> Stri
 #[test]
 fn matrices_of_glyphs(rt: HostRuntime) {
     let alloc = rt.alloc();
-    // With the matrix of the font, and without it: its operator becomes StrokeWidth.
+    // With the matrix of the font, and without it: its operator is changed to StrokeWidth.
     for (operator, wanted) in [(0x07u8, ["2e-3", "5e-4", ""]), (0x08, ["1e-3", "5e-4", ""])] {
         let bytes = changed(&rt, alloc, MATRICES, 35, operator);
         for (glyph, scale) in wanted.iter().enumerate() {

@@ -10,8 +10,9 @@ use std::alloc::Global;
 use std::io::Cursor;
 use std::process::Abort;
 
-/// What is told of each glyph of the CID-keyed font without subroutines: what was told with them, but for the bytes of the codes
-/// `87 9f 16 0e`, `92 bd 16 0e` and `8b 0c 12`, and for the operator Subrs of the first private dictionary.
+/// Describes each glyph of the CID-keyed font without subroutines. The descriptions are those from the font with them,
+/// except for the bytes of the codes `87 9f 16 0e`, `92 bd 16 0e` and `8b 0c 12`, and for the operator Subrs of the
+/// first Private DICT.
 const FLAT: &[&str] = &[
     "cid 0 part 0 bytes 1 advance 5e2 bits 32768000 5e-4 0 0 5e-4 0 0 private 2",
     "cid 10 part 0 bytes 4 advance 6e2 and -4 bits 39059456 5e-4 0 0 5e-4 0 0 private 2",
@@ -31,7 +32,7 @@ fn code_is<R: Abort>(rt: &R, alloc: Global, bytes: &[u8], glyph: usize, digits: 
     );
 }
 
-/// What is told of glyphs of a font is what these rows of the flat one tell.
+/// The glyphs of a font are described as in these rows of the flattened one.
 fn tells<R: Abort>(rt: &R, alloc: Global, bytes: &[u8], rows: &[usize]) {
     let font = FontView::read(alloc, bytes).expect(rt, "a font");
     for (glyph, row) in rows.iter().enumerate() {
@@ -74,13 +75,13 @@ fn codes_written(rt: HostRuntime) {
     let kept = subset_keeping(alloc, bytes.as_slice(), &[3]).expect(&rt, "a subset");
     let text = codes_of(&rt, alloc, kept.as_slice());
     is_text(&rt, text.as_str(), " 65:1 66:2", "numbers kept");
-    // B alone, by the standard encoding
+    // only B, by the standard encoding
     let cut = subset(alloc, bytes.as_slice(), &[3]).expect(&rt, "a subset");
     let text = codes_of(&rt, alloc, cut.as_slice());
     is_text(&rt, text.as_str(), " 66:1", "a subset");
 }
 
-/// A font has these strings alone, and this name of its last glyph.
+/// A font has exactly these strings, and this name of its last glyph.
 fn is_named<R: Abort>(rt: &R, alloc: Global, bytes: &[u8], strings: &[&[u8]], name: &[u8]) {
     let font = FontView::read(alloc, bytes).expect(rt, "a font");
     let set = font.char_set().expect(rt, "a char set");
@@ -92,7 +93,8 @@ fn is_named<R: Abort>(rt: &R, alloc: Global, bytes: &[u8], strings: &[&[u8]], na
     holds(rt, font.name(&set, last) == Some(name), "the last name");
 }
 
-/// Strings that no glyph and no operator names are left out, where numbers are not kept; the others keep their order.
+/// Strings that no glyph and no operator names are left out, unless glyphs keep their numbers. The others keep their
+/// order.
 #[test]
 fn strings_cut(rt: HostRuntime) {
     let alloc = rt.alloc();
@@ -128,8 +130,8 @@ fn fonts_that_are_not_written(rt: HostRuntime) {
     holds(&rt, written.is_ok(), "without glyph 2");
 }
 
-/// The only glyph calls a subroutine that returns, so that its code without calls has no byte. It is written as `0 drop`, since
-/// `FontSet` reads no item of no bytes.
+/// The only glyph calls a subroutine that returns, so that its code without calls has no byte. It is written as `0
+/// drop`, since `FontSet` reads no empty items.
 #[test]
 fn a_code_of_no_byte(rt: HostRuntime) {
     let alloc = rt.alloc();
@@ -149,7 +151,7 @@ fn a_code_of_no_byte(rt: HostRuntime) {
     holds(&rt, read.is_ok(), "read as a whole");
 }
 
-/// The dictionary of a CID-keyed font names a private dictionary of its own, which only its font dictionaries are to do. It is left out.
+/// The Top DICT of a CID-keyed font names its own Private DICT, which only its Font DICTs are to do. It is left out.
 #[test]
 fn a_private_dictionary_of_no_glyph(rt: HostRuntime) {
     let alloc = rt.alloc();
@@ -183,12 +185,12 @@ fn an_index_written(rt: HostRuntime) {
     holds(&rt, written == wanted, "an INDEX");
 }
 
-/// A font of `.notdef`, A, grave, and an accented glyph of both: `3 4 65 193 endchar`.
+/// A font of `.notdef`, A, grave, and a `seac` glyph of both: `3 4 65 193 endchar`.
 const ACCENTED: &str = "010004040001020001000246000102000100181d0000002e0f1d00000035 \
     111d000000021d000000591200000000000022007c00ab00040200010002000a00120018 \
     0e959515bd06bd070e9f9f15c706c7070e8e8fccf7550e9214";
 
-/// A glyph of a font has an outline of so many segments.
+/// A glyph of a font has an outline of `segments` segments.
 fn draws<R: Abort>(rt: &R, alloc: Global, bytes: &[u8], glyph: usize, segments: usize) {
     let font = FontView::read(alloc, bytes).expect(rt, "a font");
     let mut limit = LIMIT;
@@ -196,19 +198,19 @@ fn draws<R: Abort>(rt: &R, alloc: Global, bytes: &[u8], glyph: usize, segments: 
     holds_at(rt, outline.segments.len() == segments, "segments", glyph);
 }
 
-/// A font has so many glyphs.
+/// A font has `glyphs` glyphs.
 fn has_glyphs<R: Abort>(rt: &R, alloc: Global, bytes: &[u8], glyphs: usize) {
     let font = FontView::read(alloc, bytes).expect(rt, "a font");
     holds_at(rt, font.char_strings.len() == glyphs, "glyphs", glyphs);
 }
 
-/// These glyphs are told where this one is named.
+/// These glyphs are kept if this one is named.
 fn keeps<R: Abort>(rt: &R, alloc: Global, bytes: &[u8], named: usize, kept: &[usize]) {
     let told = kept_glyphs(alloc, bytes, &[named, named]).expect(rt, "glyphs");
     holds_at(rt, told.as_slice() == kept, "glyphs of", named);
 }
 
-/// The base and the accent of an accented glyph are kept with it.
+/// The base and the accent of a `seac` glyph are kept with it.
 #[test]
 fn components_kept(rt: HostRuntime) {
     let alloc = rt.alloc();
@@ -227,12 +229,12 @@ fn components_kept(rt: HostRuntime) {
     keeps(&rt, alloc, bytes.as_slice(), 0, &[0]);
 }
 
-/// A component that the font does not have is not kept, and the glyph is refused as before.
+/// A component that the font does not have is not kept, and drawing the glyph fails as before.
 #[test]
 fn components_wanting(rt: HostRuntime) {
     let alloc = rt.alloc();
     let mut bytes = bytes_of(&rt, alloc, ACCENTED);
-    // the accent is that of the code 194, which no glyph has
+    // the accent has the code 194, which no glyph has
     if let Some(code) = bytes.get_mut(87) {
         *code = 0x56;
     }
@@ -251,12 +253,13 @@ fn components_wanting(rt: HostRuntime) {
     );
 }
 
-/// A font of `.notdef`, A, grave, a circumflex that is accented itself, `1 2 193 65 endchar`, and a glyph of A and it.
+/// A font of `.notdef`, A, grave, a circumflex that is a `seac` glyph itself, `1 2 193 65 endchar`, and a glyph of A
+/// and it.
 const NESTED: &str =
     "01000401000101010246000101010d958bdecb05aa0f8bd712b31100000000000022007c007e00ac00050101020910161c0e\
     9516bd06bd070e9f16c706c7070e8c8df755cc0e8e8fccf7570e";
 
-/// A component that is accented itself keeps its own components, and is drawn as before.
+/// A component that is a `seac` glyph keeps its own components, and is drawn as before.
 #[test]
 fn components_of_components(rt: HostRuntime) {
     let alloc = rt.alloc();
@@ -276,11 +279,11 @@ fn components_of_components(rt: HostRuntime) {
     );
 }
 
-/// A font whose private dictionary has no bytes, and an offset past the end.
+/// A font whose Private DICT has no bytes, and an offset past the end.
 const NO_PRIVATE: &str = "010004040001020001000246000102000100181d0000002e0f1d00000035111d00000000 \
     1d000186a01200000000000022007c00ab00040200010002000a001200180e959515bd06bd070e9f9f15c706c7070e8e8fccf7550e9214";
 
-/// Fonts whose char set ends with the table before it names all glyphs: behind a range of one glyph, and inside it.
+/// Fonts whose charset ends with the table before it names all glyphs: after a range of one glyph, and inside it.
 const SHORT_SETS: [&str; 2] = [
     "010004040001020001000246000102000100181d000000540f1d0000002e111d000000021d00000052120000000000040200 \
     010002000a001200180e959515bd06bd070e9f9f15c706c7070e8e8fccf7550e921401002200",
@@ -288,7 +291,7 @@ const SHORT_SETS: [&str; 2] = [
     010002000a001200180e959515bd06bd070e9f9f15c706c7070e8e8fccf7550e9214010022",
 ];
 
-/// A font without subroutines has so many glyphs, and as many with names.
+/// A font without subroutines has `glyphs` glyphs, all with names.
 fn names<R: Abort>(rt: &R, alloc: Global, bytes: &[u8], named: usize) {
     let font = FontView::read(alloc, bytes).expect(rt, "a font");
     let set = font.char_set().expect(rt, "a char set");
@@ -301,7 +304,7 @@ fn names<R: Abort>(rt: &R, alloc: Global, bytes: &[u8], named: usize) {
     holds_at(rt, count == named, "names", count);
 }
 
-/// Private dictionaries without bytes may stand anywhere, and char sets may name some of the glyphs only.
+/// Private DICTs without bytes may have any offset, and charsets may name only some of the glyphs.
 #[test]
 fn odd_fonts_written(rt: HostRuntime) {
     let alloc = rt.alloc();

@@ -79,7 +79,7 @@ pub(super) const EXPERT_SUBSET: &str = "\
     oneinferior twoinferior threeinferior fourinferior fiveinferior sixinferior seveninferior \
     eightinferior nineinferior centinferior dollarinferior periodinferior commainferior";
 
-/// The identifiers of the codes of the standard encoding, from 0 to 255.
+/// The SIDs of the codes of the standard encoding, from 0 to 255.
 pub(super) const STANDARD_ENCODING: &str = "\
     0 0 0 0 0 0 0 0 0 0 0 0 0 0 0 0 0 0 0 0 0 0 0 0 0 0 0 0 0 0 0 0 1 2 3 4 5 6 7 8 9 10 11 12 13 14 \
     15 16 17 18 19 20 21 22 23 24 25 26 27 28 29 30 31 32 33 34 35 36 37 38 39 40 41 42 43 44 45 46 \
@@ -90,7 +90,7 @@ pub(super) const STANDARD_ENCODING: &str = "\
     136 137 0 0 0 0 0 0 0 0 0 0 0 0 0 0 0 0 138 0 139 0 0 0 0 140 141 142 143 0 0 0 0 0 144 0 0 0 \
     145 0 0 146 147 148 149 0 0 0 0";
 
-/// The identifiers of the codes of the expert encoding, from 0 to 255.
+/// The SIDs of the codes of the expert encoding, from 0 to 255.
 pub(super) const EXPERT_ENCODING: &str = "\
     0 0 0 0 0 0 0 0 0 0 0 0 0 0 0 0 0 0 0 0 0 0 0 0 0 0 0 0 0 0 0 0 1 229 230 0 231 232 233 234 235 \
     236 237 238 13 14 15 99 239 240 241 242 243 244 245 246 247 248 27 28 249 250 251 252 0 253 254 \

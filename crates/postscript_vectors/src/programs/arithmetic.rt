@@ -1,4 +1,4 @@
-//! Rows of arithmetic, and of the operators that work on the stack alone.
+//! Rows of arithmetic, and of the operators that only work on the stack.
 use super::Row;
 
 /// Arithmetic and truth.
@@ -12,14 +12,14 @@ pub(super) fn arithmetic() -> &'static [Row] {
         ("8c8d0c0b16", "", "HMoveTo -1 | end"),
         ("1c80008c0c0b16", "", "fault 26"), ("ff800000000c0e", "", "fault 26"),
         ("8c0c0e16", "", "HMoveTo -1 | end"),
-        // Division cuts towards zero.
+        // Division rounds towards zero.
         ("908d0c0c16", "", "HMoveTo 163840/65536 | end"),
         ("8c8e0c0c16", "", "HMoveTo 21845/65536 | end"),
         ("8a8e0c0c16", "", "HMoveTo -21845/65536 | end"),
         ("8c880c0c16", "", "HMoveTo -21845/65536 | end"),
         ("8c8b0c0c", "", "fault 27"), ("8b8b0c0c", "", "fault 27"), ("1c80008a0c0c", "", "fault 26"),
         ("1c7fffff000080000c0c", "", "fault 26"),
-        // So does multiplication.
+        // Multiplication rounds towards zero too.
         ("8d8e0c1816", "", "HMoveTo 6 | end"),
         ("ff00008000ff000080000c1816", "", "HMoveTo 16384/65536 | end"),
         ("ffffffffffff000080000c1816", "", "HMoveTo 0 | end"),
@@ -29,7 +29,7 @@ pub(super) fn arithmetic() -> &'static [Row] {
         ("8d0c1a16", "", "HMoveTo 92681/65536 | end"),
         ("ff000000010c1a16", "", "HMoveTo 256/65536 | end"),
         ("8a0c1a", "", "fault 28"),
-        // Truth is another number than zero.
+        // Any number except zero is true.
         ("8c8d0c0316", "", "HMoveTo 1 | end"),
         ("8b8c0c0316", "", "HMoveTo 0 | end"),
         ("8b8c0c0416", "", "HMoveTo 1 | end"),
@@ -39,14 +39,15 @@ pub(super) fn arithmetic() -> &'static [Row] {
         ("8c8c0c0f16", "", "HMoveTo 1 | end"),
         ("8cff000100000c0f16", "", "HMoveTo 1 | end"),
         ("8c8d0c0f16", "", "HMoveTo 0 | end"),
-        // The first where the third is at most the fourth, else the second.
+        // The first if the third is at most the fourth, and the second otherwise.
         ("8c8d8e8e0c1616", "", "HMoveTo 1 | end"),
         ("8c8d8a8b0c1616", "", "HMoveTo 1 | end"),
         ("8c8d8f8e0c1616", "", "HMoveTo 2 | end"),
     ]
 }
 
-/// The operators that work on the stack alone; the operators of both tables with too few operands; and some around a width.
+/// The operators that only work on the stack, the operators of both tables with too few operands, and some around a
+/// width.
 #[rattlefmt::skip]
 pub(super) fn stack() -> &'static [Row] {
     &[
@@ -74,7 +75,7 @@ pub(super) fn stack() -> &'static [Row] {
         ("8c0c1d", "", "fault 19"), ("8a0c1d", "", "fault 19"), ("8c8d8e8e0c1d", "", "fault 19"),
         ("0c1e", "", "fault 18"), ("8c0c1e", "", "fault 18"), ("8c8cff000080000c1e", "", "fault 18"),
         ("8cff000080008c0c1e", "", "fault 18"), ("8c8a8c0c1e", "", "fault 21"), ("8c8d8c0c1e", "", "fault 19"),
-        // Operators of this kind settle no width, and what they compute may be called.
+        // Operators of this kind settle no width, and a computed number may be called.
         ("8e8c8c0c0a16", "", "HMoveTo 2 | end | width 3"),
         ("8e8c8b0c0c", "", "fault 27"),
         ("208b0c0a0a0e", "8c160b", "HMoveTo 1 | end"),

@@ -11,11 +11,11 @@ pub(super) fn calls() -> &'static [Row] {
         // Operands pass into a subroutine and out of it.
         ("8e8c200a150e", "8d0b", "RMoveTo 1 2 | end | width 3"),
         ("8e8c8d200a0e", "150b", "RMoveTo 1 2 | end | width 3"),
-        // A subroutine that is used up ends the run.
+        // A subroutine without bytes left ends the run.
         ("200a", "8c0b", "end"),
         ("200a8c8d150e", "8c16", "HMoveTo 1 | end"),
         ("200a8d16", "210a8d16 8c16", "HMoveTo 1 | end"),
-        // An end in a subroutine leaves bytes to the outermost code alone.
+        // `endchar` in a subroutine may leave bytes only in the outermost code.
         ("200aff", "0e", "end"),
         ("8e200a", "0e", "end | width 3"),
         ("200aff", "0e0b", "fault 24"),
@@ -27,7 +27,7 @@ pub(super) fn calls() -> &'static [Row] {
         ("200a", "210a 220a 230a 240a 250a 260a 270a 280a 290a 2a0a 8c16", "fault 25"),
         ("200a", "210a 220a 230a 240a 250a 260a 270a 280a 290a 2a0a", "fault 22"),
         ("200a", "200a", "fault 25"),
-        // Calls that return leave no depth behind.
+        // Calls that return do not count towards the depth.
         ("200a200a200a200a200a200a200a200a200a200a200a0e", "0b", "end"),
         // No subroutine, no number, and no caller.
         ("8c0a", "", "fault 22"), ("200a", "", "fault 22"),
@@ -41,7 +41,7 @@ pub(super) fn calls() -> &'static [Row] {
         ("8e8c8d150b", "", "RMoveTo 1 2 | fault 23 | width 3"),
         // A phrase does not go on in another routine.
         ("200a16", "8c", "fault 1"),
-        // The mask of a subroutine is there.
+        // The mask is in the subroutine.
         ("8c8d8c8d200a0e", "13800b", "HintMask | end"),
         ("8c8d200a800e", "13", "fault 1"),
         // Stems are counted over all routines.
@@ -62,7 +62,7 @@ pub(super) const GLOBAL_CALLS: &[(&str, &str, &str, &str)] = &[
     ("201d200a0e", "908b0c140b", "8b0c15160b", "HMoveTo 5 | end"),
 ];
 
-/// So many subroutines, the last one moving and the others empty.
+/// Subroutines, of which the last one moves and the others are empty.
 pub(super) const LONG_LISTS: &[(&str, usize, &str)] = &[
     // The bias is 107, then 1131 from 1240 on, then 32768 from 33900 on.
     ("1c046b0a", 1239, "HMoveTo 1 | end"),

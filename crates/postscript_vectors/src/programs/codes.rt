@@ -26,7 +26,7 @@ pub(super) const OPERATORS: &[(u16, &str)] = &[
     (0x0c25, "Flex1"),
 ];
 
-/// An operator's code, how many operands there are, and how many of them it takes.
+/// An operator's code, the number of operands, and the number that it takes.
 #[rattlefmt::skip]
 pub(super) const LENGTHS: &[(u16, usize, Option<usize>)] = &[
     (0x1f, 11, Some(9)), (0x1f, 3, None), (0x18, 13, Some(8)), (0x19, 13, Some(12)), (0x13, 5, Some(0)),

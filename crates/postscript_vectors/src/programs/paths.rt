@@ -18,7 +18,7 @@ pub(super) fn numbers() -> &'static [Row] {
         ("8c068d07", "", "HLineTo 1 | VLineTo 2 | end"),
         ("8c8d8e06", "", "HLineTo 1 2 3 | end"),
         ("8c8d8e8f07", "", "VLineTo 1 2 3 4 | end"),
-        // Before the end: none, or the four of an accented character, beneath the width.
+        // Before the end: none, or the four of a `seac` glyph, beneath the width.
         ("8e0e", "", "end | width 3"),
         ("8c8d8e0e", "", "end | width 3"),
         ("8c8d8e8f0e", "", "end"),
@@ -35,7 +35,7 @@ pub(super) fn numbers() -> &'static [Row] {
         ("1c80001c7fff1cffff06", "", "HLineTo -32768 32767 -1 | end"),
         ("ff00010000ffffff0000ff8000000006", "", "HLineTo 1 -1 -32768 | end"),
         ("ff00008000ffffffffffff7fffffff06", "", "HLineTo 32768/65536 -1/65536 2147483647/65536 | end"),
-        // A cut number, numbers without an operator, and a cut operator.
+        // A truncated number, numbers without an operator, and a truncated operator.
         ("1c", "", "fault 1"), ("1c00", "", "fault 1"), ("f7", "", "fault 1"), ("fe", "", "fault 1"),
         ("ff000000", "", "fault 1"), ("8c8d", "", "fault 1"), ("8c0c", "", "fault 1"),
         ("8e8c8d158c", "", "RMoveTo 1 2 | fault 1 | width 3"),
@@ -43,7 +43,7 @@ pub(super) fn numbers() -> &'static [Row] {
         ("00", "", "fault 9"), ("8c02", "", "fault 9"), ("09", "", "fault 9"), ("0d", "", "fault 9"),
         ("11", "", "fault 9"), ("0c00", "", "fault 9"), ("0c26", "", "fault 9"), ("0cff", "", "fault 9"),
         ("8c8d1500", "", "RMoveTo 1 2 | fault 9"),
-        // The operator that is refused.
+        // The operator that is not supported.
         ("0c17", "", "fault 16"),
     ]
 }

@@ -12,7 +12,7 @@ pub const COLLECTION: &str =
     "74746366 00020000 00000002 00000014 00000020 00010000 0000 0000 0000 0000 74727565 \
         0000 0000 0000 0000";
 
-/// Files, the number of a face, and how it is read: how many tables it has, or its refusal.
+/// Files, the number of a face, and the result of opening it: the number of its tables, or the error.
 pub const REFUSALS: &[(&str, usize, &str)] = &[
     ("", 0, "the file is cut"),
     ("4f5454", 0, "the file is cut"),
@@ -39,8 +39,8 @@ pub const REFUSALS: &[(&str, usize, &str)] = &[
     (COLLECTION, 2, "there is no such face"),
 ];
 
-/// Names: the family for Macintosh, in German and in English; a style of Unicode; a typographic family past the end, and a
-/// typographic style for Macintosh.
+/// Names: the family for Macintosh, in German and in English; a style of Unicode; a typographic family past the end,
+/// and a typographic style for Macintosh.
 pub const NAMES: &str =
     "0000 0006 004e 0001 0000 0000 0001 0002 0000 0003 0001 0407 0001 0002 0002 0003 0001 \
         0409 0001 0006 0004 0000 0003 0000 0002 0005 000a 0003 0001 0409 0010 0004 7fff 0001 \
@@ -54,7 +54,7 @@ pub const MAPS: &[(&str, &str)] = &[
         0000 0041 0061 0070 ffff ffc0 0002 0000 0001 0000 0006 7000 0000 0005 0000",
         "40:0 41:1 43:3 44:0 61:7 62:0 70:0 ffff:0 10041:0",
     ),
-    // Format 4: segments that overlap and fall; the first that holds the character gives its glyph.
+    // Format 4: segments that overlap and decrease. The first one that contains the character gives its glyph.
     (
         "0000 0001 0000 0003 0000000c 0004 0020 0000 0004 0000 0000 0000 0060 0055 0000 0050 \
         0041 ffb1 ffdf 0000 0000",
@@ -66,7 +66,7 @@ pub const MAPS: &[(&str, &str)] = &[
         00000009 00020000 00020001 0000ffff",
         "41:0 1f600:9 1f602:11 1f603:0 20000:65535 20001:0",
     ),
-    // Format 12: groups that overlap and fall.
+    // Format 12: groups that overlap and decrease.
     (
         "0000 0001 0000 0004 0000000c 000c 0000 00000028 00000000 00000002 00000030 00000039 \
         00000005 00000020 0000007e 00000001",
@@ -89,7 +89,7 @@ pub const MAPS: &[(&str, &str)] = &[
         0041 0001 0001 0006 000c 0000 0041 0001 0002 0006 000c 0000 0041 0001 0003",
         "41:2",
     ),
-    // The choice: the first plane for Windows; no other platform.
+    // The choice: the first plane for Windows, and no other platform.
     (
         "0000 0003 0001 0000 0000001c 0000 0003 00000028 0003 0001 00000034 0006 000c 0000 \
         0041 0001 0001 0006 000c 0000 0041 0001 0002 0006 000c 0000 0041 0001 0003",
@@ -97,37 +97,38 @@ pub const MAPS: &[(&str, &str)] = &[
     ),
 ];
 
-/// The row of a map, and all of its characters that have a glyph, as its segments, groups or row tell them.
+/// The row of a map, and all of its characters that have a glyph, by its segments, groups or row.
 pub const NEXT: &[(usize, &str)] = &[
     (0, "41:1 42:2 43:3 61:7 "),
     (2, "1f600:9 1f601:10 1f602:11 20000:65535 "),
     (4, "41:7 42:9 "),
 ];
 
-/// Tables `cmap` of which none is read.
+/// Tables `cmap` that are not readable.
 pub const NO_MAPS: &[&str] = &[
     // An empty table.
     "",
-    // Macintosh alone.
+    // Only Macintosh.
     "0000 0001 0001 0000 0000000c 0006 000c 0000 0041 0001 0001",
-    // A place past the end.
+    // An offset past the end.
     "0000 0001 0003 0001 000000ff 0006 000c 0000 0041 0001 0001",
     // Format 2.
     "0000 0001 0003 0001 0000000c 0002 0000",
-    // A row that is cut.
+    // A truncated row.
     "0000 0001 0003 0001 0000000c 0006 000c 0000 0041 0002 0001",
-    // A group that is cut.
+    // A truncated group.
     "0000 0001 0003 000a 0000000c 000c 0000 00000010 00000000 00000001",
-    // A segment that is cut.
+    // A truncated segment.
     "0000 0001 0003 0001 0000000c 0004 0010 0000 0002 0000 0000 0000 0000",
 ];
 
-/// A table `post` of version 2.0: `.notdef`, `A` and `dcroat` of the standard Macintosh set, two strings, and one that is cut.
+/// A `post` table of version 2.0: `.notdef`, `A` and `dcroat` of the standard Macintosh set, two strings, and a
+/// truncated one.
 pub const POST: &str =
     "00020000 00000000 00000000 00000000 00000000 00000000 00000000 00000000 0006 0000 0024 \
         0101 0102 0103 0104 05 616c706861 05 622e616c74 03 78";
 
-/// Tables `post` without names: cut before the count, and behind it; of version 3.0.
+/// `post` tables without names: truncated before the count, and after it, and one of version 3.0.
 pub const NO_POSTS: &[&str] = &[
     "00020000 00000000 00000000 00000000 00000000 00000000 00000000 00000000 00",
     "00020000 00000000 00000000 00000000 00000000 00000000 00000000 00000000 0001 00",
