@@ -1,4 +1,4 @@
-//! A small table, and the same where it is cut or changed.
+//! A small table, and truncated and changed versions of it.
 use crate::checks::{holds, holds_at};
 use crate::small::TABLE;
 use postscript_cff2::{Error, FdSelect, Font};

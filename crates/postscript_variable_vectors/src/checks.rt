@@ -1,15 +1,15 @@
-//! How a test fails, and the tables of scalars that charstrings are read over.
+//! How a test fails, and the scalars with which charstrings are read.
 use std::alloc::Global;
 use std::process::Abort;
 
-/// Fails the test where a fact does not hold, and names the fact.
+/// Fails the test if a fact does not hold, and names the fact.
 pub fn holds<R: Abort>(rt: &R, is_so: bool, fact: &str) {
     if !is_so {
         rt.panic(fact)
     }
 }
 
-/// Fails the test where a fact does not hold, and names the row.
+/// Fails the test if a fact does not hold, and names the row.
 pub fn holds_at<R: Abort>(rt: &R, is_so: bool, fact: &str, row: usize) {
     if !is_so {
         panic!(rt; "{fact}, at row {row}")

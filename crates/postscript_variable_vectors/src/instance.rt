@@ -1,4 +1,4 @@
-//! Charstrings and static fonts by hand, by the specifications' rules.
+//! Hand-made charstrings and static fonts, by the rules of the specifications.
 use crate::checks::{holds, tables};
 use crate::small::TABLE;
 use postscript_base::Error as Cause;
@@ -16,7 +16,7 @@ use postscript_view::FontView;
 use std::alloc::Global;
 use std::process::Abort;
 
-/// A charstring over these scalars.
+/// A charstring with these scalars.
 fn over<'l>(code: &'l [u8], tables: &'l [Vec<u32>]) -> Charstring<'l> {
     Charstring {
         code,
@@ -72,24 +72,24 @@ fn rows(rt: HostRuntime) {
     }
 }
 
-/// What is refused, each by its name.
+/// Charstrings that are rejected, and the name of each error.
 #[test]
 fn refusals(rt: HostRuntime) {
     let tables = tables(&rt, rt.alloc());
     let width = Some(Operand::from_int(1));
-    // an operator that CFF2 has not
+    // an operator that CFF2 does not have
     let found = charstring(rt.alloc(), over(&[0x0e], &tables), None);
     holds(
         &rt,
         matches!(found, Err(Error::Font(Cause::UnknownOperator))),
         "endchar",
     );
-    // a line before a move, where there is a width, and where there is none
+    // a line before a move, with a width and without one
     let found = charstring(rt.alloc(), over(&[0x95, 0x06], &tables), width);
     holds(&rt, matches!(found, Err(Error::NoMove)), "hlineto");
     let found = charstring(rt.alloc(), over(&[0x95, 0x06], &tables), None);
     holds(&rt, matches!(found, Ok(_)), "hlineto");
-    // the operands of 24 stems, and of 25; with a width beside the 24; implied by a mask, with its four bytes
+    // the operands of 24 stems, and of 25, with a width and the 24, implied by a mask, with its four bytes
     let rows: [(usize, &[u8], Option<i16>, bool); 5] = [
         (48, &[0x12], None, true),
         (50, &[0x12], None, false),
@@ -116,7 +116,7 @@ fn refusals(rt: HostRuntime) {
     }
 }
 
-/// Appends the number 1, so many times.
+/// Appends the number 1 `count` times.
 fn put_ones<R: Abort>(rt: &R, code: &mut Vec<u8>, count: usize) {
     for _ in 0..count {
         code.push(0x8c).expect(rt, "memory");
@@ -134,25 +134,28 @@ const RISING: &[u8] = &[
     0xec, 0xed, 0xee, 0xef, 0xf0,
 ];
 
-/// Appends the numbers from one place to another, and an operator.
+/// Appends the numbers from one index to another, and an operator.
 fn put_numbers<R: Abort>(rt: &R, code: &mut Vec<u8>, from: usize, to: usize, operator: u8) {
     let numbers = RISING.get(from..to).expect(rt, "numbers");
     code.extend_from_slice(numbers).expect(rt, "memory");
     code.push(operator).expect(rt, "memory");
 }
 
-/// Appends pieces: the numbers from one place to another of each, and its operator.
+/// Appends pieces: for each, the numbers from one index to another, and its operator.
 fn put_pieces<R: Abort>(rt: &R, code: &mut Vec<u8>, pieces: &[(usize, usize, u8)]) {
     for (from, to, operator) in pieces {
         put_numbers(rt, code, *from, *to, *operator);
     }
 }
 
-/// Path operators with more operands than a stack holds. Each row: the operator, how many operands it has, and the pieces: from which
-/// operand to which each goes, and its operator. A piece of lines or curves has whole ones; those that turn have an even number of
-/// them, so that the next piece begins along the axis of its operator; the operand before the first curve of vvcurveto and hhcurveto is
-/// in the first piece, that behind the last curve of vhcurveto and hvcurveto in the last, and so are the line of rcurveline and the
-/// curve of rlinecurve.
+/// Path operators with more operands than a stack can have.
+///
+/// Each row is the operator, the number of its operands, and the pieces: the range of operands of each, and its
+/// operator. Pieces contain whole lines or curves. If their directions alternate, a piece has an even number of them,
+/// so that the next one begins along the axis of its operator.
+///
+/// The operand before the first curve of vvcurveto and hhcurveto is in the first piece. The operand after the last
+/// curve of vhcurveto and hvcurveto is in the last piece. So are the line of rcurveline and the curve of rlinecurve.
 #[test]
 fn pieces(rt: HostRuntime) {
     let tables = tables(&rt, rt.alloc());
@@ -196,17 +199,17 @@ fn pieces(rt: HostRuntime) {
     }
 }
 
-/// A table `hhea` that tells two advances, and nothing else.
+/// A `hhea` table with two advances, and nothing else.
 const HEADER: &[u8] = &[
     0x00, 0x01, 0x00, 0x00, 0x00, 0x00, 0x00, 0x00, 0x00, 0x00, 0x00, 0x00, 0x00, 0x00, 0x00, 0x00,
     0x00, 0x00, 0x00, 0x00, 0x00, 0x00, 0x00, 0x00, 0x00, 0x00, 0x00, 0x00, 0x00, 0x00, 0x00, 0x00,
     0x00, 0x00, 0x00, 0x02,
 ];
 
-/// A table `hmtx` with the advances 600 and 500.
+/// A `hmtx` table with the advances 600 and 500.
 const METRICS: &[u8] = &[0x02, 0x58, 0x00, 0x00, 0x01, 0xf4, 0x00, 0x00];
 
-/// A table `HVAR` whose store has one region, which rises from 0 to 1; the advances of two glyphs vary by 10 and -21.
+/// A `HVAR` table whose store has one region, which rises from 0 to 1. The advances of two glyphs vary by 10 and -21.
 const VARIED: &[u8] = &[
     0x00, 0x01, 0x00, 0x00, 0x00, 0x00, 0x00, 0x14, 0x00, 0x00, 0x00, 0x00, 0x00, 0x00, 0x00, 0x00,
     0x00, 0x00, 0x00, 0x00, 0x00, 0x01, 0x00, 0x00, 0x00, 0x0c, 0x00, 0x01, 0x00, 0x00, 0x00, 0x16,
@@ -214,7 +217,7 @@ const VARIED: &[u8] = &[
     0x00, 0x00, 0x0a, 0xeb,
 ];
 
-/// The advances of these tables at a place, with a table `HVAR` or none.
+/// The advances of these tables at a location, with or without a `HVAR` table.
 fn advances_at<'l, R: Abort>(
     rt: &R,
     hvar: Option<&'l [u8]>,
@@ -230,7 +233,7 @@ fn advances_at<'l, R: Abort>(
     }
 }
 
-/// The table at a place, with advances and no names.
+/// The table at a location, with advances and no names.
 fn numbered<R: Abort>(
     rt: &R,
     alloc: Global,
@@ -248,9 +251,9 @@ fn numbered<R: Abort>(
     table(alloc, &font, &naming, &advances).expect(rt, "a table")
 }
 
-/// The table at places of its axis: the second glyph, by hand, is 100 10 -20 1 blend 50 rmoveto 10 20 rlineto -30 hlineto, where the
-/// regions rise from 0 to 1 and from 0 to -1. The advances are 600 and 500, and at 1/2 605 and, of 489.5 the nearest and higher, 490: the
-/// width 490 is 247 + 1 and 490 - 108 - 256.
+/// The table at locations on its axis. The second glyph is 100 10 -20 1 blend 50 rmoveto 10 20 rlineto -30 hlineto, and
+/// the regions rise from 0 to 1 and from 0 to -1. The advances are 600 and 500 at the default. At 1/2 the first is 605.
+/// The second is 490, since 489.5 is rounded up. The width 490 is spelled as 247 + 1 and 490 - 108 - 256.
 #[test]
 fn a_table_at_places(rt: HostRuntime) {
     let rows: [(i16, [u8; 3], [u8; 3]); 3] = [
@@ -284,7 +287,7 @@ fn a_table_at_places(rt: HostRuntime) {
     }
 }
 
-/// The glyphs alone: in whole units the second is the same, since its numbers are whole; and there is no third.
+/// Only the glyphs. In whole units the second is the same, since its numbers are whole, and there is no third.
 #[test]
 fn glyphs_alone(rt: HostRuntime) {
     let font = Font::read(TABLE).expect(&rt, "the font");
@@ -311,8 +314,8 @@ fn glyphs_alone(rt: HostRuntime) {
     );
 }
 
-/// Advances at places: past the list it is the last one, which varies by nothing there; -9 has no room, at -1 of a region that falls by
-/// 609.
+/// Advances at locations. After the end of the list the last one is used, which does not vary there. A variation by
+/// -609 gives -9, which is not a valid advance.
 #[test]
 fn advances(rt: HostRuntime) {
     let at = advances_at(&rt, Some(VARIED), &[16384]);
@@ -345,8 +348,8 @@ fn advances(rt: HostRuntime) {
     holds(&rt, matches!(found, Err(Error::Advance(0))), "no room");
 }
 
-/// A table of three glyphs, written by hand by the specification, with FontMatrix 0.0005 0 0 0.0005 0 0 in its Top DICT, and two Font
-/// DICTs, whose Private DICTs have StdVW 80 and 90; by FDSelect the second glyph has the second. fontTools 4.38 reads it so.
+/// A hand-made table of three glyphs. Its Top DICT has FontMatrix 0.0005 0 0 0.0005 0 0. Its two Font DICTs have
+/// Private DICTs with StdVW 80 and 90. By FDSelect the second glyph has the second one. fontTools 4.38 reads it so.
 const TWO: &[u8] = &[
     0x02, 0x00, 0x05, 0x00, 0x22, 0x1e, 0xa0, 0x00, 0x5f, 0x8b, 0x8b, 0x1e, 0xa0, 0x00, 0x5f, 0x8b,
     0x8b, 0x0c, 0x07, 0x1d, 0x00, 0x00, 0x00, 0x2b, 0x11, 0x1d, 0x00, 0x00, 0x00, 0x3d, 0x0c, 0x24,
@@ -356,8 +359,9 @@ const TWO: &[u8] = &[
     0x00, 0x55, 0x12, 0xdb, 0x0b, 0xe5, 0x0b,
 ];
 
-/// FontMatrix, FDSelect and the Private DICTs of a static table. The Top DICT begins at 19, behind the header, an INDEX of the name
-/// `Small`, and the count and the offsets of its own; its FontMatrix stands behind the nine bytes of ROS.
+/// FontMatrix, FDSelect and the Private DICTs of a static table. The Top DICT begins at 19, after the header, an INDEX
+/// with the name `Small`, and the count and the offsets of its own INDEX. Its FontMatrix is after the nine bytes of
+/// ROS.
 #[test]
 fn matrix_and_font_dictionaries(rt: HostRuntime) {
     let bytes = numbered(&rt, rt.alloc(), TWO, None, 0);
@@ -376,9 +380,8 @@ fn matrix_and_font_dictionaries(rt: HostRuntime) {
     }
 }
 
-/// The same table, whose Private DICT has hints: `vsindex` 1, BlueValues -10 10, blended by 3 0 and 0 0, StdVW 80, blended by 20 0, and
-/// BlueScale
-/// 0.039625. fontTools 4.38 reads it so.
+/// The same table with hints in its Private DICT. These are `vsindex` 1, BlueValues -10 10 blended by 3 0 and 0 0,
+/// StdVW 80 blended by 20 0, and BlueScale 0.039625. fontTools 4.38 reads it so.
 const HINTED: &[u8] = &[
     0x02, 0x00, 0x05, 0x00, 0x13, 0x1d, 0x00, 0x00, 0x00, 0x22, 0x11, 0x1d, 0x00, 0x00, 0x00, 0x35,
     0x0c, 0x24, 0x1d, 0x00, 0x00, 0x00, 0x66, 0x18, 0x00, 0x00, 0x00, 0x01, 0x01, 0x01, 0x04, 0x95,
@@ -392,10 +395,10 @@ const HINTED: &[u8] = &[
     0x00, 0x00, 0x00, 0x00, 0x00, 0x02, 0x00, 0x00, 0x00, 0x01,
 ];
 
-/// The names of its glyphs, of which one is no standard string.
+/// The names of its glyphs, of which one is not a standard string.
 const NAMES: [&[u8]; 2] = [b".notdef", b"alpha"];
 
-/// The table of a font at a place, whose glyphs have these names.
+/// The table of a font at a location, with these glyph names.
 fn called<R: Abort>(
     rt: &R,
     alloc: Global,
@@ -413,14 +416,14 @@ fn called<R: Abort>(
     table(alloc, &font, &naming, &advances).expect(rt, "a table")
 }
 
-/// The table at a place, with names.
+/// The table at a location, with names.
 fn named<R: Abort>(rt: &R, alloc: Global, coordinate: i16) -> Vec<u8> {
     called(rt, alloc, HINTED, &NAMES, coordinate)
 }
 
-/// The hints at places: by hand, at 1/2 the zone is from -8.5 to 1.5, and so from -8 to 2, and the stem is 90 wide; at -1, where the
-/// second region is
-/// 1, all are as at the default, and at 1 the zone is from -7 to 3, and the stem is 100 wide. The Private DICT is the last part.
+/// The hints at locations. At 1/2 the zone is from -8.5 to 1.5, and so from -8 to 2, and the stem is 90 wide. At -1 the
+/// second region is 1, and all hints are as at the default. At 1 the zone is from -7 to 3, and the stem is 100 wide.
+/// The Private DICT is the last part.
 #[test]
 fn hints_at_places(rt: HostRuntime) {
     let rows: [(i16, [u8; 3], u8); 4] = [
@@ -440,7 +443,7 @@ fn hints_at_places(rt: HostRuntime) {
     }
 }
 
-/// The names of glyphs; and the same table in whole units, since all its numbers are whole.
+/// The names of glyphs, and the same table in whole units, since all its numbers are whole.
 #[test]
 fn names_of_glyphs(rt: HostRuntime) {
     let bytes = named(&rt, rt.alloc(), 0);
@@ -472,7 +475,7 @@ fn names_of_glyphs(rt: HostRuntime) {
     holds(&rt, matches!(few, Err(Error::OtherNames)), "one name");
 }
 
-/// Appends numbers, each in eighths of a unit, as their 16.16 bits behind ff.
+/// Appends numbers in eighths of a unit as 16.16 numbers after ff.
 fn put_eighths<R: Abort>(rt: &R, code: &mut Vec<u8>, numbers: &[i32]) {
     for number in numbers {
         code.push(0xff).expect(rt, "memory");
@@ -482,8 +485,8 @@ fn put_eighths<R: Abort>(rt: &R, code: &mut Vec<u8>, numbers: &[i32]) {
     }
 }
 
-/// Operators in whole units. Each row: operators with their operands in eighths of a unit, and the bytes of the mask behind them; and the
-/// charstring in whole units, by hand. A number n from -107 to 107 is the byte 139 + n.
+/// Operators in whole units. Each row has operators with their operands in eighths of a unit, and the bytes of the mask
+/// after them. The last column is the charstring in whole units. A number n from -107 to 107 is the byte 139 + n.
 #[test]
 fn whole_units(rt: HostRuntime) {
     let tables = tables(&rt, rt.alloc());
@@ -532,8 +535,8 @@ fn whole_units(rt: HostRuntime) {
                 0xbd, 0x0c, 0x23, 0x0e,
             ],
         ),
-        // flex1 goes 1.25 right and 1.125 up by five vectors, so its last operand is x, and y goes back: x at 0.25, 0.5, 0.75, 1, 1.25
-        // and 1.5, y at 0.25, 0.5, 0.75, 1, 1.125 and 0
+        // flex1 goes 1.25 right and 1.125 up by five vectors, so its last operand is x, and y goes back: x at 0.25,
+        // 0.5, 0.75, 1, 1.25 and 1.5, y at 0.25, 0.5, 0.75, 1, 1.125 and 0
         (
             &[
                 (&[0], &[0x16]),
@@ -567,7 +570,7 @@ fn whole_units(rt: HostRuntime) {
     }
 }
 
-/// The width stays as it is given; in whole units 32767.5 leads too far, and 32767.25 and -32768 do not.
+/// The width stays as it is given. In whole units 32767.5 is out of range, but 32767.25 and -32768 are not.
 #[test]
 fn whole_units_in_range(rt: HostRuntime) {
     let tables = tables(&rt, rt.alloc());
@@ -594,8 +597,8 @@ fn whole_units_in_range(rt: HostRuntime) {
     }
 }
 
-/// A table of seven glyphs that say nothing, written by hand by the specification: the charstrings at 22, a Font DICT at 35, and its
-/// Private DICT at 49, whose StdVW is 80. fontTools 4.38 reads it so.
+/// A hand-made table of seven glyphs without operators. The charstrings are at 22, a Font DICT at 35, and its Private
+/// DICT at 49, with StdVW 80. fontTools 4.38 reads it so.
 const SEVEN: &[u8] = &[
     0x02, 0x00, 0x05, 0x00, 0x0d, 0x1d, 0x00, 0x00, 0x00, 0x16, 0x11, 0x1d, 0x00, 0x00, 0x00, 0x23,
     0x0c, 0x24, 0x00, 0x00, 0x00, 0x00, 0x00, 0x00, 0x00, 0x07, 0x01, 0x01, 0x01, 0x01, 0x01, 0x01,
@@ -603,15 +606,15 @@ const SEVEN: &[u8] = &[
     0x12, 0xdb, 0x0b,
 ];
 
-/// The same of three glyphs: the Font DICT stands at 31, and its Private DICT at 45.
+/// The same with three glyphs: the Font DICT is at 31, and its Private DICT at 45.
 const THREE: &[u8] = &[
     0x02, 0x00, 0x05, 0x00, 0x0d, 0x1d, 0x00, 0x00, 0x00, 0x16, 0x11, 0x1d, 0x00, 0x00, 0x00, 0x1f,
     0x0c, 0x24, 0x00, 0x00, 0x00, 0x00, 0x00, 0x00, 0x00, 0x03, 0x01, 0x01, 0x01, 0x01, 0x01, 0x00,
     0x00, 0x00, 0x01, 0x01, 0x01, 0x08, 0x8d, 0x1d, 0x00, 0x00, 0x00, 0x2d, 0x12, 0xdb, 0x0b,
 ];
 
-/// Char sets: A, B, C, D are 34 to 37, and names that are no standard strings begin with 391. In ranges six of them take 9 bytes; the
-/// two of the other row take fewer in a list.
+/// Charsets. A, B, C, D are 34 to 37, and names that are not standard strings begin with 391. In ranges six of them
+/// take 9 bytes. The two of the other row take fewer in a list.
 #[test]
 fn char_sets(rt: HostRuntime) {
     let long: [&[u8]; 7] = [b".notdef", b"A", b"B", b"C", b"D", b"alpha", b"beta"];

@@ -1,8 +1,8 @@
 //! A small font.
 
-/// A table of two glyphs, written by hand by the specification: the Top DICT at 5, a global subroutine at 24, the charstrings at
-/// 34, a Font DICT at 53, its Private DICT at 67 with a local subroutine and `vsindex` 1, and the variation store at 82, of two
-/// item variation data of one and of two regions. fontTools 4.38 reads it so.
+/// A hand-made table of two glyphs. The Top DICT is at 5, a global subroutine at 24, the charstrings at 34, and a Font
+/// DICT at 53. Its Private DICT is at 67, with a local subroutine and `vsindex` 1. The variation store is at 82, with
+/// two item variation data of one and of two regions. fontTools 4.38 reads it so.
 pub const TABLE: &[u8] = &[
     0x02, 0x00, 0x05, 0x00, 0x13, 0x1d, 0x00, 0x00, 0x00, 0x22, 0x11, 0x1d, 0x00, 0x00, 0x00, 0x35,
     0x0c, 0x24, 0x1d, 0x00, 0x00, 0x00, 0x50, 0x18, 0x00, 0x00, 0x00, 0x01, 0x01, 0x01, 0x04, 0x95,

@@ -1,4 +1,4 @@
-//! Charstrings by hand, by the specification's rules.
+//! Hand-made charstrings, by the rules of the specifications.
 use crate::checks::{holds_at, tables};
 use postscript_base::Error;
 use postscript_type2::{Operand, Operator, Subroutines, Within};
@@ -6,7 +6,7 @@ use postscript_variable::{Blends, Charstring, Program};
 use std::alloc::Global;
 use std::process::Abort;
 
-/// A charstring over these global subroutines and scalars.
+/// A charstring with these global subroutines and scalars.
 fn over<'l>(code: &'l [u8], global: &'l [Vec<u8>], tables: &'l [Vec<u32>]) -> Charstring<'l> {
     Charstring {
         code,
@@ -79,7 +79,7 @@ fn first_operations(rt: HostRuntime) {
     }
 }
 
-/// The number of the refusal of a step, 0 where there is none.
+/// The code of the error of a step, 0 if there is none.
 fn refusal_of(program: &mut Program<'_>) -> u8 {
     match program.step() {
         Ok(_) => 0,
@@ -87,7 +87,7 @@ fn refusal_of(program: &mut Program<'_>) -> u8 {
     }
 }
 
-/// Each row: a charstring, and what its first step is refused with, by which the next one stays refused.
+/// Each row: a charstring, and the error of its first step. The next step fails with `AlreadyFailed`.
 #[test]
 fn refusals(rt: HostRuntime) {
     let tables = tables(&rt, rt.alloc());
@@ -117,7 +117,7 @@ fn refusals(rt: HostRuntime) {
     }
 }
 
-/// Two subroutines: 0 calls itself, 1 says 100 50 rmoveto.
+/// Two subroutines: 0 calls itself, and 1 is 100 50 rmoveto.
 fn routines<R: Abort>(rt: &R, alloc: Global) -> Vec<Vec<u8>> {
     let mut global = Vec::new(alloc);
     let own = Vec::from_array(alloc, [0x20, 0x1d]).expect(rt, "memory");
@@ -127,7 +127,7 @@ fn routines<R: Abort>(rt: &R, alloc: Global) -> Vec<Vec<u8>> {
     global
 }
 
-/// Each row: how many times the operand 0 stands before `hlineto`, and the number of the refusal.
+/// Each row: the number of operands 0 before `hlineto`, and the code of the error.
 #[test]
 fn operands_at_their_limit(rt: HostRuntime) {
     let tables = tables(&rt, rt.alloc());
@@ -141,7 +141,8 @@ fn operands_at_their_limit(rt: HostRuntime) {
     }
 }
 
-/// A routine that calls itself; and -107 10 -16 1 blend callgsubr: -107 + 5 - 4 is the number of the subroutine 1.
+/// A routine that calls itself. Then -107 10 -16 1 blend callgsubr, whose -107 + 5 - 4 is the number of the subroutine
+/// 1.
 #[test]
 fn calls(rt: HostRuntime) {
     let tables = tables(&rt, rt.alloc());
@@ -157,13 +158,13 @@ fn calls(rt: HostRuntime) {
     }
 }
 
-/// Whether a program tells an operation within a limit.
+/// Whether a program gives an operation within a limit.
 fn tells(program: &mut Program<'_>, limit: &mut u64) -> bool {
     matches!(program.step_within(limit), Ok(Within::Operation(..)))
 }
 
-/// 100 10 -20 1 blend 50 rmoveto: seven bytes, and the blend stands over four operands. Each row: a limit, what is left of it, and
-/// whether the operation comes.
+/// 100 10 -20 1 blend 50 rmoveto: seven bytes, and the blend has four operands on the stack. Each row: a limit, the
+/// rest of it, and whether the operation is given.
 #[test]
 fn a_limit(rt: HostRuntime) {
     let tables = tables(&rt, rt.alloc());

@@ -1,4 +1,4 @@
-//! A small font drawn at places of its axis.
+//! A small font drawn at locations on its axis.
 use crate::checks::{holds, holds_at};
 use crate::small::TABLE;
 use postscript_cff2::Font;
@@ -15,8 +15,9 @@ fn point(x: i16, y: i16) -> Point {
     }
 }
 
-/// The second glyph, by hand: 100 10 -20 1 blend 50 rmoveto, where the regions rise from 0 to 1 and from 0 to -1; then 10 20 rlineto
-/// and -30 hlineto. It takes 11 bytes, and 3 and 2 of its subroutines, and the blend stands over four operands: 20 in all.
+/// The second glyph is 100 10 -20 1 blend 50 rmoveto, with regions that rise from 0 to 1 and from 0 to -1. Then 10 20
+/// rlineto and -30 hlineto follow. It takes 11 bytes, and 3 and 2 of its subroutines, and the blend has four operands
+/// on the stack: 20 in all.
 #[test]
 fn a_glyph_at_places(rt: HostRuntime) {
     let font = Font::read(TABLE).expect(&rt, "the font");
@@ -44,7 +45,7 @@ fn a_glyph_at_places(rt: HostRuntime) {
     }
 }
 
-/// A limit that is too short, and a glyph that is not there.
+/// A limit that is too short, and a glyph that does not exist.
 #[test]
 fn glyphs_that_are_not_drawn(rt: HostRuntime) {
     let font = Font::read(TABLE).expect(&rt, "the font");

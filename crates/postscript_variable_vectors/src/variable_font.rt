@@ -1,11 +1,11 @@
-//! A small font at places of its axis.
+//! A small font at locations on its axis.
 use crate::checks::{holds, holds_at};
 use crate::small::TABLE;
 use postscript_cff2::Font;
 use postscript_type2::{Operand, Operator};
 use postscript_variable_font::{Place, charstring};
 
-/// Whether an operation has this operator, and of so many operands these whole numbers as the first and the last.
+/// Whether an operation has this operator and number of operands, and these integers as the first and the last.
 fn is(
     found: Option<(Operator, &[Operand])>,
     operator: Operator,
@@ -24,8 +24,8 @@ fn is(
     }
 }
 
-/// The second glyph, by hand: 100 10 -20 1 blend 50 rmoveto, where the regions rise from 0 to 1 and from 0 to -1; then a line in the
-/// global subroutine, and one in the local.
+/// The second glyph is 100 10 -20 1 blend 50 rmoveto, with regions that rise from 0 to 1 and from 0 to -1. Then a line
+/// in the global subroutine follows, and one in the local.
 #[test]
 fn a_glyph_at_places(rt: HostRuntime) {
     let font = Font::read(TABLE).expect(&rt, "the font");

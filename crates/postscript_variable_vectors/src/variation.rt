@@ -1,4 +1,4 @@
-//! Tables as fontTools 4.38 writes them, and what it computes of them; coordinates in 16.16 are computed by hand.
+//! Tables as fontTools 4.38 writes them, and its results for them. Coordinates in 16.16 are computed by hand.
 use crate::checks::{holds, holds_at};
 use postscript_variation::{
     AdvanceVariations, Axes, Error, FULL, Maps, MetricVariations, Result, Setting, Span, Store,
@@ -7,7 +7,8 @@ use postscript_variation::{
 use std::alloc::Global;
 use std::process::Abort;
 
-/// Axes: wght 100, 400, 900; wdth 75, 100, 125, hidden. An instance of wght 700 and wdth 87.5 with a PostScript name.
+/// Axes: wght 100, 400, 900, and wdth 75, 100, 125, hidden. An instance of wght 700 and wdth 87.5 with a PostScript
+/// name.
 const FVAR: &[u8] = &[
     0x00, 0x01, 0x00, 0x00, 0x00, 0x10, 0x00, 0x02, 0x00, 0x02, 0x00, 0x14, 0x00, 0x01, 0x00, 0x0e,
     0x77, 0x67, 0x68, 0x74, 0x00, 0x64, 0x00, 0x00, 0x01, 0x90, 0x00, 0x00, 0x03, 0x84, 0x00, 0x00,
@@ -16,14 +17,15 @@ const FVAR: &[u8] = &[
     0x00, 0x57, 0x80, 0x00, 0x01, 0x03,
 ];
 
-/// Of wght 0.25 becomes 0.5; wdth is as it is.
+/// wght 0.25 becomes 0.5, and wdth stays.
 const AVAR: &[u8] = &[
     0x00, 0x01, 0x00, 0x00, 0x00, 0x00, 0x00, 0x02, 0x00, 0x04, 0xc0, 0x00, 0xc0, 0x00, 0x00, 0x00,
     0x00, 0x00, 0x10, 0x00, 0x20, 0x00, 0x40, 0x00, 0x40, 0x00, 0x00, 0x03, 0xc0, 0x00, 0xc0, 0x00,
     0x00, 0x00, 0x00, 0x00, 0x40, 0x00, 0x40, 0x00,
 ];
 
-/// Regions: wght from 0 to 1; the same, and wdth from 0 to -1. Delta sets: 100, -50; 300, 7. The store stands at byte 20.
+/// Regions: wght from 0 to 1, and the same with wdth from 0 to -1. Delta sets: 100, -50, and 300, 7. The store is at
+/// byte 20.
 const HVAR: &[u8] = &[
     0x00, 0x01, 0x00, 0x00, 0x00, 0x00, 0x00, 0x14, 0x00, 0x00, 0x00, 0x00, 0x00, 0x00, 0x00, 0x00,
     0x00, 0x00, 0x00, 0x00, 0x00, 0x01, 0x00, 0x00, 0x00, 0x0c, 0x00, 0x01, 0x00, 0x00, 0x00, 0x28,
@@ -60,7 +62,7 @@ const UNDO: u32 = 0x756e646f;
 
 const XHGT: u32 = 0x78686774;
 
-/// A place: wght 0.5, wdth -0.5.
+/// A location: wght 0.5, wdth -0.5.
 const PLACE: [i16; 2] = [8192, -8192];
 
 /// A value in units of 2 ^ -16.
@@ -68,7 +70,7 @@ fn fixed(value: i16) -> i32 {
     i32::from(value) * 65536
 }
 
-/// The axes, an instance, and how many maps there are.
+/// The axes, an instance, and the number of maps.
 #[test]
 fn axes_and_instances(rt: HostRuntime) {
     let axes = Axes::read(FVAR).expect(&rt, "axes");
@@ -94,12 +96,12 @@ fn axes_and_instances(rt: HostRuntime) {
     holds(&rt, axes.coordinate(0, 1) == Some(5734400), "its place");
 }
 
-/// A setting of an axis.
+/// The user coordinate of an axis.
 fn setting(tag: u32, value: i32) -> Setting {
     Setting { tag, value }
 }
 
-/// Each row: a value of wght, and what it is normalized, mapped, and as a coordinate.
+/// Each row: a value of wght, and the normalized value, the mapped value, and the coordinate.
 #[test]
 fn coordinates(rt: HostRuntime) {
     let axes = Axes::read(FVAR).expect(&rt, "axes");
@@ -131,7 +133,7 @@ fn coordinates(rt: HostRuntime) {
     holds(&rt, axes.normalized(0, None, &[]) == 0, "the default");
 }
 
-/// A store of two delta sets, and a scalar that is cut.
+/// A store of two delta sets, and a truncated scalar.
 #[test]
 fn deltas(rt: HostRuntime) {
     let store = Store::read(HVAR, 20).expect(&rt, "a store");
@@ -147,7 +149,7 @@ fn deltas(rt: HostRuntime) {
     holds(&rt, span.scaled(FULL, 3346) == 13528, "a scalar");
 }
 
-/// What the glyphs of the rows vary by: by which delta set each.
+/// The delta set by which each glyph of the rows varies.
 #[test]
 fn variations_of_advances(rt: HostRuntime) {
     let rows: [(&[u8], [usize; 3]); 2] = [(HVAR, [0, 1, 2]), (HVAR_MAP, [1, 0, 1])];
@@ -185,7 +187,7 @@ fn whole_units(rt: HostRuntime) {
     }
 }
 
-/// Which reader a table is given to.
+/// The reader for a table.
 #[derive(Clone, Copy)]
 enum Table {
     Fvar,
@@ -194,7 +196,7 @@ enum Table {
     Mvar,
 }
 
-/// What a reader answers.
+/// The result of a reader.
 fn read(table: Table, bytes: &[u8]) -> Result<()> {
     match table {
         Table::Fvar => Axes::read(bytes).map(|_| ()),
@@ -212,7 +214,7 @@ fn changed<R: Abort>(rt: &R, alloc: Global, table: &[u8], place: usize, byte: u8
     bytes
 }
 
-/// Tables that are cut: how many of their bytes are left.
+/// Truncated tables, with the number of bytes that are left.
 #[test]
 fn cut_tables(rt: HostRuntime) {
     let rows = [
@@ -231,7 +233,7 @@ fn cut_tables(rt: HostRuntime) {
     }
 }
 
-/// Tables of another format: a place, and the byte that is changed there.
+/// Tables of another format: an offset, and the new value of its byte.
 #[test]
 fn unknown_tables(rt: HostRuntime) {
     let rows = [
@@ -252,7 +254,7 @@ fn unknown_tables(rt: HostRuntime) {
     }
 }
 
-/// More axes than maps, than coordinates, or than regions have.
+/// More axes than maps, coordinates, or regions.
 #[test]
 fn other_counts_of_axes(rt: HostRuntime) {
     let axes = Axes::read(FVAR).expect(&rt, "axes");
