@@ -1,4 +1,4 @@
-//! Axes of variable fonts.
+//! The axes of variable fonts.
 ghost use Rattle.std.specs.Prelude.{◌≡◌, pos, IfErr, IfOk};
 ghost use Rattle.postscript_c.specs.Axes.{HasAxes, HasBadAxes, TellsAxis, TellsAxisIn, TellsAxisOf, axes_code, axis_told, shown as the_shown};
 
@@ -7,22 +7,22 @@ use crate::status::{NO_AXIS, NO_TABLE};
 use postscript_sfnt::FontFile;
 use postscript_variation::{Axes, Axis, Error, Result};
 
-/// An axis of a variable font. Its values are user coordinates, in 16.16 bits.
+/// A design axis of a variable font. Its values are user coordinates, as 16.16 numbers.
 #[repr(C)]
 #[derive(Clone, Copy)]
 pub struct PsfAxis {
-    /// The number of its four characters, the first one highest.
+    /// The big-endian number of its four characters.
     pub tag: u32,
     pub minimum: i32,
     pub default_value: i32,
     pub maximum: i32,
-    /// 1 where it is not to be shown to users, else 0.
+    /// 1 if user interfaces should not show it, otherwise 0.
     pub is_hidden: u32,
-    /// The identifier of its name in the table `name`.
+    /// The identifier of its name in the `name` table.
     pub name: u32,
 }
 
-/// An axis as C holds it.
+/// An axis in the form for C.
 fn shown(axis: &Axis) -> PsfAxis
     ensures { result ≡ the_shown axis.now }
 {
@@ -36,7 +36,7 @@ fn shown(axis: &Axis) -> PsfAxis
     }
 }
 
-/// The axes and instances of a face. None where it has no table `fvar`.
+/// The axes and instances of a face. `None` if it has no `fvar` table.
 pub(crate) fn axes_of<'l>(file: &FontFile<'l>) -> Result<Option<Axes<'l>>>
     ensures found { IfOk result (λ axes. HasAxes file.now axes) }
     ensures why { IfErr result (λ e. HasBadAxes file.now e) }
@@ -50,7 +50,7 @@ pub(crate) fn axes_of<'l>(file: &FontFile<'l>) -> Result<Option<Axes<'l>>>
     }
 }
 
-/// The number of a refusal of the table `fvar`.
+/// The status of an error of the `fvar` table.
 pub(crate) fn axes_status(e: Error) -> i32
     ensures { result ≡ pos (axes_code e) }
 {
@@ -60,7 +60,7 @@ pub(crate) fn axes_status(e: Error) -> i32
     }
 }
 
-/// Tells one of the axes, and how many there are.
+/// Stores an axis and the number of axes.
 fn tell_axis_in(axes: &Axes<'_>, i: usize, axis: &mut PsfAxis, count: &mut usize) -> i32
     ensures { TellsAxisIn axes.now i result (axis_told axis.old count.old) (axis_told axis.new count.new) }
 {
@@ -74,7 +74,7 @@ fn tell_axis_in(axes: &Axes<'_>, i: usize, axis: &mut PsfAxis, count: &mut usize
     }
 }
 
-/// Tells an axis of a face.
+/// Stores an axis of a face.
 fn tell_axis_of(file: &FontFile<'_>, i: usize, axis: &mut PsfAxis, count: &mut usize) -> i32
     ensures { TellsAxisOf file.now i result (axis_told axis.old count.old) (axis_told axis.new count.new) }
 {
@@ -85,7 +85,7 @@ fn tell_axis_of(file: &FontFile<'_>, i: usize, axis: &mut PsfAxis, count: &mut u
     }
 }
 
-/// Tells an axis of a face of a file.
+/// Stores an axis of a face of a file.
 pub(crate) fn tell_axis(
     bytes: &[u8],
     face: usize,

@@ -1,4 +1,4 @@
-//! All characters of a character map, as C holds them.
+//! All characters of a character map, in the form for C.
 ghost use Rattle.std.specs.Prelude.{◌≡◌, map, IfOk};
 ghost use Rattle.postscript_c.specs.Characters.{HasRows, TellsCharacters, row as the_row};
 ghost use Rattle.postscript_c.specs.Texts.{lent};
@@ -12,7 +12,7 @@ use std::alloc::{AllocError, Global};
 #[repr(C)]
 #[derive(Clone, Copy)]
 pub struct PsfCharacter {
-    /// Its number in Unicode.
+    /// The code point of the character.
     pub character: u32,
     /// Its glyph, which is not 0.
     pub glyph: u32,
@@ -39,7 +39,7 @@ fn rows(alloc: Global, all: &[(u32, u16)]) -> Result<Vec<PsfCharacter>, AllocErr
     Ok(rows)
 }
 
-/// All characters that a map has a glyph for.
+/// All characters with a glyph in a map.
 fn characters_of(alloc: Global, map: &CharacterMap<'_>) -> Result<Vec<PsfCharacter>, AllocError>
     ensures { IfOk result (λ found. HasRows map.now found.items) }
 {
@@ -47,7 +47,7 @@ fn characters_of(alloc: Global, map: &CharacterMap<'_>) -> Result<Vec<PsfCharact
     rows(alloc, &all)
 }
 
-/// Tells all characters that a table `cmap` has a glyph for.
+/// Stores all characters with a glyph in a `cmap` table.
 pub(crate) fn tell_characters(
     alloc: Global,
     cmap: &[u8],

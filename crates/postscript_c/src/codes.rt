@@ -4,7 +4,7 @@ ghost use Rattle.postscript_type2.specs.Operation.Operators.{operator_of};
 
 use postscript_type2::Operator;
 
-/// The code of an operator; that of two bytes is 0x0c00 and the second.
+/// The code of an operator. The code of two bytes is 0x0c00 plus the second byte.
 pub(crate) fn code_of(operator: Operator) -> u32
     ensures { operator_of result ≡ Some operator }
 {

@@ -1,4 +1,4 @@
-//! Bounds that grow, as two vectors.
+//! Growing bounds as two vectors.
 ghost use Rattle.std.specs.Prelude.{◌≡◌, List, None, Option};
 ghost use Rattle.postscript_c.specs.Corners.{AreCornersOf};
 ghost use Rattle.postscript_outline.specs.Bounds.{IsBoundsOf, included, taking};
@@ -8,8 +8,8 @@ ghost use Rattle.postscript_outline.specs.declared.point.Point.{Point};
 use postscript_outline::{Bounds, Point, Segment};
 use std::simd::prelude::*;
 
-/// The lower left and the upper right corner of bounds, the coordinates of each side by side. Before the first point the lower one
-/// has the greatest coordinates and the upper one the least, so that a point is taken in with no test.
+/// The lower left and the upper right corner of bounds, each with adjacent coordinates. Before the first point the
+/// lower one has the greatest coordinates and the upper one the least, so adding a point needs no test.
 #[derive(Clone, Copy)]
 pub(crate) struct Corners {
     low: i32x2,
@@ -17,7 +17,7 @@ pub(crate) struct Corners {
 }
 
 impl Corners {
-    /// Those of no point.
+    /// The corners without any point.
     #[inline(always)]
     pub(crate) fn new() -> Corners
         ensures { AreCornersOf None result }
@@ -54,7 +54,7 @@ impl Corners {
         }
     }
 
-    /// The bounds of some points, whose corners these are. None where there is no point.
+    /// The bounds with these corners. `None` if there is no point.
     pub(crate) fn bounds(self) -> Option<Bounds>
         ensures { (bounds : Option Bounds) (points : List Point) → AreCornersOf bounds self → IsBoundsOf bounds points → result ≡ bounds }
     {

@@ -1,4 +1,4 @@
-//! What it takes to find a place.
+//! The cost of a location.
 ghost use Rattle.std.specs.Prelude.{◌≡◌, ◌<◌, ℕ, MatchBool, IfErr, IfOk};
 ghost use Rattle.postscript_c.specs.Costs.{CostsBeyond, CostsWithin};
 ghost use Rattle.postscript_variation.specs.Lent.{HasNoTable, IsDataIn, table_count};
@@ -6,8 +6,8 @@ ghost use Rattle.postscript_variation.specs.declared.store.Data.{Data};
 
 use postscript_variation::Store;
 
-/// Whether the scalars of a place of a store are found within a limit. Refused with the number of the first item variation data that do not
-/// stand.
+/// Whether the scalars of a location are computed within a limit. The error is the number of the first missing item
+/// variation data.
 #[tactic(auto, using(crate::proofs::Costing::before))]
 pub(crate) fn is_within(store: &Store<'_>, limit: u64) -> Result<bool, usize>
     ensures found { IfOk result (λ is. MatchBool is (CostsWithin store.now limit) (CostsBeyond store.now limit)) }

@@ -1,10 +1,10 @@
-//! How many glyphs a variable font has.
+//! The number of glyphs of a variable font.
 ghost use Rattle.postscript_c.specs.Counted.{TellsCountOf};
 
 use crate::varied::{font_of, unvaried_status};
 use postscript_sfnt::FontFile;
 
-/// Tells how many glyphs the table `CFF2` of a face has.
+/// Stores the number of glyphs in the `CFF2` table of a face.
 pub(crate) fn tell_count_of(file: &FontFile<'_>, count: &mut usize) -> i32
     ensures { TellsCountOf file.now result count.old count.new }
 {

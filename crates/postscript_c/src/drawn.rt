@@ -1,5 +1,5 @@
-//! Glyphs that are drawn into sinks, accented ones with their components. What draws is put into its callers: a call would clear the room
-//! of its program before that is made, and copy what it answers.
+//! Draws glyphs into sinks, `seac` glyphs with their components. The functions are inlined into their callers: a call
+//! would first clear the memory of its program, and copy its result.
 ghost use Rattle.std.specs.Prelude.{◌⊎◌, Some, option_map, IfOk, IfErr, MatchOption, OnOk};
 ghost use Rattle.postscript_c.specs.Drawn.{ArePaid, DrawsWhole, HasNone, HasNoneIn, IsCodeRefused, IsDrawnIn, IsDrawnOver, IsNamedRefused, IsSpentOnNamed, IsUndrawnOver, IsWholeRefused, AreNamed};
 ghost use Rattle.postscript_drawing.specs.DrawnProgram.{IsWanting};
@@ -14,8 +14,7 @@ use postscript_type2::{Operand, Program};
 use postscript_view::FontView;
 use std::alloc::Global;
 
-/// Draws a base and an accent of the font that the bytes begin with. It stays a call, since few glyphs have them and a font in place takes
-/// much room.
+/// Draws a base and an accent. It is not inlined, since few glyphs have them and an open font is large.
 #[inline(never)]
 fn draw_both<S: Sink>(
     alloc: Global,
@@ -33,7 +32,7 @@ fn draw_both<S: Sink>(
     draw_components(alloc, &font, &accent, limit, sink)
 }
 
-/// Draws the base and the accent that a glyph names, if it names any, of the font that the bytes begin with.
+/// Draws the base and the accent of a glyph, if it has them.
 #[inline(always)]
 fn draw_named<S: Sink>(
     alloc: Global,
@@ -53,7 +52,7 @@ fn draw_named<S: Sink>(
     }
 }
 
-/// Draws a program, and then what its glyph names, within a limit.
+/// Draws a program, and then the components of its glyph, within a limit.
 #[inline(always)]
 fn draw_whole<S: Sink>(
     alloc: Global,
@@ -74,7 +73,7 @@ fn draw_whole<S: Sink>(
     Ok(width)
 }
 
-/// Draws a code over the subroutines at two places. None where there is no code.
+/// Draws a charstring with subroutines at two offsets. `None` if there is no charstring.
 #[tactic(auto, unfolding(crate::specs::Glyphs::program_of))]
 #[inline(always)]
 fn draw_code<S: Sink>(
@@ -101,7 +100,7 @@ fn draw_code<S: Sink>(
     Ok(Some(width))
 }
 
-/// Draws a glyph of a font that is plain numbers, with this part. None where there is no such glyph.
+/// Draws a glyph of a font for C, with this part. `None` if there is no such glyph.
 #[tactic(auto, unfolding(crate::specs::Glyphs::program_at))]
 #[inline(always)]
 pub(crate) fn draw_over<S: Sink>(

@@ -1,4 +1,4 @@
-//! Faces with outlines in a table `CFF2` or `CFF `: what C is told of either.
+//! Faces with outlines in a `CFF2` or a `CFF ` table.
 ghost use Rattle.std.specs.Prelude.{◌≡◌, MatchOption};
 ghost use Rattle.postscript_c.specs.Either.{HasNoPlain, HasPlain, TellsCount, TellsCountEitherOf, TellsCountPlain, TellsDrawn, TellsEither, TellsEitherOf, TellsGlyphOf, TellsGlyphsOf, TellsPlain, TellsPlainAt, within as the_font_within};
 ghost use Rattle.postscript_c.specs.Law.{OpensFont};
@@ -21,7 +21,7 @@ use postscript_drawing::Result as Drawing;
 use postscript_sfnt::FontFile;
 use std::alloc::Global;
 
-/// The table `CFF ` of a face that has no table `CFF2`. None of another.
+/// The `CFF ` table of a face without a `CFF2` table. `None` for any other face.
 fn plain_table<'l>(file: &FontFile<'l>) -> Option<&'l [u8]>
     ensures { MatchOption result (HasNoPlain file.now) (λ table. HasPlain file.now table.now) }
 {
@@ -31,7 +31,7 @@ fn plain_table<'l>(file: &FontFile<'l>) -> Option<&'l [u8]>
     }
 }
 
-/// Tells what a glyph draws.
+/// Stores the outline of a glyph.
 fn tell_drawn(
     answer: &Drawing<Option<DrawnGlyph>>,
     segments: &mut [PsfSegment],
@@ -48,7 +48,7 @@ fn tell_drawn(
     }
 }
 
-/// Tells the outline of a glyph of a font.
+/// Draws a glyph of a font.
 fn tell_glyph_of(
     alloc: Global,
     bytes: &[u8],
@@ -79,7 +79,7 @@ fn within(limit: u64, font: &PsfFont) -> PsfFont
     PsfFont { limit, ..*font }
 }
 
-/// Tells the outline of a glyph of the font that bytes begin with, within a limit.
+/// Draws a glyph of the font at the beginning of the bytes, within a limit.
 fn tell_plain(
     alloc: Global,
     bytes: &[u8],
@@ -106,7 +106,7 @@ fn tell_plain(
     }
 }
 
-/// Tells the same of the table of a face, where values name a place of it.
+/// The same for the table of a face, if the user coordinates are valid for it.
 fn tell_plain_at(
     alloc: Global,
     file: &FontFile<'_>,
@@ -127,7 +127,7 @@ fn tell_plain_at(
     }
 }
 
-/// Tells the outline of a glyph of a face at the place that values name.
+/// Draws a glyph of a face at user coordinates.
 fn tell_either_of(
     alloc: Global,
     file: &FontFile<'_>,
@@ -149,7 +149,7 @@ fn tell_either_of(
     }
 }
 
-/// Tells the same of a face of a file.
+/// The same for a face of a file.
 pub(crate) fn tell_either(
     alloc: Global,
     bytes: &[u8],
@@ -170,7 +170,7 @@ pub(crate) fn tell_either(
     }
 }
 
-/// Tells how many glyphs a font has.
+/// Stores the number of glyphs of a font.
 fn tell_glyphs_of(answer: &Opening<PsfFont>, count: &mut usize) -> i32
     ensures { TellsGlyphsOf answer.now result count.old count.new }
 {
@@ -183,7 +183,7 @@ fn tell_glyphs_of(answer: &Opening<PsfFont>, count: &mut usize) -> i32
     }
 }
 
-/// Tells how many glyphs the font has that bytes begin with.
+/// Stores the number of glyphs of the font at the beginning of the bytes.
 fn tell_count_plain(alloc: Global, bytes: &[u8], count: &mut usize) -> i32
     ensures { TellsCountPlain bytes.now result count.old count.new }
 {
@@ -191,7 +191,7 @@ fn tell_count_plain(alloc: Global, bytes: &[u8], count: &mut usize) -> i32
     tell_glyphs_of(&answer, count)
 }
 
-/// Tells how many glyphs a face has.
+/// Stores the number of glyphs of a face.
 fn tell_count_either_of(alloc: Global, file: &FontFile<'_>, count: &mut usize) -> i32
     ensures { TellsCountEitherOf file.now result count.old count.new }
 {
@@ -201,7 +201,7 @@ fn tell_count_either_of(alloc: Global, file: &FontFile<'_>, count: &mut usize) -
     }
 }
 
-/// Tells the same of a face of a file.
+/// The same for a face of a file.
 pub(crate) fn tell_count(alloc: Global, bytes: &[u8], face: usize, count: &mut usize) -> i32
     ensures { TellsCount bytes.now face result count.old count.new }
 {

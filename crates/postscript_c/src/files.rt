@@ -1,11 +1,11 @@
-//! What C asks of OpenType files: their faces, tables and character maps.
+//! OpenType files: faces, tables and character maps.
 ghost use Rattle.std.specs.Prelude.{◌≡◌, pos};
 ghost use Rattle.postscript_c.specs.Files.{TellsFaces, TellsTable, TellsGlyph, file_code};
 
 use crate::status::{NO_MAP, NO_TABLE};
 use postscript_sfnt::{CharacterMap, Error, FontFile, faces};
 
-/// The number of a refusal of a file, from 33 to 35.
+/// The status of an error of a file, from 33 to 35.
 pub(crate) fn file_status(e: Error) -> i32
     ensures { result ≡ pos (file_code e) }
 {
@@ -16,7 +16,7 @@ pub(crate) fn file_status(e: Error) -> i32
     }
 }
 
-/// Tells how many faces a file has.
+/// Stores the number of faces of a file.
 pub(crate) fn tell_faces(bytes: &[u8], count: &mut usize) -> i32
     ensures { TellsFaces bytes.now result count.new }
 {
@@ -29,7 +29,7 @@ pub(crate) fn tell_faces(bytes: &[u8], count: &mut usize) -> i32
     }
 }
 
-/// Tells where a table of a face stands.
+/// Stores the offset and the size of a table of a face.
 pub(crate) fn tell_table(
     bytes: &[u8],
     face: usize,
@@ -52,7 +52,7 @@ pub(crate) fn tell_table(
     }
 }
 
-/// Tells which glyph a table `cmap` has for a character.
+/// Stores the glyph of a character in a `cmap` table.
 pub(crate) fn tell_glyph(cmap: &[u8], character: u32, glyph: &mut usize) -> i32
     ensures { TellsGlyph cmap.now character result glyph.new }
 {

@@ -1,4 +1,4 @@
-//! Glyphs as code without calls.
+//! Charstrings without calls.
 ghost use Rattle.postscript_c.specs.Fitting.{ReadsWithin, RunsWithin};
 ghost use Rattle.postscript_c.specs.Flats.{flat_at, flattened};
 ghost use Rattle.postscript_c.specs.Flatness.{flat_shown, TellsFlatBy};
@@ -15,13 +15,13 @@ use postscript_base::Result;
 use postscript_type2::Program;
 use std::alloc::Global;
 
-/// The flat code of a glyph.
+/// The desubroutinized charstring of a glyph (no calls).
 #[derive(Drop)]
 pub(crate) struct Flat {
     pub(crate) code: Vec<u8>,
 }
 
-/// The flat code of a program, where its run fits the limit.
+/// The flat code of a program, if its run is within the limit.
 fn flatten(program: Program<'_>, limit: &mut u64) -> Result<Option<Flat>>
     ensures within { RunsWithin flat_shown flattened program.entry limit.old result limit.new }
 {
@@ -31,7 +31,7 @@ fn flatten(program: Program<'_>, limit: &mut u64) -> Result<Option<Flat>>
     }
 }
 
-/// The flat code of a glyph by its part, where its run keeps to the limit of the font.
+/// The flat code of a glyph by its part, if its run is within the limit of the font.
 fn flat_glyph(
     alloc: Global,
     bytes: &[u8],
@@ -51,7 +51,7 @@ fn flat_glyph(
     }
 }
 
-/// Tells the flat code of a glyph by its part, where its run keeps to the limit of the font.
+/// Stores the flat code of a glyph by its part, if its run is within the limit of the font.
 pub(crate) fn tell_flat_by(
     alloc: Global,
     bytes: &[u8],

@@ -1,4 +1,4 @@
-//! Fonts as plain numbers.
+//! Fonts in the form for C.
 ghost use Rattle.std.specs.Prelude.{◌≡◌, ℕ, IfOk, slice_get, true, false};
 ghost use Rattle.postscript_base.specs.Tape.Outcome.{Answers, same};
 ghost use Rattle.postscript_c.specs.Places.{codes as the_codes, local as the_local, placed, places, places_of, tables as the_tables};
@@ -16,30 +16,31 @@ use postscript_drawing::LIMIT;
 use postscript_view::tables::{header_size, operations_of};
 use std::alloc::Global;
 
-/// A font as plain numbers: where its parts stand in the bytes. They have no invariant: over any numbers, each call is
-/// safe and answers or refuses. A place of 0 is nothing: no items, no dictionaries.
+/// A font as plain numbers: the offsets of its parts in the bytes. An offset of 0 means that the part is absent.
+///
+/// There is no invariant. With any numbers each call is safe, and returns a result or an error.
 #[repr(C)]
 #[derive(Clone, Copy)]
 pub struct PsfFont {
-    /// The INDEX of char strings.
+    /// The offset of the CharStrings INDEX.
     pub char_strings: u64,
-    /// The INDEX of global subroutines.
+    /// The offset of the Global Subr INDEX.
     pub global_subroutines: u64,
-    /// FDArray, the INDEX of font dictionaries, of a CID-keyed font; else 0.
+    /// The offset of FDArray, the Font DICT INDEX, in a CID-keyed font, otherwise 0.
     pub font_dictionaries: u64,
-    /// FDSelect, of a CID-keyed font: which font dictionary a glyph has; else 0.
+    /// The offset of FDSelect in a CID-keyed font, otherwise 0. It gives each glyph its Font DICT.
     pub fd_select: u64,
     /// The part of a font that is not CID-keyed.
     pub part: PsfPart,
-    /// How many glyphs there are.
+    /// The number of glyphs.
     pub glyphs: u64,
-    /// 1 of a CID-keyed font, else 0.
+    /// 1 if the font is CID-keyed, otherwise 0.
     pub is_cid: u32,
-    /// How long the run of a glyph may take, in units of `psf_font_fits`.
+    /// The limit for the run of a glyph, in units of `psf_font_fits`.
     pub limit: u64,
 }
 
-/// The dictionary of the first item.
+/// The DICT of the first item.
 fn first_dictionary(alloc: Global, bytes: &[u8], dictionaries: &IndexView<'_>) -> Result<Operations>
     ensures exact { (place : ℕ) → Answers same result place (map_from (slice_get (items_of dictionaries.now) 0) bytes.now place) }
 {
@@ -49,7 +50,7 @@ fn first_dictionary(alloc: Global, bytes: &[u8], dictionaries: &IndexView<'_>) -
     }
 }
 
-/// The dictionary of the first font, and the place of the global subroutines.
+/// The Top DICT of the first font, and the offset of the global subroutines.
 #[tactic(auto, unfolding(crate::specs::Places::tables))]
 fn tables(alloc: Global, bytes: &[u8], start: usize) -> Result<(Operations, u64)>
     ensures exact { (place : ℕ) → Answers (λ r. (r.0, r.1)) result place (aside start the_tables bytes.now place) }
@@ -62,7 +63,7 @@ fn tables(alloc: Global, bytes: &[u8], start: usize) -> Result<(Operations, u64)
     Ok((dictionary, there as u64))
 }
 
-/// The place that an operator names; 0 where it is lacking, or names none.
+/// The offset of an operator, or 0 if it is missing or not an offset.
 fn place_or_none(dictionary: &Operations, operator: Operator) -> u64
     ensures { IsPlaceOrNone dictionary.now operator result }
 {
@@ -72,7 +73,7 @@ fn place_or_none(dictionary: &Operations, operator: Operator) -> u64
     }
 }
 
-/// The place of the char strings, and how many they are.
+/// The offset of the charstrings, and their number.
 #[tactic(auto, unfolding(crate::specs::Places::codes))]
 fn codes(bytes: &[u8], dictionary: &Operations) -> Result<(u64, u64)>
     ensures exact { (place : ℕ) → Answers (λ r. (r.0, r.1)) result place (the_codes dictionary.now bytes.now place) }
@@ -95,7 +96,7 @@ fn local(alloc: Global, bytes: &[u8], dictionary: &Operations) -> Result<PsfPart
     part_of(alloc, bytes, dictionary)
 }
 
-/// The place that an operator names, of a CID-keyed font; else 0.
+/// The offset of an operator in a CID-keyed font, otherwise 0.
 fn cid_place(dictionary: &Operations, is_cid: bool, operator: Operator) -> u64
     ensures cid { is_cid ≡ true → IsPlaceOrNone dictionary.now operator result }
     ensures plain { is_cid ≡ false → result ≡ 0 }
@@ -107,7 +108,7 @@ fn cid_place(dictionary: &Operations, is_cid: bool, operator: Operator) -> u64
     }
 }
 
-/// The font of a dictionary, and of the place of the global subroutines.
+/// The font of a Top DICT, given the offset of the global subroutines.
 #[tactic(auto, unfolding(crate::specs::Places::places_of))]
 fn font_of(
     alloc: Global,
@@ -135,7 +136,7 @@ fn font_of(
     })
 }
 
-/// The font that bytes begin with.
+/// The font at the beginning of the bytes.
 #[tactic(auto, unfolding(crate::specs::Places::places))]
 pub(crate) fn opened(alloc: Global, bytes: &[u8]) -> Result<PsfFont>
     ensures exact { (place : ℕ) → Answers placed result place (places bytes.now place) }

@@ -1,4 +1,4 @@
-//! Glyphs by number.
+//! Glyphs by their numbers.
 ghost use Rattle.std.specs.Prelude.{◌≡◌, ℕ, ◌<◌, ◌≤◌, pos, List, option_map, IfNone, IfOk, IfSome, MatchResult};
 ghost use Rattle.postscript_base.specs.Tape.Outcome.{Answers, same};
 ghost use Rattle.postscript_c.specs.Glyphs.{index_at as the_index, program_at, program_of as the_program};
@@ -20,7 +20,7 @@ use postscript_view::FdSelect;
 use postscript_view::tables::operations_of;
 use std::alloc::Global;
 
-/// The items of the INDEX at a place; none at 0.
+/// The items of the INDEX at an offset, or none at 0.
 #[tactic(auto, unfolding(crate::specs::Glyphs::index_at))]
 pub(crate) fn index_at(bytes: &[u8], there: u64) -> Result<IndexView<'_>>
     ensures exact { (place : ℕ) → Answers items_of result place (the_index there bytes.now place) }
@@ -32,8 +32,8 @@ pub(crate) fn index_at(bytes: &[u8], there: u64) -> Result<IndexView<'_>>
     Ok(items)
 }
 
-/// The number of a glyph's font dictionary, of so many: the one that FDSelect gives it, or of a single one 0. None where FDSelect
-/// gives it none.
+/// The number of the Font DICT of a glyph: the one that FDSelect gives it, or 0 if there is one Font DICT. `None` if
+/// FDSelect gives it none.
 fn number_of(bytes: &[u8], font: &PsfFont, dictionaries: usize, glyph: usize) -> Option<usize>
     ensures found { IfSome result (λ fd. HasNumber bytes.now font.now dictionaries glyph fd) }
     ensures none { IfNone result ((fd : ℕ) → HasNumber bytes.now font.now dictionaries glyph fd → ⊥) }
@@ -47,7 +47,7 @@ fn number_of(bytes: &[u8], font: &PsfFont, dictionaries: usize, glyph: usize) ->
     FdSelect::at(bytes, font.fd_select as usize, font.glyphs as usize).part_of(glyph)
 }
 
-/// The font dictionary of a glyph. None where there is no such glyph, or none of its number.
+/// The Font DICT of a glyph. `None` if there is no such glyph, or no Font DICT with its number.
 fn item_of<'l>(
     bytes: &[u8],
     font: &PsfFont,
@@ -66,7 +66,7 @@ fn item_of<'l>(
     dictionaries.get(fd)
 }
 
-/// The part of the font dictionary that an item is.
+/// The part of a Font DICT.
 #[tactic(auto, unfolding(crate::specs::CidParts::item_part))]
 fn item_part(alloc: Global, bytes: &[u8], item: &[u8]) -> Result<PsfPart>
     ensures exact { (place : ℕ) → Answers (λ part. part.local_subroutines) result place (the_item_part item.now bytes.now place) }
@@ -76,7 +76,7 @@ fn item_part(alloc: Global, bytes: &[u8], item: &[u8]) -> Result<PsfPart>
     part_of(alloc, bytes, &dictionary)
 }
 
-/// The part of a glyph of a CID-keyed font. None where the glyph has no font dictionary.
+/// The part of a glyph of a CID-keyed font. `None` if the glyph has no Font DICT.
 #[inline(never)]
 fn cid_part(alloc: Global, bytes: &[u8], font: &PsfFont, glyph: usize) -> Result<Option<PsfPart>>
     ensures { IsCidPart bytes.now font.now glyph result }
@@ -91,7 +91,7 @@ fn cid_part(alloc: Global, bytes: &[u8], font: &PsfFont, glyph: usize) -> Result
     }
 }
 
-/// The status of a glyph that has no font dictionary.
+/// The status of a glyph without a Font DICT.
 fn partless(font: &PsfFont, glyph: usize) -> i32
     ensures no_glyph { font.now.glyphs ≤ glyph → result ≡ pos 31 }
     ensures no_dictionary { glyph < font.now.glyphs → result ≡ pos 42 }
@@ -103,7 +103,7 @@ fn partless(font: &PsfFont, glyph: usize) -> i32
     }
 }
 
-/// The part of a glyph, or the status that tells why it has none.
+/// The part of a glyph, or the status if it has none.
 pub(crate) fn part_at(
     alloc: Global,
     bytes: &[u8],
@@ -122,7 +122,7 @@ pub(crate) fn part_at(
     }
 }
 
-/// The program of a code over subroutines in place.
+/// The program of a charstring with these subroutines.
 pub(crate) fn program_over<'l>(
     alloc: Global,
     code: &'l [u8],
@@ -135,7 +135,7 @@ pub(crate) fn program_over<'l>(
     Charstring { code, subroutines }.program(alloc)
 }
 
-/// The program of a code over the subroutines at two places.
+/// The program of a charstring with the subroutines at two offsets.
 #[tactic(auto, unfolding(crate::specs::Glyphs::program_of))]
 fn program_of<'l>(
     alloc: Global,
@@ -155,7 +155,7 @@ fn program_of<'l>(
     Ok(Some(program_over(alloc, code, globals, locals)))
 }
 
-/// The program of a glyph. None where there is no such glyph.
+/// The program of a glyph. `None` if there is no such glyph.
 #[tactic(auto, unfolding(crate::specs::Glyphs::program_at))]
 pub(crate) fn program<'l>(
     alloc: Global,

@@ -1,4 +1,4 @@
-//! Identifiers of glyphs, and their strings.
+//! The SIDs or CIDs of glyphs, and strings.
 ghost use Rattle.std.specs.Prelude.{◌≡◌, IfOk};
 ghost use Rattle.postscript_c.specs.Identifiers.{AreIdentifiers, IsIdentifier, TellsIdentifiers, TellsIdentifiersIn, TellsString, TellsStringIn};
 ghost use Rattle.postscript_c.specs.Texts.{lent};
@@ -10,7 +10,7 @@ use crate::told::status;
 use postscript_view::{CharSetView, FontView};
 use std::alloc::{AllocError, Global};
 
-/// The identifier of a glyph, or -1 where the char set tells it none.
+/// The SID or CID of a glyph, or -1 if the charset has none.
 fn told_of(set: &CharSetView<'_>, glyph: usize) -> i32
     ensures { IsIdentifier set.now glyph result }
 {
@@ -20,7 +20,7 @@ fn told_of(set: &CharSetView<'_>, glyph: usize) -> i32
     }
 }
 
-/// The same of so many glyphs.
+/// The same for all glyphs.
 fn all_told(alloc: Global, set: &CharSetView<'_>, glyphs: usize) -> Result<Vec<i32>, AllocError>
     ensures { IfOk result (λ all. AreIdentifiers set.now glyphs all.items) }
 {
@@ -31,7 +31,7 @@ fn all_told(alloc: Global, set: &CharSetView<'_>, glyphs: usize) -> Result<Vec<i
     Ok(all)
 }
 
-/// Tells the identifiers of the glyphs of an opened font.
+/// Stores the SIDs or CIDs of the glyphs of an open font.
 fn tell_identifiers_in(
     alloc: Global,
     view: &FontView<'_>,
@@ -49,7 +49,7 @@ fn tell_identifiers_in(
     }
 }
 
-/// Tells the identifiers of glyphs.
+/// Stores the SIDs or CIDs of glyphs.
 pub(crate) fn tell_identifiers(
     alloc: Global,
     bytes: &[u8],
@@ -64,7 +64,7 @@ pub(crate) fn tell_identifiers(
     }
 }
 
-/// Tells the string of an identifier in an opened font.
+/// Stores the string with an SID in an open font.
 fn tell_string_in(view: &FontView<'_>, identifier: u16, room: &mut [u8], count: &mut usize) -> i32
     ensures { TellsStringIn (view_shown view.now) identifier result (lent room.old count.old) (lent room.new count.new) }
 {
@@ -74,7 +74,7 @@ fn tell_string_in(view: &FontView<'_>, identifier: u16, room: &mut [u8], count: 
     }
 }
 
-/// Tells the string of an identifier.
+/// Stores the string with an SID.
 pub(crate) fn tell_string(
     alloc: Global,
     bytes: &[u8],

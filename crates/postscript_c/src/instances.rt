@@ -11,14 +11,14 @@ use postscript_sfnt::FontFile;
 use postscript_variation::{Axes, Instance};
 use std::alloc::{AllocError, Global};
 
-/// A named instance of a variable font, but for its coordinates.
+/// A named instance of a variable font without its coordinates.
 #[repr(C)]
 #[derive(Clone, Copy)]
 pub struct PsfInstance {
-    /// The identifier of its name in the table `name`.
+    /// The identifier of its name in the `name` table.
     pub name: u32,
     pub flags: u32,
-    /// The identifier of its PostScript name, or -1 where it has none.
+    /// The identifier of its PostScript name, or -1 if it has none.
     pub postscript_name: i32,
 }
 
@@ -33,7 +33,7 @@ fn name_or_none(name: Option<u16>) -> i32
     }
 }
 
-/// An instance as C holds it.
+/// An instance in the form for C.
 fn shown(instance: &Instance) -> PsfInstance
     ensures { result ≡ the_shown instance.now }
 {
@@ -60,7 +60,7 @@ fn coordinates_of(alloc: Global, axes: &Axes<'_>, i: usize) -> Result<Vec<i32>, 
     Ok(all)
 }
 
-/// Tells one of the instances, and its coordinates.
+/// Stores an instance and its coordinates.
 fn tell_instance_in(
     alloc: Global,
     axes: &Axes<'_>,
@@ -84,7 +84,7 @@ fn tell_instance_in(
     }
 }
 
-/// Tells an instance of a face.
+/// Stores an instance of a face.
 fn tell_instance_of(
     alloc: Global,
     file: &FontFile<'_>,
@@ -103,7 +103,7 @@ fn tell_instance_of(
     }
 }
 
-/// Tells an instance of a face of a file.
+/// Stores an instance of a face of a file.
 pub(crate) fn tell_instance(
     alloc: Global,
     bytes: &[u8],

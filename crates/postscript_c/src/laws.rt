@@ -1,25 +1,31 @@
-//! Laws of the definitions.
+//! Laws of the definitions. The functions do nothing: their clauses are the laws.
 ghost use Rattle.postscript_c.specs.SameDrawings.{DrawsInPlace};
 ghost use Rattle.postscript_c.specs.SameParts.{KeepsParts, TellsParts};
 
-/// A law: of each font that `psf_font_open` tells, whatever limit the caller has put since, what C has of a glyph's part is so in the font
-/// that `FontView::read` answers for the same bytes: the glyph has this number there, and the part of that number has these widths and,
-/// unless they are to stand at the place 0, these local subroutines. Where `FontView::part_of` answers none, C has none. It does nothing
-/// and is never refused.
+/// States that the parts for C are the parts of the font that `FontView::read` returns for the same bytes.
+///
+/// This is true for any font from `psf_font_open`, with any limit. A glyph has the same part number in both. Its part
+/// has the same widths, and the same local subroutines unless their offset is 0. If `FontView::part_of` returns `None`,
+/// C has no part.
 pub fn tells_parts()
+    // What C has of a glyph's part agrees with the font in place, apart from parts at offset 0.
     ensures law { TellsParts }
 {}
 
-/// A law: and where the font's dictionaries name nothing at the place 0, where C has nothing, the two are the same. C has a part of each
-/// glyph that `FontView::part_of` answers a number for, of that number, and the program that `FontView::program` answers; and it has no
-/// part of any other glyph: it tells 31 where there is no such glyph, 42 where there is, and 3 where memory runs out. It does nothing
-/// and is never refused.
+/// States that both have the same parts and programs if no DICT of the font has the offset 0, which C takes for
+/// absence.
+///
+/// C has a part for each glyph with a number from `FontView::part_of`, and the program from `FontView::program`. It has
+/// no part for any other glyph. Then the status is 31 if there is no such glyph, 42 if there is one, and 3 if memory
+/// runs out.
 pub fn keeps_parts()
+    // Without an offset of 0 in its DICTs, C has exactly the parts and programs of the font.
     ensures law { KeepsParts }
 {}
 
-/// A law: and there the segments and the width that C tells of a glyph are those that `draw_glyph` of `postscript_drawing` draws, with the
-/// base and the accent of an accented one. It does nothing and is never refused.
+/// States that C then draws the segments and the width that `postscript_drawing::draw_glyph` draws, for a `seac` glyph
+/// with its base and its accent.
 pub fn draws_in_place()
+    // Without an offset of 0 in its DICTs, C draws what `draw_glyph` draws, with its width.
     ensures law { DrawsInPlace }
 {}

@@ -1,4 +1,4 @@
-//! Whether the runs of a font's glyphs come to their ends within a limit.
+//! The runs of all glyphs of a font within a limit.
 ghost use Rattle.std.specs.Prelude.{◌≡◌, ℕ, pos};
 ghost use Rattle.postscript_view.specs.Fitting.{AllFit};
 ghost use Rattle.postscript_c.specs.Fitting.{FirstFits, TellsFits, TellsFitsIn};
@@ -8,7 +8,7 @@ use crate::told::status;
 use postscript_view::FontView;
 use std::alloc::Global;
 
-/// Tells whether the glyphs of an opened font fit a limit.
+/// Reports whether the glyphs of an open font fit a limit.
 fn tell_fits_in(alloc: Global, font: &FontView<'_>, limit: &mut u64) -> i32
     ensures fits { result ≡ pos 0 → AllFit font.now limit.old }
     ensures told { TellsFitsIn font.now limit.old result limit.new }
@@ -20,7 +20,7 @@ fn tell_fits_in(alloc: Global, font: &FontView<'_>, limit: &mut u64) -> i32
     }
 }
 
-/// Tells whether the glyphs of the font that bytes begin with fit a limit.
+/// Reports whether the glyphs of the font at the beginning of the bytes fit a limit.
 pub(crate) fn tell_fits(alloc: Global, bytes: &[u8], limit: &mut u64) -> i32
     ensures fits { result ≡ pos 0 → FirstFits bytes.now limit.old }
     ensures told { TellsFits bytes.now limit.old result limit.new }
@@ -31,7 +31,7 @@ pub(crate) fn tell_fits(alloc: Global, bytes: &[u8], limit: &mut u64) -> i32
     }
 }
 
-/// Tells whether the glyphs of the font that bytes begin with fit a limit, and not what is left of it.
+/// The same, without the rest of the limit.
 pub(crate) fn tell_fits_at_once(alloc: Global, bytes: &[u8], limit: u64) -> i32
     ensures fits { result ≡ pos 0 → FirstFits bytes.now limit }
     ensures told { (left : ℕ) × TellsFits bytes.now limit result left }
@@ -40,13 +40,13 @@ pub(crate) fn tell_fits_at_once(alloc: Global, bytes: &[u8], limit: u64) -> i32
     tell_fits(alloc, bytes, &mut left)
 }
 
-/// What is told of a glyph within the limit of its font.
+/// The result for a glyph within the limit of its font.
 #[derive(Drop)]
 pub(crate) enum Kept<T> {
-    /// What its run tells.
+    /// The result of its run.
     Told(T),
     /// There is no such glyph.
     NoGlyph,
-    /// Its run uses up the limit.
+    /// Its run exceeds the limit.
     TooLong,
 }

@@ -1,4 +1,4 @@
-//! Advances of glyphs of variable fonts, at a place of the design space.
+//! Advance widths of variable fonts at a location.
 ghost use Rattle.std.specs.Prelude.{◌≡◌, pos, ◌+ℤ◌, IfErr, IfOk};
 ghost use Rattle.std.specs.Int.{saturate_signed, w64};
 ghost use Rattle.postscript_sfnt.specs.Lent.{advance_in};
@@ -11,22 +11,22 @@ use postscript_sfnt::{Advances, FontFile};
 use postscript_variation::{AdvanceVariations, Error, in_whole};
 use std::alloc::Global;
 
-/// Why an advance is not told.
+/// The reason why there is no advance width.
 #[derive(Drop)]
 pub(crate) enum Unmeasured {
-    /// No glyph has such a number.
+    /// There is no glyph with this number.
     NoGlyph,
-    /// The face has no table `hhea`, or none `hmtx`.
+    /// The face has no `hhea` or no `hmtx` table.
     NoTable,
-    /// They tell no advances.
+    /// These tables have no advance widths.
     NoAdvances,
-    /// The place is not named.
+    /// The user coordinates are invalid.
     NoPlace(Unplaced),
-    /// The table `HVAR` is refused.
+    /// The `HVAR` table is malformed.
     BadVariations(Error),
 }
 
-/// The number of a refusal of the table `HVAR`.
+/// The status of an error of the `HVAR` table.
 fn variations_status(e: Error) -> i32
     ensures { result ≡ pos (variations_code e) }
 {
@@ -36,7 +36,7 @@ fn variations_status(e: Error) -> i32
     }
 }
 
-/// The number of a refusal.
+/// The status of an error.
 fn unmeasured_status(e: &Unmeasured) -> i32
     ensures { result ≡ pos (unmeasured_code e.now) }
 {
@@ -49,7 +49,7 @@ fn unmeasured_status(e: &Unmeasured) -> i32
     }
 }
 
-/// The advances of a face at its default.
+/// The default advance widths of a face.
 fn advances_of<'l>(file: &FontFile<'l>) -> Result<Advances<'l>, Unmeasured>
     ensures found { IfOk result (λ advances. HasAdvances file.now advances) }
     ensures why { IfErr result (λ e. LacksAdvances file.now e) }
@@ -66,7 +66,7 @@ fn advances_of<'l>(file: &FontFile<'l>) -> Result<Advances<'l>, Unmeasured>
     }
 }
 
-/// The variations of the advances of a face. None where it has no table `HVAR`.
+/// The variations of the advance widths of a face. `None` if it has no `HVAR` table.
 fn variations_of<'l>(
     file: &FontFile<'l>,
 ) -> postscript_variation::Result<Option<AdvanceVariations<'l>>>
@@ -82,7 +82,7 @@ fn variations_of<'l>(
     }
 }
 
-/// What is added to the advance of a glyph at normalized coordinates.
+/// The variation of the advance width of a glyph at normalized coordinates.
 fn added(variations: Option<AdvanceVariations<'_>>, glyph: usize, coordinates: &[i16]) -> i64
     ensures { IsAdded variations.entry glyph coordinates.now result }
 {
@@ -95,14 +95,14 @@ fn added(variations: Option<AdvanceVariations<'_>>, glyph: usize, coordinates: &
     }
 }
 
-/// The advance of a glyph, and what is added.
+/// The advance width of a glyph with its variation.
 fn sum(advances: &Advances<'_>, glyph: u16, more: i64) -> i64
     ensures { result ≡ saturate_signed w64 (pos (advance_in advances.now glyph) +ℤ more) }
 {
     i64::from(advances.of(glyph)).saturating_add(more)
 }
 
-/// The advance of a glyph of a face at the place that values name.
+/// The advance width of a glyph of a face at user coordinates.
 fn measured(
     alloc: Global,
     file: &FontFile<'_>,
@@ -127,7 +127,7 @@ fn measured(
     }
 }
 
-/// Tells an answer.
+/// Stores a result.
 fn tell_advance(answer: &Result<i64, Unmeasured>, advance: &mut i64) -> i32
     ensures { TellsAdvance answer.now result advance.old advance.new }
 {
@@ -140,7 +140,7 @@ fn tell_advance(answer: &Result<i64, Unmeasured>, advance: &mut i64) -> i32
     }
 }
 
-/// Tells the advance of a glyph of a face at the place that values name.
+/// Stores the advance width of a glyph of a face at user coordinates.
 fn tell_measured_of(
     alloc: Global,
     file: &FontFile<'_>,
@@ -154,7 +154,7 @@ fn tell_measured_of(
     tell_advance(&answer, advance)
 }
 
-/// Tells the same of a face of a file.
+/// The same for a face of a file.
 pub(crate) fn tell_measured(
     alloc: Global,
     bytes: &[u8],

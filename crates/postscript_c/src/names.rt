@@ -10,7 +10,7 @@ use crate::told::status;
 use postscript_view::FontView;
 use std::alloc::Global;
 
-/// Tells the name of a glyph of an opened font.
+/// Stores the name of a glyph of an open font.
 fn tell_name_in(view: &FontView<'_>, glyph: usize, room: &mut [u8], count: &mut usize) -> i32
     ensures { TellsNameIn view.now.bytes.now (view_shown view.now) glyph result (lent room.old count.old) (lent room.new count.new) }
 {
@@ -23,7 +23,7 @@ fn tell_name_in(view: &FontView<'_>, glyph: usize, room: &mut [u8], count: &mut 
     }
 }
 
-/// Tells the name of a glyph.
+/// Stores the name of a glyph.
 pub(crate) fn tell_name(
     alloc: Global,
     bytes: &[u8],
@@ -39,7 +39,7 @@ pub(crate) fn tell_name(
     }
 }
 
-/// Tells which glyph of an opened font has a name.
+/// Stores the glyph with a name in an open font.
 fn tell_named_in(view: &FontView<'_>, name: &[u8], glyph: &mut usize) -> i32
     ensures { TellsNamedIn view.now.bytes.now (view_shown view.now) name.now result glyph.old glyph.new }
 {
@@ -55,7 +55,7 @@ fn tell_named_in(view: &FontView<'_>, name: &[u8], glyph: &mut usize) -> i32
     }
 }
 
-/// Tells which glyph has a name.
+/// Stores the glyph with a name.
 pub(crate) fn tell_named(alloc: Global, bytes: &[u8], name: &[u8], glyph: &mut usize) -> i32
     ensures { TellsNamed bytes.now name.now result glyph.old glyph.new }
 {

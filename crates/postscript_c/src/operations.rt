@@ -1,4 +1,4 @@
-//! Operations of glyphs as C holds them.
+//! Operations of glyphs in the form for C.
 ghost use Rattle.std.specs.Prelude.{◌≡◌, ◌++◌, map, pos, OnOk, IfErr};
 ghost use Rattle.postscript_base.specs.declared.error.Error.TheVariants as errors;
 ghost use Rattle.postscript_c.specs.Fitting.{ReadsWithin, RunsWithin};
@@ -17,21 +17,22 @@ use postscript_base::Result;
 use postscript_type2::{Operand, Program, Told};
 use std::alloc::Global;
 
-/// An operation of a glyph: its operator, and which of the operands of all operations are its own. Those of the stems that a
-/// mask implies stand behind them, and behind these the bytes of the mask, each as a number (Technical Note 5177, "Hint
-/// Operators").
+/// An operation of a glyph: its operator, and the range of its operands in the list of all operands.
+///
+/// After its operands are the operands of the stems that a mask implies, and then the bytes of the mask, each as a
+/// number (Technical Note 5177, "Hint Operators").
 #[repr(C)]
 #[derive(Clone, Copy)]
 pub struct PsfOperation {
-    /// Where its operands begin.
+    /// The index of its first operand.
     pub first: u64,
-    /// How many they are.
+    /// The number of its operands.
     pub count: u64,
-    /// How many operands of implied stems are behind them.
+    /// The number of operands of implied stems after them.
     pub stems: u64,
-    /// How many bytes of a mask are behind these.
+    /// The number of mask bytes after these.
     pub mask: u64,
-    /// The code of its operator; that of two bytes is 0x0c00 and the second.
+    /// The code of its operator. The code of two bytes is 0x0c00 plus the second byte.
     pub operator: u32,
 }
 
@@ -64,7 +65,7 @@ fn put_mask(all: &mut Vec<i32>, mask: &[u8]) -> Result<()>
     Ok(())
 }
 
-/// All operations of a program, where its run fits the limit.
+/// All operations of a program, if its run is within the limit.
 fn list(alloc: Global, program: &mut Program<'_>, limit: &mut u64) -> Result<Option<Listed>>
     ensures within { RunsWithin shown listed program.old limit.old result limit.new }
 {
@@ -90,7 +91,7 @@ fn list(alloc: Global, program: &mut Program<'_>, limit: &mut u64) -> Result<Opt
     }
 }
 
-/// The operations of a glyph by its part, where its run keeps to the limit of the font.
+/// The operations of a glyph by its part, if its run is within the limit of the font.
 fn operations_of(
     alloc: Global,
     bytes: &[u8],
@@ -110,7 +111,7 @@ fn operations_of(
     }
 }
 
-/// Hands operations over: 0, or `NO_ROOM`.
+/// Stores operations. Returns 0 or `NO_ROOM`.
 fn hand(
     listed: &Listed,
     operations: &mut [PsfOperation],
@@ -131,7 +132,7 @@ fn hand(
     0
 }
 
-/// Tells the operations of a glyph by its part, where its run keeps to the limit of the font.
+/// Stores the operations of a glyph by its part, if its run is within the limit of the font.
 pub(crate) fn tell_operations_by(
     alloc: Global,
     bytes: &[u8],

@@ -1,4 +1,4 @@
-//! Private dictionaries as plain numbers.
+//! Private DICTs in the form for C.
 ghost use Rattle.std.specs.Prelude.{◌≡◌, ℕ, ◌-◌, ◌^◌, min, pos, IfOk};
 ghost use Rattle.std.specs.Int.{saturate_signed, w64};
 ghost use Rattle.postscript_base.specs.Compact1.Decimal.{signed};
@@ -12,15 +12,15 @@ use postscript_compact1::font_set::operands::{bounds, place_at};
 use postscript_view::tables::{operations_of, slice_at};
 use std::alloc::Global;
 
-/// What a private dictionary says of glyphs.
+/// The values of a Private DICT for glyphs.
 #[repr(C)]
 #[derive(Clone, Copy)]
 pub struct PsfPart {
-    /// The INDEX of local subroutines; 0 where there is none.
+    /// The offset of the Local Subr INDEX, or 0 if there is none.
     pub local_subroutines: u64,
-    /// The width of glyphs whose programs tell none, in 65536ths of a unit.
+    /// The width of glyphs without a width in their charstrings, in 65536ths of a unit.
     pub default_width: i64,
-    /// What is added to the width that a program tells, in 65536ths of a unit.
+    /// The number that is added to the width in a charstring, in 65536ths of a unit.
     pub nominal_width: i64,
 }
 
@@ -39,7 +39,7 @@ impl PsfPart {
     }
 }
 
-/// How many 65536ths are in `mantissa * 10^exponent`; 2^128 - 1 where there are more.
+/// The number of 65536ths in `mantissa * 10^exponent`, at most 2^128 - 1.
 fn magnitude(mantissa: u64, exponent: i32) -> u128
     ensures { (bits : ℕ) × AreIn mantissa exponent bits × (result ≡ min bits (2 ^ 128 - 1)) }
 {
@@ -52,7 +52,7 @@ fn magnitude(mantissa: u64, exponent: i32) -> u128
     }
 }
 
-/// A number with a sign, as far as 64 bits go.
+/// A signed number, limited to 64 bits.
 fn with_sign(negative: bool, bits: u128) -> i64
     ensures { result ≡ saturate_signed w64 (signed negative bits) }
 {
@@ -64,7 +64,7 @@ fn with_sign(negative: bool, bits: u128) -> i64
     }
 }
 
-/// A width of a private dictionary in 65536ths of a unit, cut towards zero, as far as 64 bits go; 0 where there is none.
+/// A width of a Private DICT in 65536ths of a unit, rounded towards zero and limited to 64 bits, or 0 if there is none.
 fn width_in_bits(width: Option<Operand>) -> i64
     ensures { IsWidth width result }
 {
@@ -78,7 +78,7 @@ fn width_in_bits(width: Option<Operand>) -> i64
     )
 }
 
-/// The place of the local subroutines of a private dictionary at an offset.
+/// The offset of the local subroutines of a Private DICT.
 #[tactic(auto, unfolding(crate::specs::Places::subroutines))]
 fn subroutines(bytes: &[u8], offset: u32, local: &Operations) -> Result<u64>
     ensures exact { (place : ℕ) → Answers same result place (the_subroutines offset local.now bytes.now place) }
@@ -89,7 +89,7 @@ fn subroutines(bytes: &[u8], offset: u32, local: &Operations) -> Result<u64>
     place_at(0, offset, local, Operator::Subrs)
 }
 
-/// The part of the private dictionary that a dictionary names.
+/// The part of the Private DICT of a DICT.
 #[tactic(auto, unfolding(crate::specs::Places::own_part))]
 fn own_part(alloc: Global, bytes: &[u8], dictionary: &Operations) -> Result<PsfPart>
     ensures exact { (place : ℕ) → Answers (λ part. part.local_subroutines) result place (the_own_part dictionary.now bytes.now place) }
@@ -106,7 +106,7 @@ fn own_part(alloc: Global, bytes: &[u8], dictionary: &Operations) -> Result<PsfP
     })
 }
 
-/// The part that a dictionary names.
+/// The part of a DICT.
 #[tactic(auto, unfolding(crate::specs::Places::part))]
 pub(crate) fn part_of(alloc: Global, bytes: &[u8], dictionary: &Operations) -> Result<PsfPart>
     ensures exact { (place : ℕ) → Answers (λ part. part.local_subroutines) result place (the_part dictionary.now bytes.now place) }

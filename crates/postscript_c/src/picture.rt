@@ -1,4 +1,4 @@
-//! What a glyph draws, as C holds it.
+//! Drawn glyphs in the form for C.
 ghost use Rattle.postscript_c.specs.Answers.{IsOf};
 ghost use Rattle.postscript_c.specs.Shown.{found_shown};
 
@@ -10,7 +10,7 @@ use postscript_drawing::Result;
 use postscript_type2::Operand;
 use std::alloc::Global;
 
-/// The segments of a glyph as C holds them, the width that its program tells, and its part.
+/// The segments of a glyph in the form for C, the width in its charstring, and its part.
 #[derive(Drop)]
 pub(crate) struct DrawnGlyph {
     pub(crate) sketch: Segments,
@@ -18,7 +18,7 @@ pub(crate) struct DrawnGlyph {
     pub(crate) part: PsfPart,
 }
 
-/// What a glyph draws by its part. None where there is no such glyph.
+/// Draws a glyph by its part. `None` if there is no such glyph.
 #[inline(always)]
 pub(crate) fn found_glyph(
     alloc: Global,

@@ -1,4 +1,4 @@
-//! Places of the design space, by a user coordinate for each axis.
+//! Locations in the design space, by a user coordinate for each axis.
 ghost use Rattle.std.specs.Prelude.{◌≡◌, ◌⊎◌, ◌<◌, ◌≤ℤ◌, pos, negsuc, length, slice_get, IfErr, IfOk};
 ghost use Rattle.postscript_c.specs.Placed.{AreAlong, AreCoordinatesAt, AreNormalized, HasBadMaps, HasMaps, IsUnplaced, axes_in, coordinate_of, maps_code, unplaced_code, value_along as the_value_along};
 ghost use Rattle.postscript_c.specs.declared.place.Unplaced.TheVariants as unplaced;
@@ -12,20 +12,20 @@ use postscript_sfnt::FontFile;
 use postscript_variation::{Axes, Axis, Error, Maps};
 use std::alloc::{AllocError, Global};
 
-/// Why a place is not named.
+/// The reason why user coordinates are invalid.
 #[derive(Drop)]
 pub(crate) enum Unplaced {
-    /// The table `fvar` is refused.
+    /// The `fvar` table is malformed.
     BadAxes(Error),
-    /// The table `avar` is refused.
+    /// The `avar` table is malformed.
     BadMaps(Error),
     /// There are more values than axes.
     TooMany,
-    /// Memory was asked for and refused.
+    /// Out of memory.
     Memory,
 }
 
-/// The number of a refusal of the table `avar`.
+/// The status of an error of the `avar` table.
 fn maps_status(e: Error) -> i32
     ensures { result ≡ pos (maps_code e) }
 {
@@ -35,7 +35,7 @@ fn maps_status(e: Error) -> i32
     }
 }
 
-/// The number of a refusal.
+/// The status of an error.
 pub(crate) fn unplaced_status(e: &Unplaced) -> i32
     ensures { result ≡ pos (unplaced_code e.now) }
 {
@@ -47,7 +47,7 @@ pub(crate) fn unplaced_status(e: &Unplaced) -> i32
     }
 }
 
-/// The segment maps of a face. None where it has no table `avar`.
+/// The segment maps of a face. `None` if it has no `avar` table.
 fn maps_of<'l>(file: &FontFile<'l>) -> postscript_variation::Result<Option<Maps<'l>>>
     ensures found { IfOk result (λ maps. HasMaps file.now maps) }
     ensures why { IfErr result (λ e. HasBadMaps file.now e) }
@@ -61,14 +61,14 @@ fn maps_of<'l>(file: &FontFile<'l>) -> postscript_variation::Result<Option<Maps<
     }
 }
 
-/// The value that stands in the place of an axis.
+/// The value for an axis.
 fn value_at(values: &[i32], axis: usize) -> Option<i32>
     ensures { result ≡ slice_get values.now axis }
 {
     values.get(axis).copied()
 }
 
-/// The value along an axis: one of its own, or its default.
+/// The value along an axis: the given one, or its default.
 fn value_along(axis: &Axis, value: Option<i32>) -> i32
     ensures { result ≡ the_value_along axis.now value }
 {
@@ -78,7 +78,7 @@ fn value_along(axis: &Axis, value: Option<i32>) -> i32
     }
 }
 
-/// What a normalized coordinate along an axis becomes by `avar`, where there is one.
+/// Applies `avar`, if there is one, to a normalized coordinate.
 fn mapped(maps: Option<Maps<'_>>, axis: usize, at: i32) -> i32
     ensures exact { result ≡ mapped_with maps.entry axis at }
     ensures least { negsuc 131071 ≤ℤ at → negsuc 131071 ≤ℤ result }
@@ -90,7 +90,7 @@ fn mapped(maps: Option<Maps<'_>>, axis: usize, at: i32) -> i32
     }
 }
 
-/// From units of 2 ^ -16 to units of 2 ^ -14.
+/// Converts units of 2 ^ -16 to units of 2 ^ -14.
 fn shortened(at: i32) -> i16
     requires least { negsuc 131071 ≤ℤ at }
     requires most { at ≤ℤ pos 131068 }
@@ -99,7 +99,7 @@ fn shortened(at: i32) -> i16
     (at + 2).div_euclid(4) as i16
 }
 
-/// The normalized coordinate of an axis, of the value that is asked for along it.
+/// The normalized coordinate of a value along an axis.
 fn coordinate_on(found: &Axis, axis: usize, maps: Option<Maps<'_>>, value: i32) -> i16
     ensures { result ≡ the_shortened
         (mapped_with maps.entry axis (normalized found.now.minimum found.now.default found.now.maximum value)) }
@@ -166,7 +166,7 @@ fn all_normalized(
     }
 }
 
-/// The normalized coordinates of a place of a face.
+/// The normalized coordinates of user coordinates of a face.
 pub(crate) fn coordinates_at(
     alloc: Global,
     file: &FontFile<'_>,

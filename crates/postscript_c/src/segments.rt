@@ -1,4 +1,4 @@
-//! What a glyph draws, as C holds it.
+//! Segments of glyphs in the form for C.
 ghost use Rattle.std.specs.Prelude.{◌≡◌, ◌∷◌, ◌++◌, [], None, IfErr, IfOk, OnErr, OnOk, fold, map};
 ghost use Rattle.postscript_base.specs.declared.error.Error.TheVariants as errors;
 ghost use Rattle.postscript_c.specs.Corners.{AreCornersOf, AreCornersOf-prop};
@@ -12,10 +12,10 @@ use postscript_outline::laws::bounds_take_in_points;
 use postscript_outline::{Bounds, Given, Segment, Sink};
 use std::alloc::Global;
 
-/// For how many segments there is room at first: nearly all glyphs have fewer.
+/// The number of segments that memory is allocated for at the beginning: nearly all glyphs have fewer.
 const ROOM: usize = 128;
 
-/// The segments that a glyph draws, as C holds them, and the bounds of their points.
+/// The segments of a glyph in the form for C, and the bounds of their points.
 #[derive(Drop)]
 pub(crate) struct Segments {
     pub(crate) segments: Vec<PsfSegment>,
@@ -25,7 +25,7 @@ pub(crate) struct Segments {
 }
 
 impl Segments {
-    /// Nothing yet.
+    /// No segments yet.
     pub(crate) fn new(alloc: Global) -> Result<Segments>
         ensures empty { IfOk result (λ sketch. sketch.segments.items ≡ []) }
         ensures memory { IfErr result (λ e. e ≡ errors.Memory) }
@@ -36,7 +36,7 @@ impl Segments {
         })
     }
 
-    /// The bounds of the points, control points too. None where there is no point.
+    /// The bounds of the points, including control points. `None` if there is no point.
     pub(crate) fn bounds(&self) -> Option<Bounds>
         ensures { IsBoundsOf result (points (map meant self.now.segments.items)) }
     {
@@ -66,8 +66,8 @@ impl Sink for Segments {
     }
 }
 
-/// The same of a glyph at a place of the design space. It is a type of its own so that drawing into `Segments` has one caller, into which
-/// the compiler puts it.
+/// The same for a glyph at a location. It is a separate type so that drawing into `Segments` has one caller, and is
+/// inlined.
 #[derive(Drop)]
 pub(crate) struct PlacedSegments {
     pub(crate) segments: Segments,

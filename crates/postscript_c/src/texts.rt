@@ -1,4 +1,4 @@
-//! Texts as C reads them: copied into its room.
+//! Lists that are copied into buffers of C.
 ghost use Rattle.std.specs.Option.{option_copied};
 ghost use Rattle.std.specs.Prelude.{◌≡◌, ◌≤◌, ◌++◌, drop, length, map, slice_get};
 ghost use Rattle.postscript_c.specs.Statuses.{TellsText, text_of as the_text_of};
@@ -14,7 +14,7 @@ pub(crate) fn copy<T: Copy>(from: &[T], room: &mut [T])
     room[..from.len()].copy_from_slice(from);
 }
 
-/// Hands items over: 0, or `NO_ROOM`. How many they are is told all the same.
+/// Copies items into a buffer. Returns 0 or `NO_ROOM`. The count is set in both cases.
 pub(crate) fn hand_over<T: Copy>(items: &[T], room: &mut [T], count: &mut usize) -> i32
     ensures { HandsOver items.now result (lent room.old count.old) (lent room.new count.new) }
 {
@@ -26,7 +26,7 @@ pub(crate) fn hand_over<T: Copy>(items: &[T], room: &mut [T], count: &mut usize)
     0
 }
 
-/// The texts of all statuses, from 0 on.
+/// The texts of all statuses from 0 on.
 const TEXTS: [&str; 70] = [
     "done",
     "failed to fill whole buffer",
@@ -100,7 +100,7 @@ const TEXTS: [&str; 70] = [
     "item variation data of the table CFF2 do not stand",
 ];
 
-/// The text at a place of a table, if there is one.
+/// The text with an index, if there is one.
 fn text_at(table: &[&'static str], place: usize) -> Option<&'static str>
     ensures { option_copied result ≡ slice_get (map (λ text. text.now) table.now) place }
 {
@@ -117,7 +117,7 @@ fn text_of(status: i32) -> Option<&'static str>
     text_at(&TEXTS, status as usize)
 }
 
-/// Tells the text of a status.
+/// Stores the text of a status.
 pub(crate) fn tell_text(of: i32, room: &mut [u8], count: &mut usize) -> i32
     ensures { TellsText of result (lent room.old count.old) (lent room.new count.new) }
 {

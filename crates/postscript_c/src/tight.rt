@@ -13,7 +13,7 @@ use postscript_outline::laws::tight_bounds_take_in_curves;
 use postscript_outline::{Bounds, TightBounds};
 use std::alloc::Global;
 
-/// The bounds of what a glyph draws by its part, drawn with no list of segments. None where there is no such glyph.
+/// The bounds of a glyph by its part, drawn without a list of segments. `None` if there is no such glyph.
 pub(crate) fn traced_glyph(
     alloc: Global,
     bytes: &[u8],
@@ -37,17 +37,17 @@ pub(crate) fn traced_glyph(
 #[repr(C)]
 #[derive(Clone, Copy)]
 pub struct PsfBounds {
-    /// 0 where there is no point.
+    /// 0 if there is no point.
     pub left: i32,
     pub bottom: i32,
     pub right: i32,
     pub top: i32,
-    /// 1 where there is a point, else 0.
+    /// 1 if there is a point, otherwise 0.
     pub has_bounds: u32,
 }
 
 impl PsfBounds {
-    /// Bounds as C holds them, where there are any.
+    /// Bounds in the form for C, if there are any.
     pub(crate) fn of(bounds: Option<Bounds>) -> PsfBounds
         ensures sides { sides_of result ≡ bounds }
         ensures zeros { AreZeros result }
@@ -71,7 +71,7 @@ impl PsfBounds {
     }
 }
 
-/// Tells the bounds of an answer.
+/// Stores the bounds.
 pub(crate) fn bound(answer: &Result<Option<TightBounds>>, bounds: &mut PsfBounds) -> i32
     ensures { TellsTraced answer.now result bounds.old bounds.new }
 {

@@ -1,4 +1,4 @@
-//! What is told of a glyph besides its segments.
+//! The data of a glyph apart from its segments.
 ghost use Rattle.std.specs.Prelude.{◌≡◌, pos};
 ghost use Rattle.postscript_base.specs.Error.{code};
 ghost use Rattle.postscript_c.specs.Answers.{advance as the_advance, HasZeros, IsToldOf, TellsWidth, undrawn_code};
@@ -11,31 +11,31 @@ use postscript_base::Error;
 use postscript_drawing::Error as Undrawn;
 use postscript_type2::Operand;
 
-/// What is told of a glyph besides its segments, in 16.16 bits.
+/// The data of a glyph apart from its segments, as 16.16 numbers.
 #[repr(C)]
 #[derive(Clone, Copy)]
 pub struct PsfGlyph {
-    /// The width: the default one, or the one that the program tells and the nominal one.
+    /// The advance width: the default one, or the nominal one plus the width in the charstring.
     pub advance: i64,
-    /// The bounds of all points, 0 where there is none.
+    /// The bounds of all points, 0 if there is none.
     pub left: i32,
     pub bottom: i32,
     pub right: i32,
     pub top: i32,
-    /// 1 where there is a point, else 0.
+    /// 1 if there is a point, otherwise 0.
     pub has_bounds: u32,
-    /// 1 where the program tells a width, else 0.
+    /// 1 if the charstring has a width, otherwise 0.
     pub has_width: u32,
 }
 
-/// The number of a refusal.
+/// The status of an error.
 pub(crate) fn status(e: &Error) -> i32
     ensures { result ≡ pos (code e.now) }
 {
     i32::from(e.code())
 }
 
-/// The number of a refusal of a drawing.
+/// The status of an error of drawing.
 pub(crate) fn undrawn_status(e: &Undrawn) -> i32
     ensures { result ≡ pos (undrawn_code e.now) }
 {
@@ -51,7 +51,7 @@ pub(crate) fn undrawn_status(e: &Undrawn) -> i32
     }
 }
 
-/// The width of a glyph.
+/// The advance width of a glyph.
 fn advance(width: Option<Operand>, part: &PsfPart) -> i64
     ensures { result ≡ the_advance width part.now }
 {
@@ -61,7 +61,7 @@ fn advance(width: Option<Operand>, part: &PsfPart) -> i64
     }
 }
 
-/// What is told of a glyph.
+/// The data of a drawn glyph.
 pub(crate) fn told(found: &DrawnGlyph) -> PsfGlyph
     ensures told { IsToldOf (drawn_shown found.now) found.now.part result }
     ensures zeros { HasZeros result }

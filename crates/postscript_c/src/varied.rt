@@ -1,4 +1,4 @@
-//! Glyphs of variable fonts, drawn at a place of the design space.
+//! Glyphs of variable fonts, drawn at a location.
 ghost use Rattle.std.specs.Prelude.{◌≡◌, [], pos, Some, IfErr, IfOk};
 ghost use Rattle.postscript_c.specs.VariedShown.{segments_of, segments_shown};
 ghost use Rattle.postscript_c.specs.Varied.{HasFont, HasNoFont, HasNoPlaceIn, IsDrawnWithin, IsPlaceAt, IsPlaceIn, IsVaried, NamesNoPlace};
@@ -19,24 +19,24 @@ use postscript_variable_font::{Error as PlaceError, Place};
 use postscript_variation::Store;
 use std::alloc::Global;
 
-/// Why a glyph is not drawn at a place.
+/// The reason why a glyph is not drawn.
 #[derive(Drop)]
 pub(crate) enum Unvaried {
-    /// The face has no table `CFF2`.
+    /// The face has no `CFF2` table.
     NoTable,
-    /// The table `CFF2` is refused.
+    /// The `CFF2` table is malformed.
     BadTable(TableError),
-    /// The place is not named.
+    /// The user coordinates are invalid.
     NoPlace(Unplaced),
-    /// The item variation data of this number do not stand.
+    /// The item variation data with this number are missing or truncated.
     NoData(usize),
-    /// The scalars of a place cost more than the limit.
+    /// The scalars of the location cost more than the limit.
     FarPlace,
-    /// The glyph is not drawn.
+    /// Drawing the glyph fails.
     Undrawn(DrawingError),
 }
 
-/// The number of a refusal of the table `CFF2`.
+/// The status of an error of the `CFF2` table.
 fn table_status(e: TableError) -> i32
     ensures { result ≡ pos (table_code e) }
 {
@@ -52,7 +52,7 @@ fn table_status(e: TableError) -> i32
     }
 }
 
-/// The number of a refusal.
+/// The status of an error.
 pub(crate) fn unvaried_status(e: &Unvaried) -> i32
     ensures { result ≡ pos (unvaried_code e.now) }
 {
@@ -80,7 +80,7 @@ pub(crate) fn font_of<'l>(file: &FontFile<'l>) -> Result<Font<'l>, Unvaried>
     }
 }
 
-/// The place of a store at normalized coordinates, whose scalars cost no more than a limit.
+/// The location at normalized coordinates, if its scalars cost no more than a limit.
 fn place_in(
     alloc: Global,
     store: &Store<'_>,
@@ -101,7 +101,7 @@ fn place_in(
     }
 }
 
-/// The place of a font of a face that values name.
+/// The location at user coordinates.
 #[tactic(auto, using(crate::proofs::Varying::none_in))]
 fn place_at(
     alloc: Global,
@@ -124,7 +124,7 @@ fn place_at(
     }
 }
 
-/// Draws a glyph of a font at a place into an empty sketch, within a limit.
+/// Draws a glyph of a font at a location into an empty list, within a limit.
 fn draw_within(
     alloc: Global,
     font: &Font<'_>,
@@ -144,7 +144,7 @@ fn draw_within(
     }
 }
 
-/// What a glyph of a face draws at the place that values name.
+/// Draws a glyph of a face at user coordinates.
 #[tactic(auto, using(crate::proofs::Varying::no_font, crate::proofs::Varying::no_place))]
 fn varied(
     alloc: Global,
@@ -166,7 +166,7 @@ fn varied(
     }
 }
 
-/// Hands an outline over: 0, or `NO_ROOM`.
+/// Stores an outline. Returns 0 or `NO_ROOM`.
 pub(crate) fn hand(
     sketch: &Segments,
     segments: &mut [PsfSegment],
@@ -186,7 +186,7 @@ pub(crate) fn hand(
     0
 }
 
-/// Tells an answer.
+/// Stores a result.
 fn tell_answer(
     answer: &Result<Segments, Unvaried>,
     segments: &mut [PsfSegment],
@@ -202,7 +202,7 @@ fn tell_answer(
     }
 }
 
-/// Tells the outline of a glyph of a face at the place that values name.
+/// Stores the outline of a glyph of a face at user coordinates.
 pub(crate) fn tell_varied_of(
     alloc: Global,
     file: &FontFile<'_>,

@@ -1,4 +1,4 @@
-//! Whole fonts, written.
+//! New fonts.
 ghost use Rattle.std.specs.Prelude.{◌≡◌, ◌≢◌, true, false, pos};
 ghost use Rattle.postscript_c.specs.Texts.{lent};
 ghost use Rattle.postscript_c.specs.Written.{IsFlat, IsSubset, TellsWritten, refusal as no_refusal, refusal_of as the_refusal, written_code};
@@ -13,17 +13,17 @@ use crate::told::status;
 use postscript_write::{Error, Result, flat_font, subset, subset_keeping};
 use std::alloc::Global;
 
-/// What is told of a refusal of a font that is to be written, besides the status.
+/// The details of an error of writing a font, in addition to the status.
 #[repr(C)]
 #[derive(Clone, Copy)]
 pub struct PsfRefusal {
-    /// The glyph that is meant; 0 where none is.
+    /// The glyph of the error, 0 if there is none.
     pub glyph: u64,
-    /// What the run of that glyph is refused with, where it is; else 0.
+    /// The status with which the run of that glyph fails, otherwise 0.
     pub cause: i32,
 }
 
-/// The number of a refusal.
+/// The status of an error.
 fn written_status(e: &Error) -> i32
     ensures { result ≡ pos (written_code e.now) }
 {
@@ -39,7 +39,7 @@ fn written_status(e: &Error) -> i32
     }
 }
 
-/// A refusal of so many glyphs.
+/// The details of a glyph and a cause.
 fn of(glyph: usize, cause: i32) -> PsfRefusal
     ensures { result ≡ record { glyph = glyph; cause = cause } }
 {
@@ -49,7 +49,7 @@ fn of(glyph: usize, cause: i32) -> PsfRefusal
     }
 }
 
-/// The glyph that a refusal names, and the number of its cause.
+/// The glyph of an error, and the status of its cause.
 fn refusal_of(e: &Error) -> PsfRefusal
     ensures { result ≡ the_refusal e.now }
 {
@@ -62,14 +62,14 @@ fn refusal_of(e: &Error) -> PsfRefusal
     }
 }
 
-/// Tells that no glyph is meant, where nothing is asked for.
+/// Stores that no glyph is involved, if no font is written.
 pub(crate) fn tell_unasked(refusal: &mut PsfRefusal)
     ensures { refusal.new ≡ no_refusal 0 (pos 0) }
 {
     *refusal = of(0, 0);
 }
 
-/// Hands a font over: 0, or `NO_ROOM`, or the number of the refusal.
+/// Stores a font. Returns 0, `NO_ROOM`, or the status of the error.
 pub(crate) fn tell_written(
     answer: &Result<Vec<u8>>,
     room: &mut [u8],
@@ -94,7 +94,7 @@ pub(crate) fn flat(alloc: Global, bytes: &[u8]) -> Result<Vec<u8>>
     flat_font(alloc, bytes)
 }
 
-/// The font of these glyphs alone: with their numbers, or numbered anew.
+/// The subset with these glyphs, under their old numbers or new ones.
 pub(crate) fn subset_of(
     alloc: Global,
     bytes: &[u8],
