@@ -24,8 +24,8 @@ pub enum Error {
     /// 2 Charstring Organization").
     #[error("the first path does not begin with a move")]
     NoMove,
-    /// A point or the edge of a stem does not fit into 16.16 bits, as it is or rounded. Or the rounded distance to it does
-    /// not (Technical Note 5177, "Charstring Number Encoding").
+    /// A point or the edge of a stem does not fit into 16.16 bits, as it is or rounded. Or the rounded distance to it
+    /// does not (Technical Note 5177, "Charstring Number Encoding").
     #[error("in whole units something leads out of the range of 16 bits")]
     TooFar,
     /// There is no glyph with this number, or its Font DICT is missing or malformed.
