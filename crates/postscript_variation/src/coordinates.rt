@@ -1,4 +1,5 @@
-//! Normalized coordinates along all axes (OpenType 1.9, "OpenType Font Variations Overview", "Coordinate scales and normalization").
+//! Normalized coordinates along all axes (OpenType 1.9, "OpenType Font Variations Overview", "Coordinate scales and
+//! normalization").
 ghost use Rattle.std.specs.Prelude.{◌≡◌, ℕ, ◌<◌, ◌≤◌, pos, negsuc, ◌≤ℤ◌, length, slice_get};
 ghost use Rattle.postscript_variation.specs.Asked.{asked, chosen as the_chosen};
 ghost use Rattle.postscript_variation.specs.Coordinates.{coordinate_by, mapped_with};
