@@ -57,11 +57,11 @@ fn first_count(operator: Operator, count: usize) -> usize
     ensures few { result ≤ 48 }
 {
     match operator {
-        // curves of four, and the operand before the first of them if there is one
+        // Curves of four operands, and the operand before the first if there is one.
         Operator::HHCurveTo | Operator::VVCurveTo => 44 + count % 2,
-        // ten curves of four
+        // Ten curves of four operands.
         Operator::HVCurveTo | Operator::VHCurveTo => 40,
-        // seven curves of six, or 21 lines
+        // Seven curves of six operands, or 21 lines.
         Operator::RCurveLine | Operator::RLineCurve => 42,
         _ => 48,
     }
