@@ -49,10 +49,11 @@ impl<'l> Program<'l> {
     ///
     /// - `UnexpectedEof`: the code ends inside an operator, a number or a mask.
     /// - `UnknownOperator`: there is no such operator.
-    /// - `ExpectedInteger`: the top of the stack is not a whole number, as the operator needs.
+    /// - `ExpectedInteger`: there is no whole number on top of the stack, which the operator needs.
     /// - `ExpectedMoreOperands`: a `blend` counts more operands than there are.
     /// - `MalformedOperands`: the operator does not take this number of operands.
-    /// - `InvalidOperand`: a `vsindex` is after a `blend` or has no item variation data, or a `blend` has none.
+    /// - `InvalidOperand`: a `vsindex` is after a `blend` or has no item variation data, or a `blend` has none or a negative
+    ///   count.
     /// - `MissingSubroutine`: there is no such subroutine.
     /// - `TooDeep`: more than ten calls are nested.
     /// - `Overflow`: the stack is full, or a blended value is out of range.
