@@ -39,23 +39,26 @@ CRATES = (
     "postscript_variable_drawing",
     "postscript_instance",
     "postscript_write",
+    "postscript_c",
 )
-QUOTING = ("README.md", "docs/RECIPES.md")
+#: modules whose functions other languages call, though no path of Rattle names them
+EXPORTS = {("postscript_c", "exports")}
+QUOTING = ("docs/recipes.md",)
 HEAD = """# The public items
 
-This page is printed by `tools/gate/api.py` from the sources. Do not edit it: change the comments in the sources, and print it again.
+`tools/gate/api.py` prints this page from the sources. To change it, change the comments in the sources and print it again.
 
-Each item has its signature, its comment, and the clauses of its contract. `requires` is what a caller has to prove. `ensures` is
-what is proved of every call that meets this. A function that implements a trait's, and has no clauses here, has those of the trait.
+Each item has its signature, its comment and the clauses of its contract. `requires` is the caller's obligation. `ensures` holds for every call that
+meets it; the line above a clause says it in words. A function that implements a trait's, and has no clauses here, has those of the trait.
 
-A clause is a statement about the definitions that [DEFINITIONS.md](DEFINITIONS.md) lists. In a clause `result` is the answer, and `x`
-an argument. `x.now` is what stands behind a reference; `x.old` and `x.new` are what stood there before the call and after it; `x.entry`
-is the argument as it was passed. `ensures*` tells of what an answer lends, and how the lender stands after that.
+A clause is a statement about [definitions](definitions.md). `result` is the result and `x` an argument. `x.now` is the value behind a
+reference, `x.old` and `x.new` are that value before and after the call, and `x.entry` is the argument as it was passed. `ensures*` speaks of borrowed results: how the
+lender is afterwards.
 """
 SHOWN_ATTRIBUTES = ("#[derive", "#[error", "#[must_use", "#[non_exhaustive")
 KINDS = ("fn", "struct", "enum", "trait", "type", "const", "static")
 ITEM = re.compile(
-    r"(?P<pub>pub(?P<within>\([^)]*\))? )?(?:final |unsafe )*(?P<kind>fn|struct|enum|trait|type|const|static|mod|use|impl)\b(?P<rest>.*)"
+    r"(?P<pub>pub(?P<within>\([^)]*\))? )?(?:final |unsafe |extern \S+ )*(?P<kind>fn|struct|enum|trait|type|const|static|mod|use|impl)\b(?P<rest>.*)"
 )
 CLAUSE = re.compile(r"(requires|ensures|decreases)\b\*? *(\w*)")
 
@@ -191,7 +194,8 @@ def read_module(crate, path, above, public, doc, items):
         item.crate = crate
         if item.kind == "mod":
             comment, inner = module_text(crate, path, item)
-            module.modules[item.name] = read_module(crate, (*path, item.name), module, item.public, comment, inner)
+            shown = item.public or (crate, item.name) in EXPORTS
+            module.modules[item.name] = read_module(crate, (*path, item.name), module, shown, comment, inner)
     return module
 
 

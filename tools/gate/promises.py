@@ -1,11 +1,10 @@
 #!/usr/bin/python3
-"""Looks up each clause, law, definition and type that README, PROMISES, DEFINITIONS, ARCHITECTURE and DECISIONS name, and prints those that are not there.
+"""Looks up each clause, law, definition, type, file and link that the pages of docs/ name, and prints missing ones.
 
     tools/gate/promises.py
 
-A cell names clauses as "clauses `found`, `why` of `FontView::read`, `read_font`", and laws by their path, as `postscript_view::laws::reads_layout`.
-Clauses of implementations of traits, and of crates that API.md leaves out, are not looked up. It ends with status 1 where one is missing. What a
-clause says it does not look at.
+A cell names clauses as "clauses `found`, `why` of `FontView::read`, `read_font`", and laws by their path, as `postscript_view::laws::reads_layout`. Clauses of
+implementations of traits are not looked up. The status is 1 if anything is missing. The script does not judge what a clause says.
 """
 
 import pathlib
@@ -13,7 +12,10 @@ import re
 import sys
 
 TOP = pathlib.Path(__file__).resolve().parents[2]
-PAGES = ("README.md", "docs/PROMISES.md", "docs/DEFINITIONS.md", "docs/ARCHITECTURE.md", "docs/DECISIONS.md")
+TALK = ("CHANGELOG.md", "docs/API.md", "docs/comparison.md")
+PAGES = sorted(str(path.relative_to(TOP)) for path in [*TOP.glob("*.md"), *TOP.glob("docs/**/*.md")] if str(path.relative_to(TOP)) not in TALK)
+#: names of other software, and of fonts and formats
+FOREIGN = {"OSError", "ImportError", "Send", "Sync"}
 HEADING = re.compile(r'^#+ <a id="([^"]+)"></a>')
 CLAUSE = re.compile(r"^\s*ensures\*? (\w+) \{")
 NAME = re.compile(r"`([^`]+)`|\b(of)\b|(;)")
@@ -38,6 +40,8 @@ def words():
     for kind in ("rt", "antt"):
         for file in (TOP / "crates").glob(f"*/s*/**/*.{kind}"):
             found.update(re.findall(r"\w+", file.read_text(encoding="utf-8")))
+    for file in [*(TOP / "bindings").glob("rust/src/*.rs"), *(TOP / "bindings").glob("python/postscript/*.py")]:
+        found.update(re.findall(r"\w+", file.read_text(encoding="utf-8")))
     return found
 
 
@@ -81,10 +85,21 @@ def laws():
     return {name for file in files for name in re.findall(r"^pub fn (\w+)", file.read_text(encoding="utf-8"), re.M)}
 
 
-def missing(found, all_laws, all_words, line):
+def dead_links(page, line):
+    """The links and the scripts that a line names and that are not there."""
+    for link in re.findall(r"\]\(([^)#]+)(?:#[^)]*)?\)", line):
+        if "://" not in link and not (TOP / page).parent.joinpath(link).exists():
+            yield f"the link {link}"
+    for path in re.findall(r"`((?:tools|crates|bindings)/[\w./-]+)", line):
+        if "NAME" not in path and "build" not in path and not (TOP / path.rstrip("./")).exists():
+            yield f"the file {path}"
+
+
+def missing(found, all_laws, all_words, page, line):
     """What a line names that is not there."""
+    yield from dead_links(page, line)
     for name in re.findall(r"`([A-Z][a-z]\w*(?:::\w+)?)`", line):
-        if not all(word in all_words for word in name.split("::")):
+        if name not in FOREIGN and not all(word in all_words for word in name.split("::")):
             yield name
     for law in re.findall(r"`(?:\w+::)*laws::(\w+)`", line):
         if law not in all_laws:
@@ -103,7 +118,7 @@ def main():
     found, all_laws, all_words, bad = contracts(), laws(), words(), 0
     for page in PAGES:
         for number, line in enumerate((TOP / page).read_text(encoding="utf-8").splitlines(), 1):
-            for it in missing(found, all_laws, all_words, line):
+            for it in missing(found, all_laws, all_words, page, line):
                 print(f"{page}:{number}: {it}")
                 bad += 1
     print(f"{bad} missing")
