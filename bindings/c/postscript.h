@@ -1,37 +1,37 @@
-/* postscript.h: fonts of the Compact Font Format and their glyphs.
+/* postscript.h: CFF fonts and their glyphs.
  *
- * The functions are those of a static library that is proved: over any bytes, and over any numbers in a psf_font, each
- * call returns, reads nothing outside the bytes that it is given, writes nothing outside the room that it is given, and
- * keeps no pointer. What a call answers is proved too: docs/LINKED.md tells what.
+ * The functions come from a static library whose source is proved. For any bytes, any values in a psf_font and any buffer sizes,
+ * each call returns, reads only its input, writes only its output buffers, and keeps no pointer. What each result means is
+ * proved too: see docs/c.md and docs/API.md.
  *
- * What the caller owes, for each call:
+ * Obligations of the caller, for each call:
  *
- *   - Each pointer is to as many bytes, or elements, as the length beside it says, and is aligned for its type.
- *   - No pointer is null. Where a length is 0, any other address does, as that of a variable: it is not read. (The
- *     bindings for Rust and Python never pass a null pointer.)
- *   - What a call writes to overlaps nothing else that the call is given.
- *   - While a call runs, no other thread writes to the bytes or the numbers that it reads.
- *   - malloc, realloc and free are those of one allocator, and no call is made from a signal handler.
+ *   - Each pointer points to as many bytes or elements as the length next to it says, and is aligned for its type.
+ *   - No pointer is null. If a length is 0, pass the address of any variable; it is not read.
+ *   - Output buffers do not overlap each other or the input.
+ *   - While a call runs, no other thread writes to its input.
+ *   - malloc, realloc and free belong to one allocator, and no call is made from a signal handler.
  *
- * Nothing has to be freed, and nothing is kept between calls: threads may share bytes and a psf_font.
+ * Nothing has to be freed. Calls keep no state, so threads may share bytes and a psf_font.
  *
- * Time and memory: each call that takes a psf_font runs a glyph, an accented one with its base and its accent, within font->limit,
- * which the caller may change. Of the 20,000,000 units that psf_font_open tells it reads at most as many bytes of phrases (operators
- * with the numbers before them; a roll counts as 4096 more, and a square root as 8) and one phrase besides, which takes well under a
- * second. What psf_glyph_flat and psf_glyph_operations keep is in proportion. psf_font_flat and psf_font_subset are handed a limit for
- * the runs of all glyphs together, of which a refusal takes as many units as the longest code has bytes, and go through these six times
- * at most. docs/BOUNDS.md tells what else takes time, and docs/LINKED.md what of this is proved, and what is tested.
+ * Return values: PSF_OK, or a status that says why the call failed. If a buffer is too small, a call returns PSF_NO_ROOM, sets
+ * *count to the size that is needed, and does not write to the buffer. On any other error the outputs are unchanged, unless
+ * the function says otherwise.
+ *
+ * Time and memory: a call with a psf_font runs a glyph, with the components of a seac glyph, for at most font->limit units. An
+ * operator with the numbers before it costs one unit per byte, a roll 4,096 more, a sqrt 8 more. psf_font_open sets the limit
+ * to PSF_LIMIT; you may change it. Memory is proportional to the result, which grows with the limit. psf_font_flat and
+ * psf_font_subset take a limit for the whole font. docs/limits.md lists what else takes time, and what was measured.
  *
  * The library is built for 64-bit machines only.
  *
- * Units: coordinates, widths and bounds are in 65536ths of a unit of the font. Glyphs, faces and bytes are counted from 0.
+ * Units: coordinates, widths and bounds are in 1/65536 of a font unit. Glyphs, faces and offsets count from 0.
  *
- * Variable fonts: psf_variation_axis and the four calls beside it take a whole OpenType file, and a face of it, in place of the bytes of
- * a table CFF. A place of the design space is named by coordinates[0..named], a user coordinate in 65536ths for each axis, in the order of the
- * axes. An axis that has none of its own stands at its default, and a coordinate outside of its axis is taken for the end that it is
- * past. A face without a table fvar has no axes, and its only place has no coordinates. A call on a place also answers
- * PSF_TOO_MANY_COORDINATES, PSF_MEMORY, and PSF_CUT_FVAR, PSF_UNKNOWN_FVAR, PSF_CUT_AVAR or PSF_UNKNOWN_AVAR where that table is refused; and each
- * of the five PSF_CUT_FILE, PSF_UNKNOWN_FILE and PSF_NO_FACE. Where one is refused, what it writes to is as it was.
+ * Variable fonts: psf_variation_axis and the four calls after it take a whole OpenType file and the index of a face, instead of a
+ * CFF table. Axis values are coordinates[0..named]: user coordinates in 1/65536, in the order of the axes. Missing ones are
+ * defaults, and all are clamped to their axis. A face without an fvar table has no axes. These calls also return
+ * PSF_TOO_MANY_COORDINATES and PSF_MEMORY; PSF_CUT_FVAR, PSF_UNKNOWN_FVAR, PSF_CUT_AVAR or PSF_UNKNOWN_AVAR for a malformed
+ * table; and PSF_CUT_FILE, PSF_UNKNOWN_FILE or PSF_NO_FACE for the file.
  */
 #ifndef POSTSCRIPT_H
 #define POSTSCRIPT_H
@@ -43,321 +43,307 @@
 extern "C" {
 #endif
 
-/* The version of this header: its major, minor and patch number, a byte each. psf_version tells that of the library. */
+/* The version of this header: major, minor and patch number, a byte each. psf_version returns the library's. */
 #define PSF_VERSION 0x000200u
 
-/* What a call answers: PSF_OK, or why it is refused. psf_status_text tells each in words. */
+/* Statuses. psf_status_text returns a sentence for each. "Unused": no call of this header returns it, except that the error of
+ * a broken charset may be any number from 1 to 30. */
 enum {
     PSF_OK = 0,
-    PSF_UNEXPECTED_EOF = 1,               /* bytes are wanting: something is cut, or its place is past the end */
-    PSF_IO = 2,                           /* not answered by a call of this header */
-    PSF_MEMORY = 3,                       /* memory was asked for and refused; or font dictionaries of over 20,000,000 bytes */
-    PSF_TAPE_STUCK = 4,                   /* not answered by a call of this header */
-    PSF_MALFORMED_OFFSET = 5,             /* offsets of an INDEX of no byte, or of more than four */
-    PSF_MALFORMED_INDEX = 6,              /* not answered by a call of this header */
-    PSF_MALFORMED_NUMBER = 7,             /* the bytes spell no number */
+    PSF_UNEXPECTED_EOF = 1,               /* the data ends early, or an offset points past the end */
+    PSF_IO = 2,                           /* unused */
+    PSF_MEMORY = 3,                       /* out of memory; or Font DICTs of more than 20,000,000 bytes */
+    PSF_TAPE_STUCK = 4,                   /* unused */
+    PSF_MALFORMED_OFFSET = 5,             /* the offset size of an INDEX is 0 or greater than 4 */
+    PSF_MALFORMED_INDEX = 6,              /* unused */
+    PSF_MALFORMED_NUMBER = 7,             /* the bytes are no number */
     PSF_OUT_OF_RANGE_NUMBER = 8,          /* a real number with too many digits, or too large an exponent */
-    PSF_UNKNOWN_OPERATOR = 9,             /* a code names no operator */
-    PSF_MALFORMED_CHAR_SET = 10,          /* not answered by a call of this header */
-    PSF_UNKNOWN_CHAR_SET_FORMAT = 11,     /* no char set has this format */
-    PSF_UNKNOWN_CHAR_STRING_FORMAT = 12,  /* char strings of another type than 2 */
-    PSF_MALFORMED_OPERATION = 13,         /* an operand of a dictionary is no whole number of 32 bits */
-    PSF_MISSING_OPERATION = 14,           /* an operator of a dictionary is missing, or has too few operands */
+    PSF_UNKNOWN_OPERATOR = 9,             /* no operator has this code */
+    PSF_MALFORMED_CHAR_SET = 10,          /* unused */
+    PSF_UNKNOWN_CHAR_SET_FORMAT = 11,     /* no charset has this format */
+    PSF_UNKNOWN_CHAR_STRING_FORMAT = 12,  /* CharstringType is not 2 */
+    PSF_MALFORMED_OPERATION = 13,         /* an operand of a DICT is not a 32-bit integer */
+    PSF_MISSING_OPERATION = 14,           /* an operator of a DICT is missing, or has too few operands */
     PSF_OUT_OF_RANGE_OFFSET = 15,         /* an offset is negative */
-    PSF_UNSUPPORTED = 16,                 /* a part of the format that is not followed */
-    PSF_EXPECTED_OPERAND = 17,            /* an operator takes an operand off an empty stack */
-    PSF_EXPECTED_INTEGER = 18,            /* a number that has to be whole is not, or is missing */
-    PSF_EXPECTED_MORE_OPERANDS = 19,      /* the stack is not as deep as dup, index or roll reaches */
+    PSF_UNSUPPORTED = 16,                 /* a feature that is not supported */
+    PSF_EXPECTED_OPERAND = 17,            /* an operator needs an operand, and the stack is empty */
+    PSF_EXPECTED_INTEGER = 18,            /* a number that must be an integer is not, or is missing */
+    PSF_EXPECTED_MORE_OPERANDS = 19,      /* dup, index or roll reaches below the stack */
     PSF_MALFORMED_OPERANDS = 20,          /* too few operands for an operator that draws or declares stems */
-    PSF_INVALID_OPERAND = 21,             /* the span of a roll, or the place of a stored number, is out of range */
-    PSF_MISSING_SUBROUTINE = 22,          /* no subroutine has the number */
-    PSF_RETURN_WITHOUT_CALLER = 23,       /* the outermost code returns */
-    PSF_TRAILING_DATA = 24,               /* bytes stand behind endchar in a subroutine */
+    PSF_INVALID_OPERAND = 21,             /* the count of a roll, or the index of put or get, is out of range */
+    PSF_MISSING_SUBROUTINE = 22,          /* no subroutine has this number */
+    PSF_RETURN_WITHOUT_CALLER = 23,       /* return outside of a subroutine */
+    PSF_TRAILING_DATA = 24,               /* bytes after endchar in a subroutine */
     PSF_TOO_DEEP = 25,                    /* an eleventh nested call */
-    PSF_OVERFLOW = 26,                    /* a number, or a coordinate, beyond 16.16 bits */
-    PSF_ZERO_DIVISOR = 27,                /* a division by zero */
-    PSF_NEGATIVE_ROOT = 28,               /* the root of a negative number */
-    PSF_TOO_MANY_STEMS = 29,              /* more stems than 32 bits count */
-    PSF_ALREADY_FAILED = 30,              /* not answered by a call of this header */
-    PSF_NO_GLYPH = 31,                    /* no glyph has the number, or the name */
-    PSF_NO_ROOM = 32,                     /* the room is too small: the count tells how much is needed */
-    PSF_CUT_FILE = 33,                    /* the file is cut */
-    PSF_UNKNOWN_FILE = 34,                /* no OpenType file */
+    PSF_OVERFLOW = 26,                    /* a number or a coordinate exceeds 16.16 bits */
+    PSF_ZERO_DIVISOR = 27,                /* division by zero */
+    PSF_NEGATIVE_ROOT = 28,               /* sqrt of a negative number */
+    PSF_TOO_MANY_STEMS = 29,              /* more stems than 32 bits can count */
+    PSF_ALREADY_FAILED = 30,              /* unused */
+    PSF_NO_GLYPH = 31,                    /* no glyph has this number or name */
+    PSF_NO_ROOM = 32,                     /* the buffer is too small; *count is the size that is needed */
+    PSF_CUT_FILE = 33,                    /* the file is truncated */
+    PSF_UNKNOWN_FILE = 34,                /* not an OpenType file */
     PSF_NO_FACE = 35,                     /* the file has no such face */
     PSF_NO_TABLE = 36,                    /* the face has no such table */
-    PSF_NO_MAP = 37,                      /* the table cmap has no map of a format that is read */
+    PSF_NO_MAP = 37,                      /* the cmap table has no subtable of format 4, 6 or 12 */
     PSF_NO_NAME = 38,                     /* the glyph has no name */
-    PSF_NO_STATUS = 39,                   /* no status has the number */
-    PSF_REFUSED_GLYPH = 40,               /* the run of a glyph is refused, and so no font is written */
-    PSF_SEVERAL_FONTS = 41,               /* the font set has several fonts, or none */
-    PSF_NO_PART = 42,                     /* FDSelect gives a glyph of a CID-keyed font no font dictionary that is there */
-    PSF_NO_GLYPHS = 43,                   /* no glyphs are named */
-    PSF_TOO_LARGE = 45,                   /* what is to be written is too large */
-    PSF_TOO_LONG = 46,                    /* the run of a glyph, or the runs of all, do not come to their ends within the limit */
-    PSF_NO_CODE = 47,                     /* an accented glyph names no codes, whole numbers from 0 to 255 */
-    PSF_NO_ACCENTS = 48,                  /* an accented glyph of a CID-keyed font, whose glyphs have no names */
-    PSF_NO_COMPONENT = 49,                /* no glyph of the font is the base or the accent of an accented glyph */
-    PSF_NESTED_ACCENT = 50,               /* the base or the accent of an accented glyph is accented itself */
+    PSF_NO_STATUS = 39,                   /* no status has this number */
+    PSF_REFUSED_GLYPH = 40,               /* a glyph has an error, so no font is written */
+    PSF_SEVERAL_FONTS = 41,               /* the CFF table has several fonts, or none */
+    PSF_NO_PART = 42,                     /* FDSelect gives a glyph of a CID-keyed font no Font DICT */
+    PSF_NO_GLYPHS = 43,                   /* no glyphs were named */
+    PSF_TOO_LARGE = 45,                   /* the output would be too large */
+    PSF_TOO_LONG = 46,                    /* a glyph, or the whole font, costs more than the limit */
+    PSF_NO_CODE = 47,                     /* a seac glyph names no codes from 0 to 255 */
+    PSF_NO_ACCENTS = 48,                  /* a seac glyph in a CID-keyed font, whose glyphs have no names */
+    PSF_NO_COMPONENT = 49,                /* no glyph is the base or the accent of a seac glyph */
+    PSF_NESTED_ACCENT = 50,               /* the base or the accent of a seac glyph is a seac glyph */
     PSF_NO_AXIS = 51,                     /* the font has no such axis */
     PSF_NO_INSTANCE = 52,                 /* the font has no such named instance */
     PSF_TOO_MANY_COORDINATES = 53,        /* there are more coordinates than axes */
-    PSF_CUT_FVAR = 54,                    /* the table fvar is cut */
-    PSF_UNKNOWN_FVAR = 55,                /* the table fvar is of no format that is known */
-    PSF_CUT_AVAR = 56,                    /* the table avar is cut */
-    PSF_UNKNOWN_AVAR = 57,                /* the table avar is of no format that is known */
-    PSF_CUT_HVAR = 58,                    /* the table HVAR is cut */
-    PSF_UNKNOWN_HVAR = 59,                /* the table HVAR is of no format that is known */
-    PSF_NO_ADVANCES = 60,                 /* the tables hhea and hmtx tell no advances */
-    PSF_CFF2_HEADER = 61,                 /* the table CFF2 has no header */
-    PSF_CFF2_VERSION = 62,                /* the table CFF2 is of another version than 2 */
-    PSF_CFF2_DICTIONARY = 63,             /* the Top DICT of the table CFF2 is cut */
-    PSF_CFF2_SUBROUTINES = 64,            /* the Global Subr INDEX of the table CFF2 is cut or malformed */
-    PSF_CFF2_OFFSET = 65,                 /* the Top DICT of the table CFF2 tells no offset of a part */
-    PSF_CFF2_INDEX = 66,                  /* an INDEX that the Top DICT of the table CFF2 names is cut or malformed */
-    PSF_CFF2_SELECT = 67,                 /* FDSelect of the table CFF2 is cut, or of another format than 0, 3 and 4 */
-    PSF_CFF2_STORE = 68,                  /* the variation store of the table CFF2 is cut, or of another format than 1 */
-    PSF_CFF2_DATA = 69                    /* item variation data of the table CFF2 do not stand in its store */
+    PSF_CUT_FVAR = 54,                    /* the fvar table is truncated */
+    PSF_UNKNOWN_FVAR = 55,                /* the fvar table has an unknown format */
+    PSF_CUT_AVAR = 56,                    /* the avar table is truncated */
+    PSF_UNKNOWN_AVAR = 57,                /* the avar table has an unknown format */
+    PSF_CUT_HVAR = 58,                    /* the HVAR table is truncated */
+    PSF_UNKNOWN_HVAR = 59,                /* the HVAR table has an unknown format */
+    PSF_NO_ADVANCES = 60,                 /* the hhea and hmtx tables are truncated */
+    PSF_CFF2_HEADER = 61,                 /* the CFF2 table has no header */
+    PSF_CFF2_VERSION = 62,                /* the CFF2 table has another major version than 2 */
+    PSF_CFF2_DICTIONARY = 63,             /* the Top DICT of the CFF2 table is truncated */
+    PSF_CFF2_SUBROUTINES = 64,            /* the Global Subr INDEX of the CFF2 table is malformed */
+    PSF_CFF2_OFFSET = 65,                 /* the Top DICT of the CFF2 table lacks an offset */
+    PSF_CFF2_INDEX = 66,                  /* an INDEX of the CFF2 table is malformed */
+    PSF_CFF2_SELECT = 67,                 /* FDSelect of the CFF2 table is malformed, or of another format than 0, 3 and 4 */
+    PSF_CFF2_STORE = 68,                  /* the variation store of the CFF2 table is malformed */
+    PSF_CFF2_DATA = 69                    /* item variation data of the CFF2 table are missing or truncated */
 };
 
-/* What a segment is. */
+/* Kinds of segments. */
 enum {
     PSF_MOVE = 0,  /* a contour begins at (x, y) */
     PSF_LINE = 1,  /* a line to (x, y) */
     PSF_CURVE = 2, /* a Bézier curve with the control points (x1, y1) and (x2, y2) to (x, y) */
-    PSF_CLOSE = 3  /* the contour goes back to where it began, and ends */
+    PSF_CLOSE = 3  /* the contour is closed */
 };
 
-/* The tag of a table, as PSF_TAG('C', 'F', 'F', ' '). */
+/* A table tag, for example PSF_TAG('C', 'F', 'F', ' '). */
 #define PSF_TAG(a, b, c, d) \
     ((uint32_t)(uint8_t)(a) << 24 | (uint32_t)(uint8_t)(b) << 16 | (uint32_t)(uint8_t)(c) << 8 | (uint32_t)(uint8_t)(d))
 
-/* What a private dictionary says of glyphs. Widths are cut towards zero to 65536ths, which changes no whole number, and one beyond 64
- * bits is told as the nearest number of 64 bits. */
+/* What a Private DICT says about glyphs. Widths are truncated towards zero to 1/65536, which changes no integer, and clamped
+ * to 64 bits. */
 typedef struct psf_part {
-    uint64_t local_subroutines; /* the place of their INDEX; 0: there is none */
-    int64_t default_width;      /* the width of glyphs whose programs tell none */
-    int64_t nominal_width;      /* what is added to the width that a program tells */
+    uint64_t local_subroutines; /* the offset of their INDEX; 0: none */
+    int64_t default_width;      /* defaultWidthX: the advance of glyphs without a width */
+    int64_t nominal_width;      /* nominalWidthX: added to the width of a charstring */
 } psf_part;
 
-/* The limit that psf_font_open tells, in units of psf_font_fits. Runs of glyphs keep to it. Outside of runs a call takes steps that are
- * bounded by the bytes that it is given, times its font dictionaries at most; docs/BOUNDS.md tells which. */
+/* The limit that psf_font_open sets, in units. Outside of charstrings, the steps of a call are bounded by the size of its input,
+ * times the number of Font DICTs at most; see docs/limits.md. */
 #define PSF_LIMIT 20000000u
 
-/* A font: where its parts stand in the bytes. It may be copied, kept and sent, and any numbers in it are safe: a call over
- * others answers something else, or refuses. A place of 0 stands for nothing. */
+/* A font: the offsets of its parts. You may copy, store and send it. With other field values a call returns another result or
+ * an error, but stays safe. An offset of 0 means "absent". */
 typedef struct psf_font {
-    uint64_t char_strings;       /* the place of the INDEX of char strings */
-    uint64_t global_subroutines; /* the place of the INDEX of global subroutines */
-    uint64_t font_dictionaries;  /* of a CID-keyed font the place of the INDEX FDArray; else 0 */
-    uint64_t fd_select;          /* of a CID-keyed font the place of FDSelect; else 0 */
-    psf_part part;               /* of any other font */
-    uint64_t glyphs;             /* how many glyphs there are */
-    uint32_t is_cid;             /* 1 of a CID-keyed font, else 0 */
-    uint64_t limit;              /* how long a call may run a glyph, in units of psf_font_fits: psf_font_open tells PSF_LIMIT */
+    uint64_t char_strings;       /* the offset of the CharStrings INDEX */
+    uint64_t global_subroutines; /* the offset of the Global Subr INDEX */
+    uint64_t font_dictionaries;  /* CID-keyed fonts: the offset of FDArray; otherwise 0 */
+    uint64_t fd_select;          /* CID-keyed fonts: the offset of FDSelect; otherwise 0 */
+    psf_part part;               /* all other fonts: the Private DICT */
+    uint64_t glyphs;             /* the number of glyphs */
+    uint32_t is_cid;             /* 1 if the font is CID-keyed, otherwise 0 */
+    uint64_t limit;              /* how many units a call may spend on a glyph; psf_font_open sets PSF_LIMIT */
 } psf_font;
 
-/* A piece of an outline. Numbers that its kind does not have are 0. */
+/* A segment of an outline. Coordinates that its kind does not have are 0. */
 typedef struct psf_segment {
     uint32_t kind;
     int32_t x1, y1, x2, y2;
     int32_t x, y;
 } psf_segment;
 
-/* What is told of a glyph besides its segments. */
+/* A glyph, apart from its segments. */
 typedef struct psf_glyph {
-    int64_t advance;                   /* the width: the default one, or the nominal one and what the program tells */
-    int32_t left, bottom, right, top;  /* the bounds of all points, control points too; 0 where there is none */
-    uint32_t has_bounds;               /* 1 where there is a point, else 0 */
-    uint32_t has_width;                /* 1 where the program tells a width, else 0 */
+    int64_t advance;                   /* the advance: defaultWidthX, or nominalWidthX plus the width */
+    int32_t left, bottom, right, top;  /* the bounds of all points, including control points; 0 if there are none */
+    uint32_t has_bounds;               /* 1 if there is a point, otherwise 0 */
+    uint32_t has_width;                /* 1 if the charstring has a width, otherwise 0 */
 } psf_glyph;
 
-/* The bounds of the lines and curves of a glyph, by its ends and the extrema of its curves, to a 65536th more. */
+/* The bounds of the lines and curves of a glyph, with the extrema of its curves, at most 1/65536 too large. */
 typedef struct psf_bounds {
-    int32_t left, bottom, right, top; /* 0 where there is no point */
-    uint32_t has_bounds;              /* 1 where there is a point, else 0 */
+    int32_t left, bottom, right, top; /* 0 if there is no point */
+    uint32_t has_bounds;              /* 1 if there is a point, otherwise 0 */
 } psf_bounds;
 
-/* An operation of a glyph: its operator, and which of the operands of all operations are its own. Behind them stand the operands of
- * the stems that a mask implies (vstemhm before hintmask may be left out), and behind these the bytes of the mask, each as a number. */
+/* An operation of a glyph: its operator, and its part of the list of all operands. After its own operands come those of the stems
+ * that a mask implies (vstemhm before hintmask may be omitted), and then the bytes of the mask, one number each. */
 typedef struct psf_operation {
-    uint64_t first;          /* where its operands begin */
-    uint64_t count;          /* how many they are */
-    uint64_t stems;          /* how many operands of implied stems are behind them, 0 but at a mask */
-    uint64_t mask;           /* how many bytes of a mask are behind these, 0 but at a mask */
-    uint32_t operator_code;  /* its code; that of two bytes is 0x0c00 and the second, as 0x0c23 for flex */
+    uint64_t first;          /* the index of its first operand */
+    uint64_t count;          /* the number of its operands */
+    uint64_t stems;          /* the number of operands of implied stems; 0 except at a mask */
+    uint64_t mask;           /* the number of mask bytes; 0 except at a mask */
+    uint32_t operator_code;  /* its code; two-byte codes as 0x0c00 plus the second byte, 0x0c23 for flex */
 } psf_operation;
 
 /* A character that has a glyph. */
 typedef struct psf_character {
-    uint32_t character; /* its number in Unicode */
-    uint32_t glyph;     /* its glyph, which is not 0 */
+    uint32_t character; /* its Unicode code point */
+    uint32_t glyph;     /* its glyph, not 0 */
 } psf_character;
 
-/* An axis of a variable font. Its values are user coordinates, in 65536ths. */
+/* An axis of a variable font. Its values are user coordinates, in 1/65536. */
 typedef struct psf_axis {
-    uint32_t tag;           /* as PSF_TAG('w', 'g', 'h', 't') */
+    uint32_t tag;           /* for example PSF_TAG('w', 'g', 'h', 't') */
     int32_t minimum;
     int32_t default_value;
     int32_t maximum;
-    uint32_t is_hidden;     /* 1 where it is not to be shown to users, else 0 */
-    uint32_t name;          /* the identifier of its name in the table name */
+    uint32_t is_hidden;     /* 1 if it should not be shown to users, otherwise 0 */
+    uint32_t name;          /* its name ID in the name table */
 } psf_axis;
 
-/* A named instance of a variable font, but for its coordinates. */
+/* A named instance of a variable font, without its coordinates. */
 typedef struct psf_instance {
-    uint32_t name;           /* the identifier of its name in the table name */
+    uint32_t name;           /* its name ID in the name table */
     uint32_t flags;
-    int32_t postscript_name; /* the identifier of its PostScript name there, or -1 where it has none */
+    int32_t postscript_name; /* the name ID of its PostScript name, or -1 */
 } psf_instance;
 
-/* What is told of a font that is not written, besides the status. */
+/* Details of an error of psf_font_flat and psf_font_subset. */
 typedef struct psf_refusal {
-    uint64_t glyph; /* the glyph that is meant; 0 where none is */
-    int32_t cause;  /* on PSF_REFUSED_GLYPH what its run is refused with; else 0 */
+    uint64_t glyph; /* the glyph of the error; 0 if there is none */
+    int32_t cause;  /* on PSF_REFUSED_GLYPH the error of the glyph; otherwise 0 */
 } psf_refusal;
 
-/* The version of the library, as PSF_VERSION. */
+/* Returns the version of the library, in the form of PSF_VERSION. */
 uint32_t psf_version(void);
 
-/* The text of a status, in English, without a byte 0 at its end, to the front of text[0..room].
- * On PSF_OK and PSF_NO_ROOM *count is how many bytes it has. Also answered: PSF_NO_STATUS. */
+/* Writes the text of a status, in English and without a terminating 0, to text[0..room].
+ * Sets *count to its length on PSF_OK and PSF_NO_ROOM. Other errors: PSF_NO_STATUS. */
 int32_t psf_status_text(int32_t status, uint8_t *text, size_t room, size_t *count);
 
-/* How many faces an OpenType file has: one, or those of a collection.
- * On PSF_OK *faces tells them. Also answered: PSF_CUT_FILE, PSF_UNKNOWN_FILE. */
+/* Counts the faces of an OpenType file: one, or those of a collection.
+ * On an error *faces may have any value. Errors: PSF_CUT_FILE, PSF_UNKNOWN_FILE. */
 int32_t psf_file_faces(const uint8_t *file, size_t length, size_t *faces);
 
-/* Where a table of a face of an OpenType file stands.
- * On PSF_OK *place is its offset in the file and *size how many bytes it has, and *place + *size is at most length. The
- * table of the first record is told that has the tag and lies within the file.
- * Also answered: PSF_NO_TABLE, PSF_CUT_FILE, PSF_UNKNOWN_FILE, PSF_NO_FACE. */
+/* Finds a table of a face: the first record with this tag whose table lies within the file.
+ * On PSF_OK, *place is its offset in the file and *size its length, and *place + *size is at most length.
+ * On an error both may have any value. Errors: PSF_NO_TABLE, PSF_CUT_FILE, PSF_UNKNOWN_FILE, PSF_NO_FACE. */
 int32_t psf_file_table(const uint8_t *file, size_t length, size_t face, uint32_t tag, size_t *place, size_t *size);
 
-/* The glyph of a character, by the bytes of a table cmap: by its best map of formats 4, 6 or 12.
- * On PSF_OK *glyph is the glyph, or 0 where the character has none. Also answered: PSF_NO_MAP. */
+/* Looks up the glyph of a character in a cmap table, in its best subtable of format 4, 6 or 12.
+ * On PSF_OK *glyph is the glyph, or 0 if there is none. On an error *glyph may have any value. Errors: PSF_NO_MAP. */
 int32_t psf_map_glyph(const uint8_t *cmap, size_t length, uint32_t character, size_t *glyph);
 
-/* All characters that have a glyph, in ascending order, by the same map, to the front of characters[0..room].
- * On PSF_OK and PSF_NO_ROOM *count is how many they are. Also answered: PSF_NO_MAP and PSF_MEMORY; then nothing is written. */
+/* Lists all characters that have a glyph in the same subtable, in ascending order, in characters[0..room].
+ * Sets *count to their number on PSF_OK and PSF_NO_ROOM. Other errors: PSF_NO_MAP, PSF_MEMORY. */
 int32_t psf_map_characters(const uint8_t *cmap, size_t length, psf_character *characters, size_t room, size_t *count);
 
-/* Opens the font that the bytes of a table CFF begin with.
- * On PSF_OK *font tells where its parts stand. Else the status is an error from 1 to 15, and *font is as it was. */
+/* Opens the first font of a CFF table. Errors: from 1 to 15. */
 int32_t psf_font_open(const uint8_t *cff, size_t length, psf_font *font);
 
-/* Whether the runs of all glyphs of a font come to their ends within a limit, which they share. A font of a few bytes may
- * name more calls of subroutines than can be run in years. An operator takes a unit of the limit for each of its bytes, with the
- * numbers before it, a roll 4096 more, and a square root 8 more. A run that is refused takes as many more as the longest code has bytes,
- * its own or a subroutine, and one for each subroutine.
- * On PSF_OK each glyph's run ends, or is refused, with the *limit that was given, and *limit is what is left. On PSF_TOO_LONG the
- * glyphs cost the limit, at least, and *limit is 0. Else the font is refused, and *limit is as it was, or memory is. */
+/* Checks whether each glyph of a font ends within a limit. A small font can nest subroutine calls so that a glyph takes years.
+ * A glyph with an error costs the length of the longest charstring or subroutine, plus one unit for each subroutine.
+ * On PSF_OK each glyph ends, or has an error, within the *limit that was given, and *limit is reduced by the cost of all.
+ * On PSF_TOO_LONG the glyphs together cost at least the limit, and *limit is 0. On PSF_MEMORY *limit may have any value. On any
+ * other error the font is malformed, and *limit is unchanged. */
 int32_t psf_font_fits(const uint8_t *cff, size_t length, uint64_t *limit);
 
-/* The outline of a glyph, to the front of segments[0..room]; its number of segments, its width and its bounds.
- * An accented glyph, whose endchar takes the four numbers adx ady bchar achar (Technical Note 5177, Appendix C), is drawn whole:
- * its own contours, those of the base, and those of the accent, with its origin at (adx, ady). Base and accent are the first
- * glyphs that have the names of the two codes in the standard encoding (.notdef where it lists none), in the font that the bytes
- * begin with. The width is that of the glyph's own run. The three runs share font->limit, which is spent as psf_font_fits says.
- * A glyph of a CID-keyed font has the subroutines and the widths of the font dictionary that FDSelect gives it, in format 0 or 3
- * (Technical Note 5176, section 19); where there is one font dictionary, it is that of all glyphs, and FDSelect is not asked.
- * On PSF_OK and PSF_NO_ROOM *count and *info are told, and on PSF_OK segments[0..*count] is the outline: contours, each from
- * a PSF_MOVE to a PSF_CLOSE. With a room of 0 the call tells how much room is needed.
- * Also answered: PSF_NO_GLYPH; PSF_NO_PART, also where FDSelect is cut, of another format, or of ranges that fall; PSF_TOO_LONG where the limit is used
- * up; of an accented glyph PSF_NO_CODE, PSF_NO_ACCENTS, PSF_NO_COMPONENT and PSF_NESTED_ACCENT; and errors from 1 to 30, also of the
- * base and the accent. Then segments, *count and *info are all as they were. */
+/* Draws a glyph: writes its outline to segments[0..room], and its advance and bounds to *info.
+ * An outline consists of contours, each from a PSF_MOVE to a PSF_CLOSE.
+ * A seac glyph, whose endchar has the operands adx ady bchar achar (Technical Note 5177, Appendix C), is drawn with its
+ * components: its own contours, those of the base, and those of the accent with its origin at (adx, ady). The components are the
+ * first glyphs with the names of the two codes in the standard encoding (.notdef for other codes) in the first font of the
+ * table. The advance is that of the glyph itself. All three share font->limit.
+ * In a CID-keyed font, FDSelect of format 0 or 3 selects the Font DICT, with its subroutines and widths (Technical Note 5176,
+ * section 19). If there is only one, FDSelect is ignored.
+ * Sets *count and *info on PSF_OK and PSF_NO_ROOM. Other errors: PSF_NO_GLYPH; PSF_NO_PART, also if FDSelect is malformed;
+ * PSF_TOO_LONG; of a seac glyph PSF_NO_CODE, PSF_NO_ACCENTS, PSF_NO_COMPONENT, PSF_NESTED_ACCENT; and from 1 to 30. */
 int32_t psf_glyph_outline(const uint8_t *cff, size_t length, const psf_font *font, size_t glyph,
                           psf_segment *segments, size_t room, size_t *count, psf_glyph *info);
 
-/* The bounds of the lines and curves of a glyph: those of the outline that psf_glyph_outline draws, an accented one whole, within
- * the same limit. (psf_glyph_outline tells the bounds of all points, control points too.)
- * On PSF_OK *bounds is told. Also answered: what psf_glyph_outline answers besides PSF_NO_ROOM; then *bounds is as it was. */
+/* Computes the bounds of the lines and curves of the outline that psf_glyph_outline draws, within the same limit. (The bounds in
+ * psf_glyph also include control points.) Errors: those of psf_glyph_outline, except PSF_NO_ROOM. */
 int32_t psf_glyph_bounds(const uint8_t *cff, size_t length, const psf_font *font, size_t glyph, psf_bounds *bounds);
 
-/* The code of a glyph without calls of subroutines, to the front of code[0..room]: over any subroutines it has the operations
- * and the width of the glyph. Its run keeps to font->limit.
- * On PSF_OK and PSF_NO_ROOM *count is how many bytes it has. Also answered: PSF_NO_GLYPH, PSF_NO_PART as by psf_glyph_outline,
- * PSF_TOO_LONG where the limit is used up, and errors from 1 to 30. */
+/* Writes the charstring of a glyph without subroutine calls to code[0..room]. With any subroutines it has the operations and the
+ * width of the glyph. The run keeps to font->limit.
+ * Sets *count to its length on PSF_OK and PSF_NO_ROOM. Other errors: PSF_NO_GLYPH, PSF_NO_PART, PSF_TOO_LONG, and from 1 to 30. */
 int32_t psf_glyph_flat(const uint8_t *cff, size_t length, const psf_font *font, size_t glyph,
                        uint8_t *code, size_t room, size_t *count);
 
-/* The operations of a glyph, in the order of its run, to the front of operations[0..room], and the operands of all of them to
- * the front of operands[0..operand_room]. Those of operations[i] are operands[first..first + count]; at hintmask and cntrmask those of
- * the stems that the mask implies are the next ones, as many as stems tells, and then come as many numbers from 0 to 255 as mask
- * tells, the bytes of the mask. An accented glyph has its own operations alone. Its run keeps to font->limit.
- * On PSF_OK and PSF_NO_ROOM *count and *operand_count tell how many there are of each; on PSF_NO_ROOM one of them is more than
- * its room, and nothing else is written. Also answered: PSF_NO_GLYPH, PSF_NO_PART as by psf_glyph_outline, PSF_TOO_LONG where the
- * limit is used up, and errors from 1 to 30; then nothing is written. */
+/* Lists the operations of a glyph in operations[0..room], and the operands of all of them in operands[0..operand_room].
+ * operations[i] has operands[first..first + count]. At hintmask and cntrmask, these are followed by `stems` operands of implied
+ * stems and by `mask` numbers from 0 to 255, the bytes of the mask. A seac glyph has only its own operations. The run keeps to
+ * font->limit.
+ * Sets *count and *operand_count on PSF_OK and PSF_NO_ROOM. On PSF_NO_ROOM one of the two buffers is too small, and both are
+ * unchanged. Other errors: PSF_NO_GLYPH, PSF_NO_PART, PSF_TOO_LONG, and from 1 to 30. */
 int32_t psf_glyph_operations(const uint8_t *cff, size_t length, const psf_font *font, size_t glyph,
                              psf_operation *operations, size_t room, size_t *count,
                              int32_t *operands, size_t operand_room, size_t *operand_count);
 
-/* The font without subroutines, to the front of flat[0..room]: a table CFF of the same glyphs, each of which draws what it drew,
- * with the same advance, name or CID, and codes. The runs of all glyphs share the limit; a good one is twenty times that of psf_font_open.
- * On PSF_TOO_LONG they take more, as psf_font_fits tells.
- * On PSF_OK and PSF_NO_ROOM *count is how many bytes it has, and *refusal is as it was. Else *refusal is told.
- * Also answered: PSF_REFUSED_GLYPH, PSF_SEVERAL_FONTS, PSF_NO_PART, PSF_TOO_LARGE, and errors from 1 to 16. */
+/* Writes a CFF table with the same glyphs and no subroutines to flat[0..room]. Each glyph draws the same, and has the same
+ * advance, codes, and name or CID.
+ * The font must pass psf_font_fits with this limit, otherwise the call returns PSF_TOO_LONG. A good limit is 20 * PSF_LIMIT.
+ * Sets *count to the size on PSF_OK and PSF_NO_ROOM; on all other errors sets *refusal instead. Other errors: PSF_REFUSED_GLYPH,
+ * PSF_SEVERAL_FONTS, PSF_NO_PART, PSF_NO_NAME, PSF_TOO_LARGE, and from 1 to 16. */
 int32_t psf_font_flat(const uint8_t *cff, size_t length, uint64_t limit, uint8_t *flat, size_t room, size_t *count,
                       psf_refusal *refusal);
 
-/* The font of .notdef, the glyphs that glyphs[0..named] names, and the base and the accent of each one that is kept and accented,
- * without subroutines, to the front of subset[0..room].
- * Where keeps is 0 they are numbered anew, in ascending order, and an encoding of the font's own gives way to the standard
- * one. Else each keeps its number, and those between them are empty.
- * What is told is told as by psf_font_flat. Also answered: as there, and PSF_NO_GLYPHS, PSF_NO_GLYPH, PSF_NO_NAME. */
+/* Writes a CFF table with .notdef, glyphs[0..named], and the components of all seac glyphs among them, without subroutines, to
+ * subset[0..room].
+ * If keeps is 0, glyphs get new numbers in ascending order, and a custom encoding is replaced by the standard one. Otherwise
+ * glyphs keep their numbers, and all others are empty.
+ * Outputs and errors are those of psf_font_flat, and PSF_NO_GLYPHS, PSF_NO_GLYPH. */
 int32_t psf_font_subset(const uint8_t *cff, size_t length, const size_t *glyphs, size_t named, uint32_t keeps,
                         uint64_t limit, uint8_t *subset, size_t room, size_t *count, psf_refusal *refusal);
 
-/* The name of a glyph of the font that the bytes of a table CFF begin with, without a byte 0 at its end, to the front of
- * name[0..room]. A CID-keyed font has CIDs in place of names.
- * On PSF_OK and PSF_NO_ROOM *count is how many bytes it has. Also answered: PSF_NO_NAME, and errors from 1 to 15. */
+/* Writes the name of a glyph, without a terminating 0, to name[0..room]. The glyphs of a CID-keyed font have no names.
+ * Sets *count to its length on PSF_OK and PSF_NO_ROOM. Other errors: PSF_NO_NAME, and from 1 to 30. */
 int32_t psf_glyph_name(const uint8_t *cff, size_t length, size_t glyph, uint8_t *name, size_t room, size_t *count);
 
-/* The identifiers of all glyphs of the font that the bytes of a table CFF begin with, by its char set, to the front of
- * identifiers[0..room]: of their names, which psf_font_string has, or in a CID-keyed font the CIDs; -1 of a glyph that has none.
- * On PSF_OK and PSF_NO_ROOM *count is how many glyphs there are. Also answered: errors from 1 to 15. */
+/* Lists the charset in identifiers[0..room]: for each glyph the SID of its name, or the CID in a CID-keyed font; -1 if a glyph
+ * has neither. psf_font_string returns the string of a SID.
+ * Sets *count to the number of glyphs on PSF_OK and PSF_NO_ROOM. Other errors: from 1 to 30. */
 int32_t psf_font_identifiers(const uint8_t *cff, size_t length, int32_t *identifiers, size_t room, size_t *count);
 
-/* The string of an identifier in the font that the bytes of a table CFF begin with, a standard string or one of its own, without a byte 0 at
- * its end, to the front of string[0..room].
- * On PSF_OK and PSF_NO_ROOM *count is how many bytes it has. Also answered: PSF_NO_NAME, and errors from 1 to 15. */
+/* Writes the string of a SID, standard or from the String INDEX, without a terminating 0, to string[0..room].
+ * Sets *count to its length on PSF_OK and PSF_NO_ROOM. Other errors: PSF_NO_NAME, and from 1 to 15. */
 int32_t psf_font_string(const uint8_t *cff, size_t length, uint16_t identifier, uint8_t *string, size_t room, size_t *count);
 
-/* The first glyph that has a name, in the font that the bytes of a table CFF begin with.
- * On PSF_OK *glyph is the glyph. Also answered: PSF_NO_GLYPH, and errors from 1 to 15. */
+/* Finds the first glyph with a name. Errors: PSF_NO_GLYPH, and from 1 to 30. */
 int32_t psf_named_glyph(const uint8_t *cff, size_t length, const uint8_t *name, size_t name_length, size_t *glyph);
 
-/* An axis of a variable font.
- * On PSF_OK *axis is the axis, and on PSF_OK and PSF_NO_AXIS *count is how many axes there are.
- * Also answered: PSF_NO_TABLE where the face has no table fvar; PSF_CUT_FVAR, PSF_UNKNOWN_FVAR. */
+/* Returns axis i of a variable font in *axis. Sets *count to the number of axes on PSF_OK and PSF_NO_AXIS.
+ * Other errors: PSF_NO_TABLE if the face has no fvar table, PSF_CUT_FVAR, PSF_UNKNOWN_FVAR. */
 int32_t psf_variation_axis(const uint8_t *file, size_t length, size_t face, size_t i, psf_axis *axis, size_t *count);
 
-/* A named instance of a variable font, and its user coordinates, one for each axis, to the front of coordinates[0..room].
- * On PSF_OK and PSF_NO_ROOM *instance is the instance, and *count is how many axes there are.
- * Also answered: PSF_NO_INSTANCE; PSF_NO_TABLE where the face has no table fvar; PSF_CUT_FVAR, PSF_UNKNOWN_FVAR; PSF_MEMORY. */
+/* Returns named instance i of a variable font in *instance, and its user coordinates, one per axis, in coordinates[0..room].
+ * Sets *instance and *count, the number of axes, on PSF_OK and PSF_NO_ROOM.
+ * Other errors: PSF_NO_INSTANCE, PSF_NO_TABLE if the face has no fvar table, PSF_CUT_FVAR, PSF_UNKNOWN_FVAR, PSF_MEMORY. */
 int32_t psf_variation_instance(const uint8_t *file, size_t length, size_t face, size_t i, psf_instance *instance,
                                int32_t *coordinates, size_t room, size_t *count);
 
-/* The outline of a glyph at a place, to the front of segments[0..room]; its number of segments, and the bounds of all points, control points
- * too: of a face with a table CFF2, or else with a table CFF, which varies along no axis and is drawn as psf_glyph_outline draws it, so that
- * fonts of either table are drawn by the same calls. PSF_LIMIT is a good limit. It bounds how long the run of the glyph may take: each number and each operator takes
- * a unit for each of its bytes, and a blend one more for each number on the stack. And it bounds, by itself, what the place takes: for each
- * region that the variation store's data name a unit, and one for each axis.
- * On PSF_OK and PSF_NO_ROOM *count and *bounds are told, and on PSF_OK segments[0..*count] is the outline, as by psf_glyph_outline.
- * Also answered: PSF_NO_GLYPH, also where the glyph has no Font DICT that stands; PSF_NO_TABLE where the face has neither table;
- * those from PSF_CFF2_HEADER to PSF_CFF2_DATA; PSF_TOO_LONG; of a table CFF what psf_font_open and psf_glyph_outline answer; and errors from
- * 1 to 30 of the run. */
+/* Draws a glyph at the given axis values: writes its outline to segments[0..room], and the bounds of all points, including
+ * control points, to *bounds. A face with a CFF table and no CFF2 table has no axes and is drawn as by psf_glyph_outline.
+ * PSF_LIMIT is a good limit. It bounds the run: each number and operator costs one unit per byte, a blend one more per number on
+ * the stack. It also bounds, separately, the location: one unit per region that the variation data name, and per axis.
+ * Sets *count and *bounds on PSF_OK and PSF_NO_ROOM. Other errors: PSF_NO_GLYPH, also if the glyph has no Font DICT;
+ * PSF_NO_TABLE if the face has neither table; from PSF_CFF2_HEADER to PSF_CFF2_DATA; PSF_TOO_LONG; from 1 to 30; and for a CFF
+ * table those of psf_font_open and psf_glyph_outline. */
 int32_t psf_variable_outline(const uint8_t *file, size_t length, size_t face, const int32_t *coordinates, size_t named,
                              size_t glyph, uint64_t limit, psf_segment *segments, size_t room, size_t *count, psf_bounds *bounds);
 
-/* How many glyphs a face has: as many as its table CFF2, or else its table CFF, has charstrings.
- * On PSF_OK *count is told. Also answered: PSF_NO_TABLE where the face has neither table; those from PSF_CFF2_HEADER to PSF_CFF2_STORE; of a
- * table CFF what psf_font_open answers. */
+/* Counts the glyphs of a face: the charstrings of its CFF2 table, or of its CFF table.
+ * Errors: PSF_NO_TABLE if the face has neither; from PSF_CFF2_HEADER to PSF_CFF2_STORE; for a CFF table those of psf_font_open. */
 int32_t psf_variable_glyphs(const uint8_t *file, size_t length, size_t face, size_t *count);
 
-/* The advance of a glyph at a place, in whole units of the font: that of the tables hhea and hmtx, and to the nearest unit what the table
- * HVAR adds, where there is one. A glyph behind those of hmtx has the last one's.
- * On PSF_OK *advance is told. Also answered: PSF_NO_GLYPH of a number above 65535; PSF_NO_TABLE where the face has no table hhea or hmtx;
- * PSF_NO_ADVANCES; PSF_CUT_HVAR, PSF_UNKNOWN_HVAR; PSF_MEMORY. */
+/* Returns the advance of a glyph at the given axis values, in whole font units: hmtx plus the HVAR delta, rounded to the nearest
+ * unit. A glyph after the last one of hmtx has the last advance. This call has no limit.
+ * Errors: PSF_NO_GLYPH for a number above 65535; PSF_NO_TABLE if the face has no hhea or hmtx table; PSF_NO_ADVANCES;
+ * PSF_CUT_HVAR, PSF_UNKNOWN_HVAR; PSF_MEMORY. */
 int32_t psf_variable_advance(const uint8_t *file, size_t length, size_t face, const int32_t *coordinates, size_t named,
                              size_t glyph, int64_t *advance);
 

@@ -1,34 +1,33 @@
-"""Fonts of the Compact Font Format (.otf files with a table `CFF ` or `CFF2`) and the outlines of their glyphs.
+"""CFF fonts (.otf files with a `CFF ` or `CFF2` table) and the outlines of their glyphs.
 
-The work is done by a shared library that is proved: over any bytes each call returns, reads nothing outside them, and answers
-what the specification says. This module calls it by ctypes, and needs nothing besides Python.
+The work is done by a shared library whose source is proved: for any bytes each call returns, reads nothing outside of them, and
+gives the result that its contract states. This module calls it through ctypes, and needs nothing else.
 
     import postscript
 
     font = postscript.Font.open("font.otf")
     glyph = font.glyph_of("A")
     print(glyph.advance, glyph.bounds, glyph.svg_path())
-    glyph.draw(pen)  # a pen of fontTools, or anything with its four methods
+    glyph.draw(pen)  # a fontTools pen, or anything with its four methods
     print(len(font), font.names[:3], font.cmap[0x41], [glyph.advance for glyph in font])
 
     variable = postscript.VariableFont.open("variable.otf")
     print(variable.axes, variable.at(wght=650).glyph_of("A").svg_path())
 
-Units. Coordinates, bounds and advances are in units of the font, of which most fonts with a table `CFF ` have 1000 to the em. They
-are whole numbers of 65536ths, so a float holds them exactly. Glyphs and faces are counted from 0, and characters are Unicode's.
+Units. Coordinates, bounds and advances are in font units, usually 1000 to the em. They are multiples of 1/65536, so a float
+holds them exactly. Glyphs and faces are numbered from 0, and characters are Unicode code points.
 
-Errors. A call that is refused raises `Error`: `status` says why, and `glyph` of which glyph, where it is about one.
+Errors. A call that fails raises `Error`: `status` says why, and `glyph` for which glyph, if it is about one.
 
-Bytes. A font is read from `bytes`, a `bytearray`, a `memoryview` or an `mmap`, or any other object with contiguous bytes. They are
-not copied: the font and its glyphs hold the object, so an mmap is closed after they are gone (`del font`). Nobody may change the
-bytes while the font is used, nor cut a file that is mapped.
+Memory. A font is read in place from `bytes`, a `bytearray`, a `memoryview`, an `mmap`, or any object with contiguous bytes. The
+font and its glyphs keep the object alive, so close an mmap after they are gone (`del font`). Do not modify the buffer, or truncate
+a mapped file, while the font is in use.
 
-Threads. The library keeps nothing between calls, and Python's lock is let go while it works. So threads may share a font and its
+Threads. The library keeps no state between calls, and the GIL is released during each call. Threads may share a font and its
 glyphs, and draw at the same time.
 
-The library is the file that the environment's POSTSCRIPT_LIBRARY names, or libpostscript.so.0 beside this module, or in the
-folder that the Makefile of the C bindings fills, or where the system keeps libraries. One of another version than this module's
-is refused with an `ImportError`.
+The library is the file named by the environment variable POSTSCRIPT_LIBRARY, or libpostscript.so.0 next to this module, or the
+one that the Makefile of the C bindings builds, or the system's. A library of another version raises an `ImportError`.
 """
 
 from __future__ import annotations
@@ -49,21 +48,21 @@ __all__ = [
 
 __version__ = "0.2.0"
 
-#: The version of this module, and of the library that it calls: major, minor and patch number.
+#: The version of this module and of its library: major, minor and patch number.
 VERSION = (0, 2, 0)
 
-#: What bytes are read from, without a copy. Any other object that has contiguous bytes does too.
+#: Objects that are read without a copy. Any other object with contiguous bytes works too.
 Buffer = Union[bytes, bytearray, memoryview, mmap.mmap]
 
-#: A point in units of the font; both coordinates are whole numbers of 65536ths, so they are exact.
+#: A point in font units. Both coordinates are multiples of 1/65536, so they are exact.
 Point = Tuple[float, float]
 
-#: A piece of an outline, as fontTools' RecordingPen has it: a pen's method and its points.
+#: A segment of an outline, as in fontTools' RecordingPen: a pen's method and its points.
 Segment = Tuple[str, Tuple[Point, ...]]
 
 
 class Bounds(NamedTuple):
-    """A rectangle, in units of the font."""
+    """A rectangle, in font units."""
 
     left: float
     bottom: float
@@ -72,9 +71,9 @@ class Bounds(NamedTuple):
 
 
 class Operation(NamedTuple):
-    """An operation of a glyph: the operator's name and its operands, which are whole numbers of 65536ths, so they are exact. At
-    `hintmask` and `cntrmask` the operands of the stems that the mask implies, which no operator declared, and the bytes of the mask, a
-    bit for each stem (Technical Note 5177, "Hint Operators")."""
+    """An operation of a glyph: the operator's name and its operands, which are exact multiples of 1/65536. At `hintmask` and
+    `cntrmask` it also has the operands of the stems that the mask implies, and the bytes of the mask, one bit per stem (Technical Note
+    5177, "Hint Operators")."""
 
     operator: str
     operands: Tuple[float, ...]
@@ -83,7 +82,7 @@ class Operation(NamedTuple):
 
 
 class Pen(Protocol):
-    """What a glyph is drawn with: the pens of fontTools have these methods."""
+    """A pen that draws a glyph. The pens of fontTools have these methods."""
 
     def moveTo(self, pt: Point) -> None: ...
 
@@ -95,7 +94,7 @@ class Pen(Protocol):
 
 
 class SegmentPen:
-    """A pen that lists what it is given: `segments` is then as `Glyph.segments`, of which `draw` is the way back."""
+    """A pen that records segments, in the form of `Glyph.segments`. `draw` is the way back."""
 
     def __init__(self) -> None:
         self.segments: List[Segment] = []
@@ -114,13 +113,13 @@ class SegmentPen:
 
 
 def draw(segments: Iterable[Segment], pen: Pen) -> None:
-    """Draws an outline with a pen: it is called once for each segment, in their order."""
+    """Draws an outline with a pen, one call per segment, in order."""
     for method, points in segments:
         getattr(pen, method)(*points)
 
 
 class Status(enum.IntEnum):
-    """What a call answers: OK, or why it is refused. postscript.h says more of each."""
+    """The status of a call: OK, or the cause of the error. postscript.h explains each."""
 
     OK = 0
     UNEXPECTED_EOF = 1
@@ -198,13 +197,13 @@ def _status(number: int) -> Union[Status, int]:
 
 
 class Error(Exception):
-    """A call was refused. Its text says why, and so does `status`. `glyph` is the number of the glyph that the call was about, or None."""
+    """A call failed. The text and `status` say why. `glyph` is the number of the glyph that the call was about, or None."""
 
     def __init__(self, status: int, text: Optional[str] = None, glyph: Optional[int] = None) -> None:
         super().__init__(_text_of(status) if text is None else text)
-        #: a `Status`, or a number where this module knows none
+        #: a `Status`, or a number that this module does not know
         self.status: Union[Status, int] = _status(status)
-        #: the number of a glyph, from 0 on
+        #: the number of a glyph, from 0
         self.glyph: Optional[int] = glyph
 
     def __reduce__(self) -> Tuple[Any, ...]:
@@ -212,8 +211,8 @@ class Error(Exception):
 
 
 class WriteError(Error):
-    """A font was not written. `glyph` is the glyph that is meant, of the statuses that mean one, and `cause` why its run is refused,
-    of `Status.REFUSED_GLYPH`."""
+    """A font was not written. `glyph` is the glyph that caused it, if one did. For `Status.REFUSED_GLYPH`, `cause` is the error of
+    that glyph."""
 
     def __init__(self, status: int, glyph: int, cause: int) -> None:
         means_glyph = status in (Status.REFUSED_GLYPH, Status.NO_GLYPH, Status.NO_PART, Status.NO_NAME)
@@ -226,7 +225,7 @@ class WriteError(Error):
         return type(self), self._told
 
 
-#: the operators that runs tell, by their codes
+#: operators by code
 _OPERATORS = {
     0x01: "hstem", 0x03: "vstem", 0x04: "vmoveto", 0x05: "rlineto", 0x06: "hlineto", 0x07: "vlineto", 0x08: "rrcurveto",
     0x12: "hstemhm", 0x13: "hintmask", 0x14: "cntrmask", 0x15: "rmoveto", 0x16: "hmoveto", 0x17: "vstemhm", 0x18: "rcurveline",
@@ -235,10 +234,10 @@ _OPERATORS = {
 }  # fmt: skip
 
 
-#: the limit of a font, where none is given: how long a call may run a glyph
+#: the default limit of a font: how many units a call may spend on a glyph
 LIMIT = 20_000_000
 
-#: how many times its limit all glyphs of a font may take together that is written
+#: how many times the limit a whole font may cost when it is written
 _GLYPHS = 20
 
 
@@ -307,7 +306,7 @@ class _Refusal(Structure):
 
 
 def _load() -> ctypes.CDLL:
-    """The library, where it is of this module's version."""
+    """Loads the library, if it has this module's version."""
     own = Path(__file__).resolve().parent
     places = (own / "libpostscript.so.0", own.parents[1] / "c" / "build" / "libpostscript.so")
     named = os.environ.get("POSTSCRIPT_LIBRARY")
@@ -328,7 +327,7 @@ def _three(number: int) -> Tuple[int, int, int]:
 
 
 class _PyBuffer(Structure):
-    """Where an object has its bytes: Py_buffer, of the buffer protocol of Python."""
+    """Py_buffer, from Python's buffer protocol."""
 
     _fields_ = [
         ("buf", c_void_p),
@@ -350,12 +349,12 @@ _get_buffer.argtypes, _get_buffer.restype = [ctypes.py_object, POINTER(_PyBuffer
 _release_buffer = ctypes.pythonapi.PyBuffer_Release
 _release_buffer.argtypes, _release_buffer.restype = [POINTER(_PyBuffer)], None
 
-#: a place for no bytes, since no pointer may be null
+#: an address for empty input, since no pointer may be null
 _NOTHING = ctypes.create_string_buffer(1)
 
 
 class _Held:
-    """The bytes of an object, which is held as long as this is."""
+    """The bytes of an object, which is kept alive as long as this is."""
 
     def __init__(self, source: Buffer) -> None:
         self._is_held, self._buffer = False, _PyBuffer()
@@ -370,11 +369,11 @@ class _Held:
 
 
 class _View:
-    """Some of the bytes of an object, where they stand."""
+    """A part of the bytes of an object, in place."""
 
     def __init__(self, held: _Held, place: int, size: int) -> None:
         self._held = held
-        #: what a call is handed: where they begin, and how many they are
+        #: the arguments of a call: address and length
         self.told = held.place + place, size
 
     @classmethod
@@ -425,7 +424,7 @@ for _name, _arguments in {
 
 
 def _bytes_of(call: Callable[..., int], glyph: Optional[int] = None) -> bytes:
-    """The bytes that a call writes into the room that it is lent: more is lent where it is too small."""
+    """Returns the bytes that a call writes, with a larger buffer if the first is too small."""
     room, count = 64, c_size_t()
     while True:
         text = (c_uint8 * room)()
@@ -438,7 +437,7 @@ def _bytes_of(call: Callable[..., int], glyph: Optional[int] = None) -> bytes:
 
 
 def _name_of(call: Callable[..., int], glyph: Optional[int] = None) -> Optional[str]:
-    """The name that a call writes. None where it tells that there is none."""
+    """Returns the name that a call writes, or None if there is none."""
     try:
         return _bytes_of(call, glyph).decode("ascii", "backslashreplace")
     except Error as e:
@@ -448,7 +447,7 @@ def _name_of(call: Callable[..., int], glyph: Optional[int] = None) -> Optional[
 
 
 def _font_of(least: int, call: Callable[..., int]) -> bytes:
-    """The font that a call writes into the room that it is lent: more is lent where it is too small."""
+    """Returns the font that a call writes, with a larger buffer if the first is too small."""
     room, count, refusal = least, c_size_t(), _Refusal()
     while True:
         font = (c_uint8 * room)()
@@ -461,7 +460,7 @@ def _font_of(least: int, call: Callable[..., int]) -> bytes:
 
 
 def _rows_of(cmap: _View) -> List[_Character]:
-    """All characters of a table `cmap` that have a glyph; none where it has no map that is read."""
+    """Lists all characters of a `cmap` table with their glyphs; none if no subtable is supported."""
     room, count = 1024, c_size_t()
     while True:
         rows = (_Character * room)()
@@ -488,12 +487,12 @@ def _checked(status: int, glyph: Optional[int] = None) -> None:
 
 
 def version() -> Tuple[int, int, int]:
-    """The version of the library: its major, minor and patch number."""
+    """Returns the version of the library: major, minor and patch number."""
     return _three(_library.psf_version())
 
 
 def faces(file: Buffer) -> int:
-    """How many faces an OpenType file has: one, or those of a collection. Refused with `Status.CUT_FILE` and `UNKNOWN_FILE`."""
+    """Returns the number of faces in an OpenType file. Raises `Status.CUT_FILE` or `UNKNOWN_FILE`."""
     count, view = c_size_t(), _View.of(file)
     _checked(_library.psf_file_faces(*view.told, byref(count)))
     return count.value
@@ -506,16 +505,16 @@ def _table(file: _View, face: int, tag: bytes) -> _View:
 
 
 class CharacterMap(Mapping[int, int]):
-    """The characters of a font and their glyphs, by the best map of its table `cmap`: numbers of Unicode, and numbers of glyphs from 1 on.
+    """The characters of a font and their glyphs: a mapping from code points to glyph numbers, from the best subtable of `cmap`.
 
-    Looking a character up is one call of the library, and so is listing all of them, after which they are held."""
+    A lookup is one call of the library. Listing all characters is one call too, and its result is kept."""
 
     def __init__(self, cmap: Optional[_View]) -> None:
         self._cmap = cmap
         self._listed: Optional[Dict[int, int]] = None
 
     def _glyph(self, character: int) -> int:
-        """The glyph of a character, or 0. Refused with `Status.NO_MAP` where the font has no map that is read."""
+        """Returns the glyph of a character, or 0. Raises `Status.NO_MAP` if the font has no supported `cmap` subtable."""
         if self._cmap is None:
             raise Error(Status.NO_MAP)
         glyph = c_size_t()
@@ -548,10 +547,9 @@ class CharacterMap(Mapping[int, int]):
 
 
 class Font:
-    """A font: the bytes of its table `CFF `, and of its table `cmap` where there is one. The bytes are not copied, and their objects are
-    held.
+    """A font: its `CFF ` table, and its `cmap` table if it has one. The bytes are not copied.
 
-    `len` is how many glyphs there are, `font[7]` is one by its number, and a `for` goes over all of them."""
+    `len(font)` is the number of glyphs, `font[7]` is the glyph with that number, and a `for` loop visits all of them."""
 
     def __init__(self, cff: Union[Buffer, _View], cmap: Union[Buffer, _View, None] = None, limit: int = LIMIT) -> None:
         self._view = cff if isinstance(cff, _View) else _View.of(cff)
@@ -559,7 +557,7 @@ class Font:
         self._font = _Font()
         _checked(_library.psf_font_open(*self._view.told, byref(self._font)))
         self._font.limit = limit
-        #: the characters and their glyphs
+        #: the characters with their glyphs
         self.cmap = CharacterMap(self._map)
 
     def __repr__(self) -> str:
@@ -567,14 +565,14 @@ class Font:
 
     @classmethod
     def open(cls: Type[Font], path: Union[str, os.PathLike[str]], face: int = 0, limit: int = LIMIT) -> Font:
-        """A face of an OpenType file by its path, counted from 0. The file is read whole. Refused as `from_bytes` is, and with an
-        `OSError` where the file is not read."""
+        """Opens a face of an OpenType file by its path. The whole file is read. Raises the errors of `from_bytes`, and `OSError`
+        if the file cannot be read."""
         return cls.from_bytes(Path(path).read_bytes(), face, limit)
 
     @classmethod
     def from_bytes(cls: Type[Font], file: Buffer, face: int = 0, limit: int = LIMIT) -> Font:
-        """A face of an OpenType file by its bytes, counted from 0. Refused with `Status.CUT_FILE`, `UNKNOWN_FILE`, `NO_FACE`, with
-        `NO_TABLE` where it has no table `CFF `, and with an error from 1 to 15 where that table is no font."""
+        """Opens a face of an OpenType file by its bytes. Raises `Status.CUT_FILE`, `UNKNOWN_FILE`, `NO_FACE`, `NO_TABLE` if it has
+        no `CFF ` table, and an error from 1 to 15 if the table is malformed."""
         view = _View.of(file)
         cff, cmap = _table(view, face, b"CFF "), None
         try:
@@ -589,12 +587,12 @@ class Font:
 
     @property
     def cff(self) -> bytes:
-        """The bytes of the table `CFF `, copied."""
+        """A copy of the `CFF ` table."""
         return self._view.copied()
 
     @property
     def names(self) -> List[Optional[str]]:
-        """The name of each glyph, as `Glyph.name`."""
+        """The name of each glyph, as in `Glyph.name`."""
         if self.is_cid_keyed:
             return [None] * len(self)
         identifiers = self._identifiers()
@@ -603,21 +601,20 @@ class Font:
 
     @property
     def cids(self) -> List[Optional[int]]:
-        """The CID of each glyph of a CID-keyed font: its number in the character collection. None of a glyph that has none, as each of any
-        other font."""
+        """The CID of each glyph of a CID-keyed font. None for a glyph without one, and for all glyphs of other fonts."""
         if not self.is_cid_keyed:
             return [None] * len(self)
         return [identifier if identifier >= 0 else None for identifier in self._identifiers()]
 
     def _identifiers(self) -> List[int]:
-        """The identifier of each glyph, or -1."""
+        """The SID or CID of each glyph, or -1."""
         room, count = len(self), c_size_t()
         identifiers = (c_int32 * room)()
         _checked(_library.psf_font_identifiers(*self._view.told, identifiers, room, byref(count)))
         return identifiers[: count.value]
 
     def _string(self, identifier: int) -> Optional[str]:
-        """The string of an identifier. None where there is none."""
+        """The string of a SID, or None."""
         if identifier < 0:
             return None
         return _name_of(lambda *lent: _library.psf_font_string(*self._view.told, identifier, *lent))
@@ -632,18 +629,18 @@ class Font:
 
     @property
     def is_cid_keyed(self) -> bool:
-        """Whether the glyphs have numbers in place of names."""
+        """Whether the glyphs have CIDs instead of names."""
         return bool(self._font.is_cid)
 
     @property
     def limit(self) -> int:
-        """How long each call may run a glyph, an accented one with its base and its accent: at first `LIMIT`. An operator takes a unit
-        for each of its bytes, with the numbers before it, a roll 4096 more, and a square root 8 more. A font of a few bytes may name more calls of
-        subroutines than can be run in years: this is what stops them, with `Status.TOO_LONG`."""
+        """How many units a call may spend on a glyph with its components; by default `LIMIT`. An operator costs one unit per byte,
+        with the numbers before it, a roll 4,096 more, a sqrt 8 more. A small font can nest subroutine calls so that a glyph takes
+        years; the limit stops it, with `Status.TOO_LONG`."""
         return int(self._font.limit)
 
     def fits(self, limit: int) -> bool:
-        """Whether the runs of all glyphs come to their ends within a limit, which they share, and which is spent as `limit` says."""
+        """Returns whether each glyph ends, or has an error, within `limit` units."""
         status = _library.psf_font_fits(*self._view.told, byref(c_uint64(limit)))
         if status == Status.TOO_LONG:
             return False
@@ -652,19 +649,19 @@ class Font:
 
     @property
     def _limit_of_all(self) -> int:
-        """How long the runs of all glyphs may take together."""
+        """How many units a whole font may cost."""
         return min(self.limit * _GLYPHS, 2**64 - 1)
 
     def flat(self) -> bytes:
-        """The table `CFF ` of the same glyphs without subroutines: each draws what it drew, with the same advance, name or CID, and
-        codes. Refused with a `WriteError`, also where the runs of all glyphs use up twenty times the limit."""
+        """Returns a `CFF ` table with the same glyphs and no subroutines. Each draws the same, with the same advance, codes, and name
+        or CID. Raises `WriteError`, also if the font does not pass `fits` with 20 times the limit."""
         cff, limit = self._view, self._limit_of_all
         return _font_of(2 * len(cff) + 1024, lambda *lent: _library.psf_font_flat(*cff.told, limit, *lent))
 
     def subset(self, glyphs: Iterable[int], keep_numbers: bool = False) -> bytes:
-        """The table `CFF ` of `.notdef`, these glyphs, and the base and the accent of each one that is kept and accented, without
-        subroutines: numbered anew in ascending order, or with their numbers and empty glyphs between them. Refused with a `WriteError`,
-        as `flat` is."""
+        """Returns a `CFF ` table with `.notdef`, these glyphs, and the components of `seac` glyphs among them, without subroutines.
+        Glyphs get new numbers in ascending order. With `keep_numbers` they keep their numbers, and all others are empty. Raises
+        `WriteError`, as `flat` does."""
         cff, limit, numbers = self._view, self._limit_of_all, list(glyphs)
         named = (c_size_t * len(numbers))(*numbers)
         return _font_of(
@@ -672,11 +669,11 @@ class Font:
         )
 
     def glyph_of(self, character: str) -> Glyph:
-        """The glyph of a character: the glyph 0 where it has none. Refused with `Status.NO_MAP`."""
+        """Returns the glyph of a character, or glyph 0. Raises `Status.NO_MAP`."""
         return Glyph(self, self.cmap._glyph(ord(character)))
 
     def glyph_named(self, name: Union[str, bytes]) -> Glyph:
-        """The first glyph that has a name. Refused with `Status.NO_GLYPH` where none has it."""
+        """Returns the first glyph with a name. Raises `Status.NO_GLYPH` if there is none."""
         text = name.encode() if isinstance(name, str) else name
         glyph = c_size_t()
         _checked(_library.psf_named_glyph(*self._view.told, text, len(text), byref(glyph)))
@@ -684,16 +681,16 @@ class Font:
 
 
 class Glyph:
-    """A glyph of a font. It is drawn where something of it is asked for.
+    """A glyph of a font. It is drawn on first use.
 
-    An accented glyph, whose `endchar` names a base and an accent (Technical Note 5177, Appendix C), is drawn whole: its own
-    contours, those of the base, and those of the accent where the glyph says. The width is its own. The runs share
-    the limit of the font. Refused with `Status.NO_GLYPH`; with `Status.NO_PART` where FDSelect gives a glyph
-    of a CID-keyed font no font dictionary; with `Status.TOO_LONG` where the limit is used up; an accented glyph with
-    `Status.NO_CODE`, `NO_ACCENTS`, `NO_COMPONENT` and `NESTED_ACCENT`; and with what a run is refused with."""
+    A `seac` glyph, whose `endchar` names a base and an accent (Technical Note 5177, Appendix C), is drawn with both. Its advance
+    is its own. All three share the limit of the font.
+
+    Errors: `Status.NO_GLYPH`; `NO_PART` if FDSelect gives a glyph of a CID-keyed font no Font DICT; `TOO_LONG` beyond the limit;
+    `NO_CODE`, `NO_ACCENTS`, `NO_COMPONENT` and `NESTED_ACCENT` for a `seac` glyph; and those from 1 to 30."""
 
     def __init__(self, font: Font, number: int) -> None:
-        #: the font, and the number there, from 0 on
+        #: the font, and the number in it, from 0
         self.font, self.number = font, number
         self._drawn: Optional[Tuple[List[Segment], _Glyph]] = None
 
@@ -724,37 +721,36 @@ class Glyph:
 
     @property
     def advance(self) -> float:
-        """The width, in units of the font."""
+        """The advance, in font units."""
         return float(self._told()[1].advance / 65536)
 
     @property
     def bounds(self) -> Optional[Bounds]:
-        """The bounds of all points, control points too. None where there is no point."""
+        """The bounds of all points, including control points, or None."""
         return _bounds(self._told()[1])
 
     @property
     def tight_bounds(self) -> Optional[Bounds]:
-        """The bounds of the lines and curves, to a 65536th of a unit more: of an accented glyph those of the whole. None where there is
-        no point."""
+        """The bounds of the lines and curves, at most 1/65536 unit too large, or None. Includes the components of a `seac` glyph."""
         told = _Bounds()
         _checked(_library.psf_glyph_bounds(*self.font._view.told, byref(self.font._font), self.number, byref(told)), self.number)
         return _bounds(told)
 
     @property
     def name(self) -> Optional[str]:
-        """The name, where it has one. A byte that is no ASCII is written as `\\x` and its two digits."""
+        """The name, or None. Bytes outside ASCII are written as `\\x` and two digits."""
         cff = self.font._view
         return _name_of(lambda *lent: _library.psf_glyph_name(*cff.told, self.number, *lent), self.number)
 
     def flat_code(self) -> bytes:
-        """The code without calls of subroutines: over any subroutines it has the operations and the width of the glyph. Refused with
-        `Status.TOO_LONG` where its run uses up the font's limit."""
+        """Returns the charstring without subroutine calls. With any subroutines it has the operations and the width of the glyph.
+        Raises `Status.TOO_LONG` beyond the limit."""
         cff, font = self.font._view, byref(self.font._font)
         return _bytes_of(lambda *lent: _library.psf_glyph_flat(*cff.told, font, self.number, *lent), self.number)
 
     def operations(self) -> List[Operation]:
-        """The operations, in the order of the run: with subroutines called, the width taken off, and numbers worked out. `endchar` is not
-        one of them. An accented glyph has its own alone. Refused with `Status.TOO_LONG` where its run uses up the font's limit."""
+        """Returns the operations in order: subroutines are called, the width is removed, and arithmetic is done. `endchar` is not
+        included. A `seac` glyph has only its own. Raises `Status.TOO_LONG` beyond the limit."""
         cff, font = self.font._view, byref(self.font._font)
         room, operand_room, count, operand_count = 64, 256, c_size_t(), c_size_t()
         while True:
@@ -769,37 +765,37 @@ class Glyph:
             room, operand_room = count.value, operand_count.value
 
     def draw(self, pen: Pen) -> None:
-        """Draws the outline with a pen of fontTools."""
+        """Draws the outline with a fontTools pen."""
         draw(self.segments, pen)
 
     def svg_path(self) -> str:
-        """The path data of an SVG picture. Its y axis goes up, as that of the font, so show it under `scale(1 -1)`."""
+        """Returns SVG path data. The y axis goes up, so show it under `scale(1 -1)`."""
         return _path(self.segments)
 
 
 class Axis(NamedTuple):
-    """An axis of a variable font. Its values are user coordinates: whole numbers of 65536ths, so they are exact."""
+    """An axis of a variable font. Its values are user coordinates, exact multiples of 1/65536."""
 
     tag: str
     minimum: float
     default: float
     maximum: float
     is_hidden: bool
-    #: the identifier of its name in the table `name`
+    #: its name ID in the `name` table
     name_id: int
 
 
 class Instance(NamedTuple):
-    """A named instance of a variable font: a place, as `VariableFont.at` takes it."""
+    """A named instance of a variable font: axis values for `VariableFont.at`."""
 
     coordinates: Dict[str, float]
-    #: the identifier of its name in the table `name`, and that of its PostScript name where it has one
+    #: its name ID in the `name` table, and that of its PostScript name, or None
     name_id: int
     postscript_name_id: Optional[int]
 
 
 def _outlines(file: _View, face: int) -> _View:
-    """The table `CFF2`, or else `CFF `."""
+    """The `CFF2` table, or the `CFF ` table."""
     try:
         return _table(file, face, b"CFF2")
     except Error as e:
@@ -809,9 +805,8 @@ def _outlines(file: _View, face: int) -> _View:
 
 
 class VariableFont:
-    """A face of a file with a table `CFF2`, or else `CFF `: the bytes of the file, which are not copied, and whose object is held. `at`
-    gives a place of its design space, which has glyphs. So fonts with axes and without are drawn by the same calls; one without has one
-    place, `at()`.
+    """A face with a `CFF2` or `CFF ` table. The bytes of the file are not copied. `at` selects axis values and gives access to the
+    glyphs there. A font with a `CFF ` table has no axes, and `at()` is its only location.
 
         font = postscript.VariableFont.open("font.otf")
         print([axis.tag for axis in font.axes])
@@ -820,20 +815,19 @@ class VariableFont:
 
     def __init__(self, file: Union[Buffer, _View], face: int = 0, limit: int = LIMIT) -> None:
         self._view = file if isinstance(file, _View) else _View.of(file)
-        #: which face it is, from 0 on
+        #: the index of the face, from 0
         self.face = face
-        #: how long the run of a glyph may take, and by itself its place: each number and each operator takes a unit for each of its bytes,
-        #: a blend one more for each number on the stack, and each region of the place one, and one for each axis
+        #: how many units a glyph may cost, and separately its location: each number and operator costs one unit per byte, a blend one
+        #: more per number on the stack; a location costs one per region, and per axis
         self.limit = limit
         _outlines(self._view, face)
-        #: the axes, in their order
+        #: the axes, in order
         self.axes: Tuple[Axis, ...] = tuple(self._axes())
-        #: the characters and their glyphs
+        #: the characters with their glyphs
         self.cmap = CharacterMap(self._cmap())
 
     def __len__(self) -> int:
-        """How many glyphs there are, by the table `CFF2`, or else `CFF `. Refused with those from `Status.CFF2_HEADER` to `CFF2_STORE`, or
-        as `Font` is."""
+        """The number of glyphs. Raises errors from `Status.CFF2_HEADER` to `CFF2_STORE`, or those of `Font`."""
         count = c_size_t()
         _checked(_library.psf_variable_glyphs(*self._view.told, self.face, byref(count)))
         return count.value
@@ -843,14 +837,14 @@ class VariableFont:
 
     @classmethod
     def open(cls: Type[VariableFont], path: Union[str, os.PathLike[str]], face: int = 0, limit: int = LIMIT) -> VariableFont:
-        """A face of an OpenType file by its path, counted from 0. The file is read whole. Refused as `from_bytes` is, and with an
-        `OSError` where the file is not read."""
+        """Opens a face of an OpenType file by its path. The whole file is read. Raises the errors of `from_bytes`, and `OSError`
+        if the file cannot be read."""
         return cls(Path(path).read_bytes(), face, limit)
 
     @classmethod
     def from_bytes(cls: Type[VariableFont], file: Buffer, face: int = 0, limit: int = LIMIT) -> VariableFont:
-        """A face of an OpenType file by its bytes, counted from 0. Refused with `Status.CUT_FILE`, `UNKNOWN_FILE`, `NO_FACE`, with
-        `NO_TABLE` where it has neither table, and with `CUT_FVAR` and `UNKNOWN_FVAR`. Other tables are read where they are asked."""
+        """Opens a face of an OpenType file by its bytes. Raises `Status.CUT_FILE`, `UNKNOWN_FILE`, `NO_FACE`, `NO_TABLE` if it has
+        neither table, `CUT_FVAR` and `UNKNOWN_FVAR`. Other tables are read when they are needed."""
         return cls(file, face, limit)
 
     def _cmap(self) -> Optional[_View]:
@@ -862,7 +856,7 @@ class VariableFont:
             return None
 
     def _axes(self) -> Iterator[Axis]:
-        """The axes; none where there is no table `fvar`."""
+        """The axes; none without an `fvar` table."""
         number = 0
         while True:
             told, count = _Axis(), c_size_t()
@@ -877,7 +871,7 @@ class VariableFont:
 
     @property
     def instances(self) -> List[Instance]:
-        """The named instances, in their order."""
+        """The named instances, in order."""
         found: List[Instance] = []
         while True:
             told, count = _Instance(), c_size_t()
@@ -892,22 +886,20 @@ class VariableFont:
             found.append(Instance(coordinates, told.name, None if told.postscript_name < 0 else told.postscript_name))
 
     def at(self, coordinates: Mapping[str, float] = {}, **more: float) -> Place:
-        """A place of the design space, by user coordinates along axes: `font.at(wght=650)`, or `font.at(font.instances[0].coordinates)`.
-        An axis that is not named stands at its default, and a coordinate outside of its axis is taken for the end that it is past, to
-        the nearest 65536th. Refused with `Status.NO_AXIS` where the font has no axis of a tag."""
+        """Selects axis values, as user coordinates: `font.at(wght=650)`, or `font.at(font.instances[0].coordinates)`. Missing axes
+        have their defaults. Values are rounded to 1/65536 and clamped to their axis. Raises `Status.NO_AXIS` for an unknown tag."""
         return Place(self, {**coordinates, **more})
 
 
 class Place:
-    """A place of the design space of a variable font, with all glyphs of the font. From `VariableFont.at`. `place[7]` is a glyph by its
-    number."""
+    """A variable font at given axis values, from `VariableFont.at`. `place[7]` is the glyph with that number."""
 
     def __init__(self, font: VariableFont, asked: Mapping[str, float]) -> None:
         if not {axis.tag for axis in font.axes} >= set(asked):
             raise Error(Status.NO_AXIS)
         #: the font
         self.font = font
-        #: where the place stands along each axis
+        #: the value of each axis
         self.coordinates: Dict[str, float] = {
             axis.tag: max(axis.minimum, min(axis.maximum, asked.get(axis.tag, axis.default))) for axis in font.axes
         }
@@ -924,7 +916,7 @@ class Place:
         return map(self.glyph, range(len(self)))
 
     def glyph(self, number: int) -> VariableGlyph:
-        """A glyph by its number, from 0 on. Whether there is one is seen where something of it is asked for."""
+        """Returns a glyph by its number, from 0. If there is no such glyph, drawing it raises an error."""
         if number < 0:
             raise IndexError(number)
         return VariableGlyph(self, number)
@@ -933,18 +925,18 @@ class Place:
         return self.glyph(number)
 
     def glyph_of(self, character: str) -> VariableGlyph:
-        """The glyph of a character: the glyph 0 where it has none. Refused with `Status.NO_MAP`."""
+        """Returns the glyph of a character, or glyph 0. Raises `Status.NO_MAP`."""
         return VariableGlyph(self, self.font.cmap._glyph(ord(character)))
 
 
 class VariableGlyph:
-    """A glyph at a place. It is drawn where something of it is asked for.
+    """A glyph at given axis values. It is drawn on first use.
 
-    Refused with `Status.NO_GLYPH`, also where it has no Font DICT that stands; with `Status.TOO_LONG` where the limit is used up; with
-    `CUT_AVAR` and `UNKNOWN_AVAR`, or from `CFF2_HEADER` to `CFF2_DATA`, where a table is refused; and with what a run is refused with."""
+    Errors: `Status.NO_GLYPH`, also if the glyph has no Font DICT; `TOO_LONG` beyond the limit; `CUT_AVAR`, `UNKNOWN_AVAR`, and those
+    from `CFF2_HEADER` to `CFF2_DATA`, for a malformed table; and those from 1 to 30."""
 
     def __init__(self, place: Place, number: int) -> None:
-        #: the place, and the number in the font, from 0 on
+        #: the location, and the number in the font, from 0
         self.place, self.number = place, number
         self._drawn: Optional[Tuple[List[Segment], _Bounds]] = None
 
@@ -979,23 +971,23 @@ class VariableGlyph:
 
     @property
     def advance(self) -> float:
-        """The width, in units of the font: that of `hmtx`, and what `HVAR` adds, to the nearest unit. Refused with `Status.NO_TABLE`,
-        `NO_ADVANCES`, `CUT_HVAR` and `UNKNOWN_HVAR` too."""
+        """The advance, in font units: `hmtx` plus the `HVAR` delta, rounded to the nearest unit. Further errors: `Status.NO_TABLE`,
+        `NO_ADVANCES`, `CUT_HVAR` and `UNKNOWN_HVAR`."""
         advance = c_int64()
         _checked(_library.psf_variable_advance(*self._lent(), byref(advance)), self.number)
         return float(advance.value)
 
     @property
     def bounds(self) -> Optional[Bounds]:
-        """The bounds of all points, control points too. None where there is no point."""
+        """The bounds of all points, including control points, or None."""
         return _bounds(self._told()[1])
 
     def draw(self, pen: Pen) -> None:
-        """Draws the outline with a pen of fontTools."""
+        """Draws the outline with a fontTools pen."""
         draw(self.segments, pen)
 
     def svg_path(self) -> str:
-        """The path data of an SVG picture. Its y axis goes up, as that of the font, so show it under `scale(1 -1)`."""
+        """Returns SVG path data. The y axis goes up, so show it under `scale(1 -1)`."""
         return _path(self.segments)
 
 
