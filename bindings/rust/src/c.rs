@@ -1,5 +1,5 @@
-//! The functions of postscript.h, and safe calls of them. A slice is passed as its pointer, which is never null, and its
-//! length; what is written to is a `&mut`, which overlaps nothing else. So each caller meets what the header asks.
+//! The functions of postscript.h, and safe wrappers. A slice is passed as its pointer, which is never null, and its length. Outputs
+//! are `&mut`, which overlap nothing. So each wrapper meets the obligations of the header.
 use crate::error::{Error, Result};
 use alloc::string::String;
 use alloc::vec::Vec;
@@ -14,7 +14,7 @@ pub struct Part {
     nominal_width: i64,
 }
 
-/// `psf_font`: plain numbers, of which any are safe.
+/// `psf_font`: plain numbers; any values are safe.
 #[repr(C)]
 #[derive(Clone, Copy, Debug, Default)]
 pub struct Font {
@@ -85,7 +85,7 @@ pub struct Operation {
 }
 
 impl Operation {
-    /// Its own among the numbers of all operations: its operands, those of the stems that a mask implies, and the mask's bytes.
+    /// Its part of the numbers of all operations: its operands, those of the implied stems, and the bytes of the mask.
     pub fn own(self, numbers: &[i32]) -> (&[i32], &[i32], &[i32]) {
         let (operands, hints) = numbers[self.first as usize..].split_at(self.count as usize);
         let (stems, mask) = hints.split_at(self.stems as usize);
@@ -283,7 +283,7 @@ pub fn version() -> u32 {
     unsafe { psf_version() }
 }
 
-/// The version of this crate, as `psf_version` tells that of a library.
+/// The version of this crate, in the form of `psf_version`.
 pub const VERSION: u32 = number(env!("CARGO_PKG_VERSION_MAJOR")) << 16
     | number(env!("CARGO_PKG_VERSION_MINOR")) << 8
     | number(env!("CARGO_PKG_VERSION_PATCH"));
@@ -297,7 +297,7 @@ const fn number(digits: &str) -> u32 {
     number
 }
 
-/// Refused where a library is of another version than this crate, whose declarations are then not its own.
+/// Fails if the library has another version than this crate, whose declarations may not fit it then.
 pub fn is_own(version: u32) -> Result<()> {
     if version == VERSION {
         Ok(())
@@ -306,7 +306,7 @@ pub fn is_own(version: u32) -> Result<()> {
     }
 }
 
-/// The value, where the status is that of no refusal.
+/// The value, if the status is 0.
 fn answered<T>(status: i32, value: T) -> Result<T> {
     if status == OK {
         Ok(value)
@@ -315,7 +315,7 @@ fn answered<T>(status: i32, value: T) -> Result<T> {
     }
 }
 
-/// Calls with more room until it is enough.
+/// Calls with larger buffers until one suffices.
 fn with_room<T: Clone>(
     room: &mut Vec<T>,
     least: usize,
@@ -439,14 +439,14 @@ pub fn named_glyph(cff: &[u8], name: &[u8]) -> Result<usize> {
     answered(status, glyph)
 }
 
-/// An axis of a face of a file, and how many there are.
+/// An axis of a face, and the number of axes.
 pub fn axis(file: &[u8], face: usize, i: usize) -> Result<(Axis, usize)> {
     let (mut axis, mut count) = (Axis::default(), 0);
     let status = unsafe { psf_variation_axis(file.as_ptr(), file.len(), face, i, &mut axis, &mut count) };
     answered(status, (axis, count))
 }
 
-/// A named instance of a face of a file, and its coordinates.
+/// A named instance of a face, and its coordinates.
 pub fn instance(file: &[u8], face: usize, i: usize) -> Result<(Instance, Vec<i32>)> {
     let (mut instance, mut coordinates) = (Instance::default(), Vec::new());
     with_room(&mut coordinates, 8, 0, |room, count| unsafe {
@@ -464,7 +464,7 @@ pub fn instance(file: &[u8], face: usize, i: usize) -> Result<(Instance, Vec<i32
     Ok((instance, coordinates))
 }
 
-/// What is drawn of a glyph of a face of a file at a place, and the bounds of its points.
+/// The outline of a glyph of a face at a location, and the bounds of its points.
 pub fn variable_outline(
     file: &[u8],
     face: usize,
@@ -492,14 +492,14 @@ pub fn variable_outline(
     Ok(bounds)
 }
 
-/// How many glyphs the variable font of a face of a file has.
+/// The number of glyphs of a face.
 pub fn variable_glyphs(file: &[u8], face: usize) -> Result<usize> {
     let mut count = 0;
     let status = unsafe { psf_variable_glyphs(file.as_ptr(), file.len(), face, &mut count) };
     answered(status, count)
 }
 
-/// The advance of a glyph of a face of a file at a place.
+/// The advance of a glyph of a face at a location.
 pub fn variable_advance(file: &[u8], face: usize, coordinates: &[i32], glyph: usize) -> Result<i64> {
     let mut advance = 0;
     let status = unsafe {
@@ -546,7 +546,7 @@ pub fn operations(cff: &[u8], font: &Font, glyph: usize) -> Result<(Vec<Operatio
     }
 }
 
-/// The font that a call writes, or what it is refused with.
+/// The font that a call writes, or its error.
 fn written(
     least: usize,
     mut call: impl FnMut(&mut [u8], &mut usize, &mut Refusal) -> i32,

@@ -2,7 +2,7 @@
 use crate::c;
 use core::fmt;
 
-/// What a call answers, or the error that it is refused with.
+/// The result of a call.
 ///
 /// ```
 /// fn advance(file: &[u8], character: char) -> postscript::Result<Option<f64>> {
@@ -15,7 +15,7 @@ use core::fmt;
 /// ```
 pub type Result<T> = core::result::Result<T, Error>;
 
-/// Why a call is refused: the statuses of postscript.h, with their numbers.
+/// The error of a call: the statuses of postscript.h, with their numbers.
 ///
 /// ```
 /// # use postscript::{Error, Font};
@@ -27,93 +27,93 @@ pub type Result<T> = core::result::Result<T, Error>;
 #[non_exhaustive]
 #[repr(i32)]
 pub enum Error {
-    /// Bytes are wanting: something is cut, or its place is past the end.
+    /// The data ends early, or an offset points past the end.
     UnexpectedEof = 1,
-    /// Memory was asked for and refused.
+    /// Out of memory; or Font DICTs of more than 20,000,000 bytes.
     Memory = 3,
-    /// Offsets of an INDEX of no byte, or of more than four.
+    /// The offset size of an INDEX is 0 or greater than 4.
     MalformedOffset = 5,
-    /// The bytes spell no number.
+    /// The bytes are no number.
     MalformedNumber = 7,
     /// A real number with too many digits, or too large an exponent.
     OutOfRangeNumber = 8,
-    /// A code names no operator.
+    /// No operator has this code.
     UnknownOperator = 9,
-    /// No char set has this format.
+    /// No charset has this format.
     UnknownCharSetFormat = 11,
-    /// Char strings of another type than 2.
+    /// CharstringType is not 2.
     UnknownCharStringFormat = 12,
-    /// An operand of a dictionary is no whole number of 32 bits.
+    /// An operand of a DICT is not a 32-bit integer.
     MalformedOperation = 13,
-    /// An operator of a dictionary is missing, or has too few operands.
+    /// An operator of a DICT is missing, or has too few operands.
     MissingOperation = 14,
     /// An offset is negative.
     OutOfRangeOffset = 15,
-    /// A part of the format that is not followed.
+    /// A feature that is not supported.
     Unsupported = 16,
-    /// An operator takes an operand off an empty stack.
+    /// An operator needs an operand, and the stack is empty.
     ExpectedOperand = 17,
-    /// A number that has to be whole is not, or is missing.
+    /// A number that must be an integer is not, or is missing.
     ExpectedInteger = 18,
-    /// The stack is not as deep as dup, index or roll reaches.
+    /// `dup`, `index` or `roll` reaches below the stack.
     ExpectedMoreOperands = 19,
     /// Too few operands for an operator that draws or declares stems.
     MalformedOperands = 20,
-    /// The span of a roll, or the place of a stored number, is out of range.
+    /// The count of a roll, or the index of put or get, is out of range.
     InvalidOperand = 21,
-    /// No subroutine has the number.
+    /// No subroutine has this number.
     MissingSubroutine = 22,
-    /// The outermost code returns.
+    /// Return outside of a subroutine.
     ReturnWithoutCaller = 23,
-    /// Bytes stand behind endchar in a subroutine.
+    /// Bytes after endchar in a subroutine.
     TrailingData = 24,
     /// An eleventh nested call.
     TooDeep = 25,
-    /// A number, or a coordinate, beyond 16.16 bits.
+    /// A number or a coordinate exceeds 16.16 bits.
     Overflow = 26,
-    /// A division by zero.
+    /// Division by zero.
     ZeroDivisor = 27,
-    /// The root of a negative number.
+    /// Sqrt of a negative number.
     NegativeRoot = 28,
-    /// More stems than 32 bits count.
+    /// More stems than 32 bits can count.
     TooManyStems = 29,
-    /// No glyph has the number, or the name.
+    /// No glyph has this number or name.
     NoGlyph = 31,
-    /// The room is too small: the count tells how much is needed.
+    /// The buffer is too small; *count is the size that is needed.
     NoRoom = 32,
-    /// The file is cut.
+    /// The file is truncated.
     CutFile = 33,
-    /// No OpenType file.
+    /// Not an OpenType file.
     UnknownFile = 34,
     /// The file has no such face.
     NoFace = 35,
     /// The face has no such table.
     NoTable = 36,
-    /// The table cmap has no map of a format that is read.
+    /// The cmap table has no subtable of format 4, 6 or 12.
     NoMap = 37,
     /// The glyph has no name.
     NoName = 38,
-    /// No status has the number.
+    /// No status has this number.
     NoStatus = 39,
-    /// The run of a glyph is refused, and so no font is written.
+    /// A glyph has an error, so no font is written.
     RefusedGlyph = 40,
-    /// The font set has several fonts, or none.
+    /// The CFF table has several fonts, or none.
     SeveralFonts = 41,
-    /// FDSelect gives a glyph of a CID-keyed font no font dictionary that is there.
+    /// FDSelect gives a glyph of a CID-keyed font no Font DICT.
     NoPart = 42,
-    /// No glyphs are named.
+    /// No glyphs were named.
     NoGlyphs = 43,
-    /// What is to be written is too large.
+    /// The output would be too large.
     TooLarge = 45,
-    /// The run of a glyph, or the runs of all, do not come to their ends within the limit.
+    /// A glyph, or the whole font, costs more than the limit.
     TooLong = 46,
-    /// An accented glyph names no codes, whole numbers from 0 to 255.
+    /// A seac glyph names no codes from 0 to 255.
     NoCode = 47,
-    /// An accented glyph of a CID-keyed font, whose glyphs have no names.
+    /// A seac glyph in a CID-keyed font, whose glyphs have no names.
     NoAccents = 48,
-    /// No glyph of the font is the base or the accent of an accented glyph.
+    /// No glyph is the base or the accent of a seac glyph.
     NoComponent = 49,
-    /// The base or the accent of an accented glyph is accented itself.
+    /// The base or the accent of a seac glyph is a seac glyph.
     NestedAccent = 50,
     /// The font has no such axis.
     NoAxis = 51,
@@ -121,45 +121,45 @@ pub enum Error {
     NoInstance = 52,
     /// There are more coordinates than axes.
     TooManyCoordinates = 53,
-    /// The table fvar is cut.
+    /// The fvar table is truncated.
     CutFvar = 54,
-    /// The table fvar is of no format that is known.
+    /// The fvar table has an unknown format.
     UnknownFvar = 55,
-    /// The table avar is cut.
+    /// The avar table is truncated.
     CutAvar = 56,
-    /// The table avar is of no format that is known.
+    /// The avar table has an unknown format.
     UnknownAvar = 57,
-    /// The table HVAR is cut.
+    /// The HVAR table is truncated.
     CutHvar = 58,
-    /// The table HVAR is of no format that is known.
+    /// The HVAR table has an unknown format.
     UnknownHvar = 59,
-    /// The tables hhea and hmtx tell no advances.
+    /// The hhea and hmtx tables are truncated.
     NoAdvances = 60,
-    /// The table CFF2 has no header.
+    /// The CFF2 table has no header.
     Cff2Header = 61,
-    /// The table CFF2 is of another version than 2.
+    /// The CFF2 table has another major version than 2.
     Cff2Version = 62,
-    /// The Top DICT of the table CFF2 is cut.
+    /// The Top DICT of the CFF2 table is truncated.
     Cff2Dictionary = 63,
-    /// The Global Subr INDEX of the table CFF2 is cut or malformed.
+    /// The Global Subr INDEX of the CFF2 table is malformed.
     Cff2Subroutines = 64,
-    /// The Top DICT of the table CFF2 tells no offset of a part.
+    /// The Top DICT of the CFF2 table lacks an offset.
     Cff2Offset = 65,
-    /// An INDEX that the Top DICT of the table CFF2 names is cut or malformed.
+    /// An INDEX of the CFF2 table is malformed.
     Cff2Index = 66,
-    /// FDSelect of the table CFF2 is cut, or of another format than 0, 3 and 4.
+    /// FDSelect of the CFF2 table is malformed, or of another format than 0, 3 and 4.
     Cff2Select = 67,
-    /// The variation store of the table CFF2 is cut, or of another format than 1.
+    /// The variation store of the CFF2 table is malformed.
     Cff2Store = 68,
-    /// Item variation data of the table CFF2 do not stand in its store.
+    /// Item variation data of the CFF2 table are missing or truncated.
     Cff2Data = 69,
     /// A status that this crate does not know.
     Other = -1,
-    /// The library that is linked is of another version than this crate: no font is opened.
+    /// The linked library has another version than this crate, so no font is opened.
     OtherVersion = -2,
 }
 
-/// All that have a number.
+/// All errors with a number.
 const ERRORS: [Error; 63] = [
     Error::UnexpectedEof,
     Error::Memory,

@@ -1,8 +1,8 @@
-//! Fonts of the Compact Font Format (`.otf` files with a table `CFF ` or `CFF2`) and the outlines of their glyphs.
+//! CFF fonts (`.otf` files with a `CFF ` or `CFF2` table) and the outlines of their glyphs.
 //!
-//! The work is done by a static library that is proved: over any bytes each call returns, reads nothing outside them, and
-//! answers what the specification says. This crate declares its functions and gives them the habits of Rust. What is left to
-//! trust here are the declarations in the module `c`.
+//! The work is done by a static library whose source is proved: for any bytes each call returns, reads nothing outside of them,
+//! and gives the result that its contract states. This crate declares its functions and wraps them in idiomatic Rust. The
+//! declarations, in the module `c`, are not proved.
 //!
 //! ```
 //! let bytes = std::fs::read("examples/small.otf")?;
@@ -12,7 +12,7 @@
 //! # Ok::<(), Box<dyn std::error::Error>>(())
 //! ```
 //!
-//! A variable font, which has a table `CFF2`, is a [`VariableFont`]:
+//! For a variable font, which has a `CFF2` table, use [`VariableFont`]:
 //!
 //! ```
 //! let bytes = std::fs::read("examples/variable.otf")?;
@@ -22,9 +22,9 @@
 //! # Ok::<(), Box<dyn std::error::Error>>(())
 //! ```
 //!
-//! A font borrows its bytes and copies none, and the library keeps nothing between calls: fonts are `Send`, `Sync` and `Copy`, so
-//! threads share them. Without the feature `std` the crate needs `alloc` alone, and its errors are no `std::error::Error`; the library
-//! calls `malloc`, `realloc` and `free` of the C library in any case.
+//! A font borrows its bytes and copies nothing, and the library keeps no state between calls. Fonts are `Send`, `Sync` and `Copy`,
+//! so threads can share them. Without the feature `std` the crate needs only `alloc`, and its errors do not implement
+//! `std::error::Error`. The library always calls `malloc`, `realloc` and `free` of the C library.
 #![cfg_attr(not(any(feature = "std", test)), no_std)]
 #![warn(missing_docs)]
 
@@ -46,7 +46,7 @@ pub use outline::{Bounds, Glyph, Outline, OutlineSink, Point, Segment};
 pub use variable::{Axis, Instance, Place, VariableFont};
 pub use write::WriteError;
 
-/// The version of the linked library: its major, minor and patch number.
+/// Returns the version of the linked library: major, minor and patch number.
 ///
 /// ```
 /// let (major, minor, patch) = postscript::version();
@@ -57,7 +57,7 @@ pub fn version() -> (u8, u8, u8) {
     ((version >> 16) as u8, (version >> 8) as u8, version as u8)
 }
 
-/// How many faces an OpenType file has: one, or those of a collection.
+/// Returns the number of faces in an OpenType file.
 ///
 /// ```
 /// # let bytes = std::fs::read("examples/small.otf")?;
@@ -72,7 +72,7 @@ pub fn faces(file: &[u8]) -> Result<usize> {
     c::faces(file)
 }
 
-/// The limit of a font at first: how long a call may run a glyph ([`Font::limit`]).
+/// The default limit of a font: how many units a call may spend on a glyph ([`Font::limit`]).
 ///
 /// ```
 /// # let bytes = std::fs::read("examples/small.otf")?;
@@ -82,7 +82,7 @@ pub fn faces(file: &[u8]) -> Result<usize> {
 /// ```
 pub const LIMIT: u64 = 20_000_000;
 
-/// How many times its limit all glyphs of a font may take together that is written.
+/// How many times the limit a whole font may cost when it is written.
 const GLYPHS: u64 = 20;
 
 /// A font in place: the bytes are borrowed, and nothing is copied.
@@ -101,7 +101,7 @@ pub struct Font<'a> {
     font: c::Font,
 }
 
-/// A name that was asked for; `None` where there is none.
+/// A name, or `None` if there is none.
 fn name_of(answer: Result<Vec<u8>>) -> Result<Option<Vec<u8>>> {
     match answer {
         Err(Error::NoName) => Ok(None),
@@ -110,7 +110,7 @@ fn name_of(answer: Result<Vec<u8>>) -> Result<Option<Vec<u8>>> {
 }
 
 impl<'a> Font<'a> {
-    /// A face of an OpenType file, counted from 0.
+    /// Opens a face of an OpenType file, counted from 0.
     ///
     /// ```
     /// # let bytes = std::fs::read("examples/small.otf")?;
@@ -121,8 +121,8 @@ impl<'a> Font<'a> {
     ///
     /// # Errors
     ///
-    /// [`Error::CutFile`], [`Error::UnknownFile`] and [`Error::NoFace`] where the file has no such face; [`Error::NoTable`]
-    /// where it has no table `CFF `; and as [`Font::from_table`].
+    /// [`Error::CutFile`], [`Error::UnknownFile`] or [`Error::NoFace`] if the file has no such face; [`Error::NoTable`] if the face
+    /// has no `CFF ` table; and the errors of [`Font::from_table`].
     pub fn from_file(file: &'a [u8], face: usize) -> Result<Self> {
         let cff = c::table(file, face, *b"CFF ")?;
         let cmap = match c::table(file, face, *b"cmap") {
@@ -133,7 +133,7 @@ impl<'a> Font<'a> {
         Ok(Font { cmap, ..Font::from_table(cff)? })
     }
 
-    /// The font that the bytes of a table `CFF ` begin with. It has no character map.
+    /// Opens the first font of a `CFF ` table. It has no character map.
     ///
     /// ```
     /// # let bytes = std::fs::read("examples/small.otf")?;
@@ -146,17 +146,17 @@ impl<'a> Font<'a> {
     ///
     /// # Errors
     ///
-    /// Where the table is no font: see [`Error`]. [`Error::OtherVersion`] where the library that is linked is not of this crate's version.
+    /// If the table is malformed: see [`Error`]. [`Error::OtherVersion`] if the linked library has another version than this crate.
     pub fn from_table(cff: &'a [u8]) -> Result<Self> {
         Ok(Font { cff, cmap: None, font: c::open(cff)? })
     }
 
-    /// The bytes of the table `CFF `.
+    /// Returns the bytes of the `CFF ` table.
     ///
     /// ```
     /// # let bytes = std::fs::read("examples/small.otf")?;
     /// # let font = postscript::Font::from_file(&bytes, 0)?;
-    /// // its version is 1.0
+    /// // version 1.0
     /// assert_eq!(font.table()[..2], [1, 0]);
     /// # Ok::<(), Box<dyn std::error::Error>>(())
     /// ```
@@ -164,7 +164,7 @@ impl<'a> Font<'a> {
         self.cff
     }
 
-    /// How many glyphs the font has.
+    /// Returns the number of glyphs.
     ///
     /// ```
     /// # let bytes = std::fs::read("examples/small.otf")?;
@@ -176,7 +176,7 @@ impl<'a> Font<'a> {
         self.font.glyphs as usize
     }
 
-    /// Whether the font is CID-keyed: its glyphs have numbers in place of names.
+    /// Returns whether the font is CID-keyed: its glyphs have CIDs instead of names.
     ///
     /// ```
     /// # let bytes = std::fs::read("examples/small.otf")?;
@@ -188,7 +188,7 @@ impl<'a> Font<'a> {
         self.font.is_cid != 0
     }
 
-    /// The glyph of a character. `None` where the character map has none, or where there is no map.
+    /// Returns the glyph of a character, or `None` if the character map has none.
     ///
     /// ```
     /// # let bytes = std::fs::read("examples/small.otf")?;
@@ -203,8 +203,8 @@ impl<'a> Font<'a> {
         }
     }
 
-    /// How long each call may run a glyph, an accented one with its base and its accent: at first [`LIMIT`]. An operator takes a
-    /// unit for each of its bytes, with the numbers before it, a roll 4096 more, and a square root 8 more.
+    /// Returns how many units a call may spend on a glyph with its components, by default [`LIMIT`]. An operator costs one unit per
+    /// byte, with the numbers before it, a roll 4,096 more, a sqrt 8 more.
     ///
     /// ```
     /// # let bytes = std::fs::read("examples/small.otf")?;
@@ -216,8 +216,8 @@ impl<'a> Font<'a> {
         self.font.limit
     }
 
-    /// The same font with another limit. A font of a few bytes may name more calls of subroutines than can be run in years: this
-    /// is what stops them.
+    /// Returns the same font with another limit. A small font can nest subroutine calls so that a glyph takes years; the limit
+    /// stops it.
     ///
     /// ```
     /// # let bytes = std::fs::read("examples/small.otf")?;
@@ -231,8 +231,7 @@ impl<'a> Font<'a> {
         self
     }
 
-    /// Whether the runs of all glyphs come to their ends within a limit, which they share; what is left of it is told. It is spent
-    /// as [`Font::limit`] says.
+    /// Returns whether each glyph ends, or has an error, within the limit, and takes the cost of all glyphs off it.
     ///
     /// ```
     /// # let bytes = std::fs::read("examples/small.otf")?;
@@ -254,11 +253,10 @@ impl<'a> Font<'a> {
         }
     }
 
-    /// The outline of a glyph, with its width and its bounds.
+    /// Returns the outline of a glyph, with its advance and bounds.
     ///
-    /// An accented glyph, whose `endchar` names a base and an accent (Technical Note 5177, Appendix C), is drawn whole: its own
-    /// contours, those of the base, and those of the accent where the glyph says. The width is its own. The runs share the font's
-    /// limit.
+    /// A `seac` glyph, whose `endchar` names a base and an accent (Technical Note 5177, Appendix C), is drawn with both. Its advance is
+    /// its own. All three share the font's limit.
     ///
     /// ```
     /// # let bytes = std::fs::read("examples/small.otf")?;
@@ -270,17 +268,16 @@ impl<'a> Font<'a> {
     ///
     /// # Errors
     ///
-    /// [`Error::NoGlyph`] where the font has no such glyph; [`Error::NoPart`] where FDSelect gives it no font dictionary;
-    /// [`Error::TooLong`] where the limit is used up; of an accented glyph [`Error::NoCode`], [`Error::NoAccents`],
-    /// [`Error::NoComponent`] and [`Error::NestedAccent`]; and where its program, or that of the base or the accent, is refused: see
-    /// [`Error`].
+    /// [`Error::NoGlyph`]; [`Error::NoPart`] if FDSelect gives it no Font DICT; [`Error::TooLong`] beyond the limit; for a `seac` glyph
+    /// [`Error::NoCode`], [`Error::NoAccents`], [`Error::NoComponent`] and [`Error::NestedAccent`]; and the errors of its charstring
+    /// and its components: see [`Error`].
     pub fn outline(&self, glyph: usize) -> Result<Outline> {
         let mut segments = Vec::new();
         let told = c::outline(self.cff, &self.font, glyph, &mut segments)?;
         Ok(Outline::of(&segments, told))
     }
 
-    /// Draws a glyph into a sink, and answers its width and its bounds.
+    /// Draws a glyph into a sink, and returns its advance and bounds.
     ///
     /// ```
     /// # let bytes = std::fs::read("examples/small.otf")?;
@@ -300,15 +297,14 @@ impl<'a> Font<'a> {
     ///
     /// # Errors
     ///
-    /// As [`Font::outline`]. Then the sink has been given nothing.
+    /// Those of [`Font::outline`]. The sink has received nothing then.
     pub fn draw<S: OutlineSink + ?Sized>(&self, glyph: usize, sink: &mut S) -> Result<Glyph> {
         let outline = self.outline(glyph)?;
         outline.draw(sink);
         Ok(outline.glyph())
     }
 
-    /// The bounds of the lines and curves of a glyph, to a 65536th of a unit more: those of [`Font::outline`], of an accented glyph
-    /// whole. `None` where it has no point.
+    /// Returns the bounds of the lines and curves of [`Font::outline`], at most 1/65536 unit too large. `None` if there is no point.
     ///
     /// ```
     /// # let bytes = std::fs::read("examples/small.otf")?;
@@ -320,12 +316,12 @@ impl<'a> Font<'a> {
     ///
     /// # Errors
     ///
-    /// As [`Font::outline`].
+    /// Those of [`Font::outline`].
     pub fn tight_bounds(&self, glyph: usize) -> Result<Option<Bounds>> {
         Ok(Bounds::of(c::bounds(self.cff, &self.font, glyph)?))
     }
 
-    /// The code of a glyph without calls of subroutines: over any subroutines it has the operations and the width of the
+    /// Returns the charstring of a glyph without subroutine calls. With any subroutines it has the operations and the width of the
     /// glyph.
     ///
     /// ```
@@ -338,14 +334,13 @@ impl<'a> Font<'a> {
     ///
     /// # Errors
     ///
-    /// [`Error::NoGlyph`] where the font has no such glyph, [`Error::NoPart`] where FDSelect gives it no font dictionary,
-    /// [`Error::TooLong`] where its run uses up the font's limit, and where its program is refused: see [`Error`].
+    /// [`Error::NoGlyph`], [`Error::NoPart`], [`Error::TooLong`] beyond the limit, and the errors of its charstring: see [`Error`].
     pub fn flat_code(&self, glyph: usize) -> Result<Vec<u8>> {
         c::flat(self.cff, &self.font, glyph)
     }
 
-    /// The operations of a glyph, in the order of its run: with subroutines called, widths taken off, and numbers worked out.
-    /// `endchar` is not one of them. An accented glyph has its own alone.
+    /// Returns the operations of a glyph in order: subroutines are called, the width is removed, and arithmetic is done. `endchar` is
+    /// not included. A `seac` glyph has only its own.
     ///
     /// ```
     /// # let bytes = std::fs::read("examples/small.otf")?;
@@ -358,14 +353,14 @@ impl<'a> Font<'a> {
     ///
     /// # Errors
     ///
-    /// As [`Font::flat_code`].
+    /// Those of [`Font::flat_code`].
     pub fn operations(&self, glyph: usize) -> Result<Vec<Operation>> {
         let (told, operands) = c::operations(self.cff, &self.font, glyph)?;
         Ok(told.into_iter().map(|told| Operation::of(told, &operands)).collect())
     }
 
-    /// The table `CFF ` of the same glyphs without subroutines: each glyph draws what it drew, with the same advance, name or
-    /// CID, and codes.
+    /// Returns a `CFF ` table with the same glyphs and no subroutines. Each draws the same, with the same advance, codes, and name or
+    /// CID.
     ///
     /// ```
     /// # let bytes = std::fs::read("examples/small.otf")?;
@@ -377,15 +372,15 @@ impl<'a> Font<'a> {
     ///
     /// # Errors
     ///
-    /// [`Error::RefusedGlyph`] with the first glyph whose run is refused, and why; [`Error::SeveralFonts`] where the table has
-    /// not one font; [`Error::NoPart`]; [`Error::TooLong`] where the runs of all glyphs use up twenty times the font's limit; and
-    /// where the table is no font: see [`WriteError`].
+    /// [`Error::RefusedGlyph`] with the first glyph that has an error, and the error; [`Error::SeveralFonts`]; [`Error::NoPart`];
+    /// [`Error::TooLong`] if the font does not pass [`Font::fits`] with 20 times its limit; and those of a malformed table: see
+    /// [`WriteError`].
     pub fn flat(&self) -> core::result::Result<Vec<u8>, WriteError> {
         c::font_flat(self.cff, self.limit_of_all()).map_err(WriteError::of)
     }
 
-    /// The table `CFF ` of `.notdef`, these glyphs, and the base and the accent of each one that is kept and accented, numbered
-    /// anew in ascending order, without subroutines. An encoding of the font's own gives way to the standard one.
+    /// Returns a `CFF ` table with `.notdef`, these glyphs, and the components of `seac` glyphs among them, without subroutines. Glyphs
+    /// get new numbers in ascending order. A custom encoding is replaced by the standard one.
     ///
     /// ```
     /// # let bytes = std::fs::read("examples/small.otf")?;
@@ -398,13 +393,13 @@ impl<'a> Font<'a> {
     ///
     /// # Errors
     ///
-    /// [`Error::NoGlyphs`] where none is named, [`Error::NoGlyph`] with one that the font does not have, [`Error::NoName`], and
-    /// as [`Font::flat`].
+    /// [`Error::NoGlyphs`] for an empty list, [`Error::NoGlyph`] with the missing glyph, [`Error::NoName`], and those of
+    /// [`Font::flat`].
     pub fn subset(&self, glyphs: &[usize]) -> core::result::Result<Vec<u8>, WriteError> {
         c::font_subset(self.cff, glyphs, false, self.limit_of_all()).map_err(WriteError::of)
     }
 
-    /// As [`Font::subset`], but each glyph keeps its number, and those between them are empty. The encoding stays as it is.
+    /// The same as [`Font::subset`], but glyphs keep their numbers, all others are empty, and the encoding stays.
     ///
     /// ```
     /// # let bytes = std::fs::read("examples/small.otf")?;
@@ -417,17 +412,17 @@ impl<'a> Font<'a> {
     ///
     /// # Errors
     ///
-    /// As [`Font::subset`].
+    /// Those of [`Font::subset`].
     pub fn subset_keeping(&self, glyphs: &[usize]) -> core::result::Result<Vec<u8>, WriteError> {
         c::font_subset(self.cff, glyphs, true, self.limit_of_all()).map_err(WriteError::of)
     }
 
-    /// How long the runs of all glyphs may take together.
+    /// How many units a whole font may cost.
     fn limit_of_all(&self) -> u64 {
         self.font.limit.saturating_mul(GLYPHS)
     }
 
-    /// The name of a glyph. `None` where it has none, as in a CID-keyed font of which no string is named.
+    /// Returns the name of a glyph, or `None`. The glyphs of a CID-keyed font have no names.
     ///
     /// ```
     /// # let bytes = std::fs::read("examples/small.otf")?;
@@ -438,12 +433,12 @@ impl<'a> Font<'a> {
     ///
     /// # Errors
     ///
-    /// Where the font has no char set: see [`Error`].
+    /// If the charset is malformed: see [`Error`].
     pub fn glyph_name(&self, glyph: usize) -> Result<Option<Vec<u8>>> {
         name_of(c::glyph_name(self.cff, glyph))
     }
 
-    /// The first glyph that has a name.
+    /// Returns the first glyph with a name.
     ///
     /// ```
     /// # let bytes = std::fs::read("examples/small.otf")?;
@@ -454,7 +449,7 @@ impl<'a> Font<'a> {
     ///
     /// # Errors
     ///
-    /// As [`Font::glyph_name`].
+    /// Those of [`Font::glyph_name`].
     pub fn glyph_named(&self, name: &[u8]) -> Result<Option<usize>> {
         match c::named_glyph(self.cff, name) {
             Err(Error::NoGlyph) => Ok(None),
@@ -462,7 +457,7 @@ impl<'a> Font<'a> {
         }
     }
 
-    /// The names of all glyphs, in their order, as [`Font::glyph_name`] tells each.
+    /// Returns the names of all glyphs, in order, as in [`Font::glyph_name`].
     ///
     /// ```
     /// # let bytes = std::fs::read("examples/small.otf")?;
@@ -474,7 +469,7 @@ impl<'a> Font<'a> {
     ///
     /// # Errors
     ///
-    /// Where the font has no char set: see [`Error`].
+    /// If the charset is malformed: see [`Error`].
     pub fn names(&self) -> Result<impl ExactSizeIterator<Item = Result<Option<Vec<u8>>>> + 'a> {
         let font = *self;
         let named = c::identifiers(self.cff, self.glyph_count())?.into_iter();
@@ -484,8 +479,7 @@ impl<'a> Font<'a> {
         }))
     }
 
-    /// The CIDs of all glyphs of a CID-keyed font, in their order: their numbers in its character collection. `None` of a glyph that has
-    /// none, as each of any other font.
+    /// Returns the CIDs of all glyphs of a CID-keyed font, in order. `None` for a glyph without one, and for all glyphs of other fonts.
     ///
     /// ```
     /// # let bytes = std::fs::read("examples/small.otf")?;
@@ -496,15 +490,14 @@ impl<'a> Font<'a> {
     ///
     /// # Errors
     ///
-    /// Where the font has no char set: see [`Error`].
+    /// If the charset is malformed: see [`Error`].
     pub fn cids(&self) -> Result<Vec<Option<u16>>> {
         let told = c::identifiers(self.cff, self.glyph_count())?;
         let is_cid_keyed = self.is_cid_keyed();
         Ok(told.into_iter().map(|told| u16::try_from(told).ok().filter(|_| is_cid_keyed)).collect())
     }
 
-    /// The characters that the character map has glyphs for, ascending, with their glyphs. None where there is no map. Numbers of
-    /// surrogates, which are no characters, are left out.
+    /// Returns the characters that have a glyph in the character map, in ascending order, with their glyphs. Surrogates are left out.
     ///
     /// # Errors
     ///
@@ -524,7 +517,7 @@ impl<'a> Font<'a> {
         Ok(rows.into_iter().filter_map(|row| Some((char::from_u32(row.character)?, row.glyph as usize))))
     }
 
-    /// The outlines of all glyphs, in their order.
+    /// Returns the outlines of all glyphs, in order.
     ///
     /// ```
     /// # let bytes = std::fs::read("examples/small.otf")?;
@@ -538,7 +531,7 @@ impl<'a> Font<'a> {
     }
 }
 
-/// The outlines of the glyphs that are left of a font. From [`Font::outlines`].
+/// An iterator over the outlines of a font, from [`Font::outlines`].
 ///
 /// ```
 /// # let bytes = std::fs::read("examples/small.otf")?;

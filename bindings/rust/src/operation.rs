@@ -2,7 +2,7 @@
 use crate::c;
 use alloc::vec::Vec;
 
-/// An operation of a glyph: an operator, the operands that it takes, and what a mask says.
+/// An operation of a glyph: an operator with its operands, and a mask with its stems.
 ///
 /// ```
 /// # let bytes = std::fs::read("examples/small.otf")?;
@@ -14,19 +14,18 @@ use alloc::vec::Vec;
 /// ```
 #[derive(Clone, Debug, PartialEq)]
 pub struct Operation {
-    /// The code of the operator (Adobe Technical Note 5177, Appendix A); that of two bytes is 0x0c00 and the second.
+    /// The code of the operator (Adobe Technical Note 5177, Appendix A). Two-byte codes are 0x0c00 plus the second byte.
     pub operator: u16,
-    /// The operands, the lowest first. They are whole numbers of 65536ths, so they are exact.
+    /// The operands, lowest first. They are exact multiples of 1/65536.
     pub operands: Vec<f64>,
-    /// At `hintmask` and `cntrmask` the operands of the stems that it implies, which no operator declared (Technical Note 5177,
-    /// "Hint Operators").
+    /// At `hintmask` and `cntrmask`, the operands of the stems that it implies (Technical Note 5177, "Hint Operators").
     pub stems: Vec<f64>,
-    /// The bytes of the mask, a bit for each stem; none but at `hintmask` and `cntrmask`.
+    /// The bytes of the mask, one bit per stem. Empty except at `hintmask` and `cntrmask`.
     pub mask: Vec<u8>,
 }
 
 impl Operation {
-    /// An operation as C tells it, with the numbers of all operations.
+    /// An operation of C, with the numbers of all operations.
     pub(crate) fn of(told: c::Operation, numbers: &[i32]) -> Operation {
         let (operands, stems, mask) = told.own(numbers);
         let units = |bits: &i32| f64::from(*bits) / 65536.0;
@@ -38,7 +37,7 @@ impl Operation {
         }
     }
 
-    /// What the Technical Note calls the operator; `None` where it has no operator of this code.
+    /// Returns the name of the operator in the Technical Note, or `None`.
     ///
     /// ```
     /// # let bytes = std::fs::read("examples/small.otf")?;
@@ -53,7 +52,7 @@ impl Operation {
     }
 }
 
-/// The operators that runs tell, by their codes.
+/// Operators by code.
 const NAMES: [(u16, &str); 23] = [
     (0x01, "hstem"),
     (0x03, "vstem"),

@@ -4,7 +4,7 @@ use alloc::string::String;
 use alloc::vec::Vec;
 use core::fmt::Write;
 
-/// A point, in units of the font. Both coordinates are whole numbers of 65536ths, so they are exact.
+/// A point, in font units. Both coordinates are exact multiples of 1/65536.
 ///
 /// ```
 /// # let bytes = std::fs::read("examples/small.otf")?;
@@ -15,13 +15,13 @@ use core::fmt::Write;
 /// ```
 #[derive(Clone, Copy, Debug, Default, PartialEq)]
 pub struct Point {
-    /// To the right.
+    /// The horizontal coordinate.
     pub x: f64,
-    /// Upwards.
+    /// The vertical coordinate, upwards.
     pub y: f64,
 }
 
-/// A piece of an outline.
+/// A segment of an outline.
 ///
 /// ```
 /// # let bytes = std::fs::read("examples/small.otf")?;
@@ -33,23 +33,23 @@ pub struct Point {
 /// ```
 #[derive(Clone, Copy, Debug, PartialEq)]
 pub enum Segment {
-    /// A contour begins here.
+    /// Begins a contour.
     MoveTo(Point),
-    /// A line to here.
+    /// A line.
     LineTo(Point),
-    /// A Bézier curve: its two control points, and its end.
+    /// A Bézier curve: two control points and the end.
     CurveTo(Point, Point, Point),
-    /// The contour goes back to where it began, and ends.
+    /// Closes the contour.
     Close,
 }
 
-/// What is given the segments of an outline, one call each, in their order.
+/// A receiver of the segments of an outline, one call per segment, in order.
 ///
 /// ```
 /// # let bytes = std::fs::read("examples/small.otf")?;
 /// # let font = postscript::Font::from_file(&bytes, 0)?;
 /// # use postscript::Point;
-/// /// How many lines and curves an outline has.
+/// /// Counts lines and curves.
 /// struct Count(usize);
 ///
 /// impl postscript::OutlineSink for Count {
@@ -69,17 +69,17 @@ pub enum Segment {
 /// # Ok::<(), Box<dyn std::error::Error>>(())
 /// ```
 pub trait OutlineSink {
-    /// A contour begins here.
+    /// Begins a contour.
     fn move_to(&mut self, to: Point);
-    /// A line to here.
+    /// A line.
     fn line_to(&mut self, to: Point);
-    /// A Bézier curve: its two control points, and its end.
+    /// A Bézier curve: two control points and the end.
     fn curve_to(&mut self, first: Point, second: Point, to: Point);
-    /// The contour goes back to where it began, and ends.
+    /// Closes the contour.
     fn close(&mut self);
 }
 
-/// A rectangle, in units of the font.
+/// A rectangle, in font units.
 ///
 /// ```
 /// # let bytes = std::fs::read("examples/small.otf")?;
@@ -97,7 +97,7 @@ pub struct Bounds {
     pub high: Point,
 }
 
-/// What is told of a glyph besides its outline.
+/// The advance and bounds of a glyph.
 ///
 /// ```
 /// # let bytes = std::fs::read("examples/small.otf")?;
@@ -108,9 +108,9 @@ pub struct Bounds {
 /// ```
 #[derive(Clone, Copy, Debug, PartialEq)]
 pub struct Glyph {
-    /// The width, in units of the font.
+    /// The advance, in font units.
     pub advance: f64,
-    /// The bounds of all points, control points too. `None` where there is no point.
+    /// The bounds of all points, including control points, or `None`.
     pub bounds: Option<Bounds>,
 }
 
@@ -127,9 +127,9 @@ pub struct Glyph {
 pub struct Outline {
     /// Contours, each from a [`Segment::MoveTo`] to a [`Segment::Close`].
     pub segments: Vec<Segment>,
-    /// The width, in units of the font.
+    /// The advance, in font units.
     pub advance: f64,
-    /// The bounds of all points, control points too. `None` where there is no point.
+    /// The bounds of all points, including control points, or `None`.
     pub bounds: Option<Bounds>,
 }
 
@@ -164,7 +164,7 @@ impl Outline {
         }
     }
 
-    /// The outline of a glyph at a place: its advance is in units of the font.
+    /// The outline of a glyph at axis values. `advance` is in font units.
     pub(crate) fn at_place(segments: &[c::Segment], advance: i64, bounds: c::Bounds) -> Outline {
         Outline {
             segments: segments.iter().map(segment).collect(),
@@ -173,7 +173,7 @@ impl Outline {
         }
     }
 
-    /// What is told of the glyph besides its outline.
+    /// Returns the advance and bounds.
     ///
     /// ```
     /// # let bytes = std::fs::read("examples/small.otf")?;
@@ -186,7 +186,7 @@ impl Outline {
         Glyph { advance: self.advance, bounds: self.bounds }
     }
 
-    /// Gives the segments to a sink, in their order.
+    /// Passes the segments to a sink, in order.
     ///
     /// ```
     /// # let bytes = std::fs::read("examples/small.otf")?;
@@ -217,7 +217,7 @@ impl Outline {
         }
     }
 
-    /// The path data of an SVG picture. Its y axis goes up, as that of the font, so show it under `scale(1 -1)`.
+    /// Returns SVG path data. The y axis goes up, so show it under `scale(1 -1)`.
     ///
     /// ```
     /// # let bytes = std::fs::read("examples/small.otf")?;
@@ -229,7 +229,7 @@ impl Outline {
     pub fn svg_path(&self) -> String {
         let mut path = String::new();
         for segment in &self.segments {
-            // writing to a string does not fail
+            // writing to a string cannot fail
             let _ = match segment {
                 Segment::MoveTo(p) => write!(path, "M{} {}", p.x, p.y),
                 Segment::LineTo(p) => write!(path, "L{} {}", p.x, p.y),

@@ -4,7 +4,7 @@ use crate::error::{Error, Result};
 use crate::outline::{Glyph, Outline, OutlineSink};
 use alloc::vec::Vec;
 
-/// An axis of a variable font. Its values are user coordinates: whole numbers of 65536ths, so they are exact.
+/// An axis of a variable font. Its values are user coordinates: exact multiples of 1/65536.
 ///
 /// ```
 /// # let bytes = std::fs::read("examples/variable.otf")?;
@@ -15,17 +15,17 @@ use alloc::vec::Vec;
 /// ```
 #[derive(Clone, Copy, Debug, PartialEq)]
 pub struct Axis {
-    /// Its four characters.
+    /// Its tag.
     pub tag: [u8; 4],
-    /// Its lower end.
+    /// Its minimum.
     pub minimum: f64,
-    /// Where it stands if nothing is asked for.
+    /// Its default value.
     pub default: f64,
-    /// Its upper end.
+    /// Its maximum.
     pub maximum: f64,
-    /// Whether it is not to be shown to users.
+    /// Whether it should not be shown to users.
     pub is_hidden: bool,
-    /// The identifier of its name in the table `name`.
+    /// Its name ID in the `name` table.
     pub name: u16,
 }
 
@@ -41,16 +41,16 @@ pub struct Axis {
 /// ```
 #[derive(Clone, Debug, PartialEq)]
 pub struct Instance {
-    /// Its user coordinates, as [`VariableFont::at`] takes them.
+    /// Its user coordinates, for [`VariableFont::at`].
     pub coordinates: Vec<([u8; 4], f64)>,
-    /// The identifier of its name in the table `name`.
+    /// Its name ID in the `name` table.
     pub name: u16,
-    /// The identifier of its PostScript name there, where it has one.
+    /// The name ID of its PostScript name, if it has one.
     pub postscript_name: Option<u16>,
 }
 
-/// A face of a file with a table `CFF2`, or else `CFF `, in place: the bytes are borrowed, and nothing is copied. So fonts with axes and
-/// without are drawn by the same calls; one without has one place, `at(&[])`.
+/// A face with a `CFF2` or `CFF ` table, in place: the bytes are borrowed, and nothing is copied. A font with a `CFF ` table has no
+/// axes, and `at(&[])` is its only location.
 ///
 /// ```
 /// let bytes = std::fs::read("examples/variable.otf")?;
@@ -68,7 +68,7 @@ pub struct VariableFont<'a> {
 }
 
 impl<'a> VariableFont<'a> {
-    /// A face of an OpenType file, counted from 0.
+    /// Opens a face of an OpenType file, counted from 0.
     ///
     /// ```
     /// # let bytes = std::fs::read("examples/variable.otf")?;
@@ -79,9 +79,9 @@ impl<'a> VariableFont<'a> {
     ///
     /// # Errors
     ///
-    /// [`Error::CutFile`], [`Error::UnknownFile`] and [`Error::NoFace`] where the file has no such face; [`Error::NoTable`] where it has
-    /// neither table; and [`Error::OtherVersion`] where the library that is linked is not of this crate's version. Tables are read where
-    /// they are asked.
+    /// [`Error::CutFile`], [`Error::UnknownFile`] or [`Error::NoFace`] if the file has no such face; [`Error::NoTable`] if the face has
+    /// neither table; [`Error::OtherVersion`] if the linked library has another version than this crate. Tables are read when they are
+    /// needed.
     pub fn from_file(file: &'a [u8], face: usize) -> Result<Self> {
         match c::table(file, face, *b"CFF2") {
             Err(Error::NoTable) => c::table(file, face, *b"CFF ")?,
@@ -95,7 +95,7 @@ impl<'a> VariableFont<'a> {
         Ok(VariableFont { file, face, cmap, limit: crate::LIMIT })
     }
 
-    /// How many glyphs there are, by the table `CFF2`, or else `CFF `.
+    /// Returns the number of glyphs in the `CFF2` or `CFF ` table.
     ///
     /// ```
     /// # let bytes = std::fs::read("examples/variable.otf")?;
@@ -106,13 +106,13 @@ impl<'a> VariableFont<'a> {
     ///
     /// # Errors
     ///
-    /// [`Error::Cff2Header`] and those behind it, up to [`Error::Cff2Store`]; of a table `CFF ` as [`Font::from_table`](crate::Font::from_table)
-    /// is refused.
+    /// Those from [`Error::Cff2Header`] to [`Error::Cff2Store`]; for a `CFF ` table those of
+    /// [`Font::from_table`](crate::Font::from_table).
     pub fn glyph_count(&self) -> Result<usize> {
         c::variable_glyphs(self.file, self.face)
     }
 
-    /// The axes, in their order. None where the face has no table `fvar`.
+    /// Returns the axes, in order. There are none without an `fvar` table.
     ///
     /// ```
     /// # let bytes = std::fs::read("examples/variable.otf")?;
@@ -136,7 +136,7 @@ impl<'a> VariableFont<'a> {
         }
     }
 
-    /// The named instances, in their order. None where the face has no table `fvar`.
+    /// Returns the named instances, in order. There are none without an `fvar` table.
     ///
     /// ```
     /// # let bytes = std::fs::read("examples/variable.otf")?;
@@ -148,7 +148,7 @@ impl<'a> VariableFont<'a> {
     ///
     /// # Errors
     ///
-    /// As [`VariableFont::axes`], and [`Error::Memory`].
+    /// Those of [`VariableFont::axes`], and [`Error::Memory`].
     pub fn instances(&self) -> Result<Vec<Instance>> {
         let axes = self.axes()?;
         let mut instances = Vec::new();
@@ -161,8 +161,8 @@ impl<'a> VariableFont<'a> {
         }
     }
 
-    /// A place of the design space, by user coordinates along axes. An axis that is not named stands at its default, of several
-    /// coordinates of a tag the last counts, and one outside of its axis is taken for the end that it is past.
+    /// Selects axis values, as user coordinates. Missing axes have their defaults. If a tag occurs several times, the last one counts.
+    /// Values are clamped to their axis.
     ///
     /// ```
     /// # let bytes = std::fs::read("examples/variable.otf")?;
@@ -174,7 +174,7 @@ impl<'a> VariableFont<'a> {
     ///
     /// # Errors
     ///
-    /// As [`VariableFont::axes`], and [`Error::NoAxis`] where the font has no axis of a tag.
+    /// Those of [`VariableFont::axes`], and [`Error::NoAxis`] for an unknown tag.
     pub fn at(&self, coordinates: &[([u8; 4], f64)]) -> Result<Place<'a>> {
         let axes = self.axes()?;
         if coordinates.iter().any(|(tag, _)| axes.iter().all(|axis| axis.tag != *tag)) {
@@ -184,7 +184,7 @@ impl<'a> VariableFont<'a> {
         Ok(Place { font: *self, coordinates: axes.iter().map(|axis| axis.fixed(asked(axis))).collect() })
     }
 
-    /// The glyph of a character. `None` where the character map has none, or where there is no map.
+    /// Returns the glyph of a character, or `None` if the character map has none.
     ///
     /// ```
     /// # let bytes = std::fs::read("examples/variable.otf")?;
@@ -199,8 +199,8 @@ impl<'a> VariableFont<'a> {
         }
     }
 
-    /// How long the run of a glyph may take, and by itself its place: at first [`crate::LIMIT`]. Each number and each operator takes a unit
-    /// for each of its bytes, a blend one more for each number on the stack, and each region of the place one, and one for each axis.
+    /// Returns how many units a glyph may cost, and separately its location, by default [`crate::LIMIT`]. Each number and operator
+    /// costs one unit per byte, a blend one more per number on the stack. A location costs one unit per region, and per axis.
     ///
     /// ```
     /// # let bytes = std::fs::read("examples/variable.otf")?;
@@ -212,7 +212,7 @@ impl<'a> VariableFont<'a> {
         self.limit
     }
 
-    /// The same font with another limit.
+    /// Returns the same font with another limit.
     ///
     /// ```
     /// # let bytes = std::fs::read("examples/variable.otf")?;
@@ -239,7 +239,7 @@ impl Axis {
         }
     }
 
-    /// A value on the axis, to the nearest 65536th. One that is no number is taken for the minimum.
+    /// Clamps a value to the axis and rounds it to 1/65536. NaN becomes the minimum.
     fn fixed(&self, value: f64) -> i32 {
         let bits = value.max(self.minimum).min(self.maximum) * 65536.0;
         (if bits < 0.0 { bits - 0.5 } else { bits + 0.5 }) as i32
@@ -256,7 +256,7 @@ impl Instance {
     }
 }
 
-/// A place of the design space of a variable font. From [`VariableFont::at`].
+/// A variable font at given axis values, from [`VariableFont::at`].
 ///
 /// ```
 /// # let bytes = std::fs::read("examples/variable.otf")?;
@@ -272,7 +272,7 @@ pub struct Place<'a> {
 }
 
 impl<'a> Place<'a> {
-    /// The font.
+    /// Returns the font.
     ///
     /// ```
     /// # let bytes = std::fs::read("examples/variable.otf")?;
@@ -284,7 +284,7 @@ impl<'a> Place<'a> {
         self.font
     }
 
-    /// The outline of a glyph, with its advance and its bounds.
+    /// Returns the outline of a glyph, with its advance and bounds.
     ///
     /// ```
     /// # let bytes = std::fs::read("examples/variable.otf")?;
@@ -295,9 +295,9 @@ impl<'a> Place<'a> {
     ///
     /// # Errors
     ///
-    /// [`Error::NoGlyph`] where the font has no such glyph, or no Font DICT for it that stands; [`Error::TooLong`] where the limit is
-    /// used up; [`Error::CutAvar`] and [`Error::UnknownAvar`], and those from [`Error::Cff2Header`] to [`Error::Cff2Data`], where a
-    /// table is refused; where the run is refused: see [`Error`]; and as [`Place::advance`].
+    /// [`Error::NoGlyph`], also if the glyph has no Font DICT; [`Error::TooLong`] beyond the limit; [`Error::CutAvar`],
+    /// [`Error::UnknownAvar`] and those from [`Error::Cff2Header`] to [`Error::Cff2Data`] for a malformed table; the errors of its
+    /// charstring: see [`Error`]; and those of [`Place::advance`].
     pub fn outline(&self, glyph: usize) -> Result<Outline> {
         let mut segments = Vec::new();
         let font = &self.font;
@@ -306,7 +306,7 @@ impl<'a> Place<'a> {
         Ok(Outline::at_place(&segments, advance, bounds))
     }
 
-    /// Draws a glyph into a sink, and answers its advance and its bounds.
+    /// Draws a glyph into a sink, and returns its advance and bounds.
     ///
     /// ```
     /// # let bytes = std::fs::read("examples/variable.otf")?;
@@ -326,14 +326,14 @@ impl<'a> Place<'a> {
     ///
     /// # Errors
     ///
-    /// As [`Place::outline`]. Then the sink has been given nothing.
+    /// Those of [`Place::outline`]. The sink has received nothing then.
     pub fn draw<S: OutlineSink + ?Sized>(&self, glyph: usize, sink: &mut S) -> Result<Glyph> {
         let outline = self.outline(glyph)?;
         outline.draw(sink);
         Ok(outline.glyph())
     }
 
-    /// The advance of a glyph, in units of the font: that of `hmtx`, and what `HVAR` adds, to the nearest unit.
+    /// Returns the advance of a glyph, in font units: `hmtx` plus the `HVAR` delta, rounded to the nearest unit.
     ///
     /// ```
     /// # let bytes = std::fs::read("examples/variable.otf")?;
@@ -344,8 +344,8 @@ impl<'a> Place<'a> {
     ///
     /// # Errors
     ///
-    /// [`Error::NoTable`] where the face has no table `hhea` or `hmtx`; [`Error::NoAdvances`]; [`Error::CutHvar`] and
-    /// [`Error::UnknownHvar`]; [`Error::CutAvar`] and [`Error::UnknownAvar`]; [`Error::NoGlyph`] of a number above 65535.
+    /// [`Error::NoTable`] if the face has no `hhea` or `hmtx` table; [`Error::NoAdvances`]; [`Error::CutHvar`] and
+    /// [`Error::UnknownHvar`]; [`Error::CutAvar`] and [`Error::UnknownAvar`]; [`Error::NoGlyph`] for a number above 65535.
     pub fn advance(&self, glyph: usize) -> Result<f64> {
         Ok(c::variable_advance(self.font.file, self.font.face, &self.coordinates, glyph)? as f64)
     }

@@ -3,7 +3,7 @@ use crate::c;
 use crate::error::Error;
 use core::fmt;
 
-/// Why no font is written.
+/// The error of a font that is not written.
 ///
 /// ```
 /// # let bytes = std::fs::read("examples/small.otf")?;
@@ -15,16 +15,16 @@ use core::fmt;
 /// ```
 #[derive(Clone, Copy, Debug, PartialEq, Eq, Hash)]
 pub struct WriteError {
-    /// Why the call is refused.
+    /// The cause.
     pub error: Error,
-    /// The glyph that is meant: of [`Error::RefusedGlyph`], [`Error::NoGlyph`], [`Error::NoPart`] and [`Error::NoName`].
+    /// The glyph of the error, for [`Error::RefusedGlyph`], [`Error::NoGlyph`], [`Error::NoPart`] and [`Error::NoName`].
     pub glyph: Option<usize>,
-    /// Why the run of that glyph is refused: of [`Error::RefusedGlyph`].
+    /// The error of that glyph, for [`Error::RefusedGlyph`].
     pub cause: Option<Error>,
 }
 
 impl WriteError {
-    /// The error of what is told of a refusal.
+    /// The error of a `psf_refusal`.
     pub(crate) fn of((error, told): (Error, c::Refusal)) -> WriteError {
         let means_glyph =
             matches!(error, Error::RefusedGlyph | Error::NoGlyph | Error::NoPart | Error::NoName);
