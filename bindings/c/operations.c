@@ -1,4 +1,4 @@
-/* operations FONT GLYPH: prints the operations of a glyph of an OpenType font with a table CFF, each on a line: its operands, and at a
+/* operations FONT GLYPH: prints the operations of a glyph of an OpenType font with a CFF table, one per line: its operands, and at a
  * mask those of the stems that it implies; the code of its operator; and the bytes of the mask. */
 #include <stdio.h>
 #include <stdlib.h>

@@ -1,4 +1,4 @@
-/* svg_glyph FONT CHARACTER: prints the glyph of a character of an OpenType font with a table CFF, as an SVG picture. */
+/* svg_glyph FONT CHARACTER: prints the glyph of a character of an OpenType font with a CFF table as an SVG picture. */
 #include <stdio.h>
 #include <stdlib.h>
 
