@@ -38,7 +38,7 @@ cp -r "$tree/lib/cmake" $libs
 filled "$top/tools/dist/postscriptConfig.cmake.in" INCLUDE=../../include > $libs/cmake/postscript/postscriptConfig.cmake
 gzip -9n < "$tree/share/man/man3/postscript.h.3" > usr/share/man/man3/postscript.h.3.gz
 cp -r "$tree/examples" usr/share/doc/libpostscript-proved-dev
-gzip -9n < "$tree/docs/LINKED.md" > usr/share/doc/libpostscript-proved-dev/LINKED.md.gz
+cp -r "$tree/docs" usr/share/doc/libpostscript-proved-dev/docs
 
 cd "$work/python3-postscript-proved"
 mkdir -p usr/lib/python3/dist-packages/postscript DEBIAN

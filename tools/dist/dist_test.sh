@@ -1,12 +1,12 @@
 #!/bin/bash
-# Installs what `make dist` makes in a clean Debian without `rt`: the archive, the CMake project, the wheel, the crate and Debian's packages.
-# Draws one glyph by each, and compares.
+# Installs the files of `make dist` in a clean Debian without `rt`: the archive, the CMake project, the wheel, the crate and the Debian packages.
+# Draws one glyph with each, and compares.
 #
 #     tools/dist/dist_test.sh
 #
-# Needs root, Debian's debootstrap and the network's Debian packages. dist/ is made where it is not there. DIST_TEST_ROOT may name an archive
-# (.tar) of a clean root of Debian 12, which is then unpacked in place of a new one. The glyph is A of EB Garamond, and of the font of the
-# bindings' tests, whose outline was added up by hand. The last line is 'N passed, M failed', and the status is 1 where one failed.
+# Needs root, debootstrap and the mirror that this machine's apt uses. It makes dist/ if there is none. DIST_TEST_ROOT may name a tar file of a clean root of
+# Debian 12, which is then used instead of a new one. The glyph is A of EB Garamond, and of the font of the bindings' tests, whose outline was computed
+# by hand. The last line is 'N passed, M failed', and the status is 1 if one failed.
 set -euo pipefail
 top=$(cd "$(dirname "$0")/../.." && pwd)
 version=$(cat "$top/VERSION")
@@ -18,14 +18,15 @@ root=$work/root
 trap 'rm -rf --one-file-system "$work"' EXIT
 mkdir "$root"
 if [ -n "${DIST_TEST_ROOT:-}" ]; then tar -xf "$DIST_TEST_ROOT" -C "$root"; else
-    debootstrap --variant=minbase bookworm "$root" http://deb.debian.org/debian > "$work/debootstrap.log"
+    mirror=$(apt-get indextargets --format '$(REPO_URI)' | grep -v security | sort -u | head -n 1)
+    debootstrap --variant=minbase bookworm "$root" "$mirror" > "$work/debootstrap.log"
 fi
 cp /etc/resolv.conf "$root/etc/resolv.conf"
 mkdir -p "$root/t/out"
 cp -r "$top/dist" "$root/t/dist"
 mkdir "$root/t/tests"
 cp "$top/bindings/python/test_postscript.py" "$root/t/tests"
-cp "$top/bindings/font.hex" "$top/bindings/accents.hex" "$root/t"
+cp "$top/bindings/font.hex" "$top/bindings/accents.hex" "$top/bindings/variable.hex" "$root/t"
 passed=0 failed=0
 font=/usr/share/fonts/opentype/ebgaramond/EBGaramond12-Regular.otf
 
@@ -62,7 +63,7 @@ case_of 'the archive: psotf draws a text' '$N/bin/psotf svg $F --text Hamburgefo
 case_of 'the archive: versions' 'test "$($N/bin/psotf --version)" = "psotf $V"; test "$(sed -n "s/^Version: //p" $N/lib/pkgconfig/postscript.pc)" = "$V"'
 case_of 'the archive: psfont' 'test "$(printf "code 8e8c8d150e\nrun\n" | $N/bin/psfont | tr "\n" ,)" = "ok,RMoveTo 1 2,end,width 3,"'
 case_of 'the archive: what is proved is said' 'grep -q "LLVM, and put together" $N/PROOF.txt; test $(grep -c "^[a-z_0-9]*: logic=proved" $N/PROOF.txt) -ge 10;
-    test $(grep -c "^[a-z_0-9]*: logic=" $N/PROOF.txt) = $(grep -c "^[a-z_0-9]*: logic=proved " $N/PROOF.txt); grep -q "^## What is proved" $N/docs/LINKED.md'
+    test $(grep -c "^[a-z_0-9]*: logic=" $N/PROOF.txt) = $(grep -c "^[a-z_0-9]*: logic=proved " $N/PROOF.txt); grep -q "^## What is proved" $N/docs/proof.md'
 got gcc libc6-dev pkg-config
 case_of 'the archive: a program in C, by pkg-config' 'export PKG_CONFIG_PATH=$N/lib/pkgconfig
     cc -Wall -Werror $N/examples/svg_glyph.c $(pkg-config --cflags --libs postscript) -o svg_glyph
@@ -132,10 +133,13 @@ case_of 'the packages: Python' 'python3 -c "import postscript, sys; print(\"d=\\
     $F > out/packages_python.svg; cd tests; python3 -m unittest --quiet'
 case_of 'the packages: CMake' 'cmake -S $N/examples -B cmake_packages > /dev/null; cmake --build cmake_packages > /dev/null
     test "$(cmake_packages/advance_shared $S 0x41)" = 500; grep -q "^postscript_DIR:PATH=/usr/lib" cmake_packages/CMakeCache.txt'
-case_of 'the lines of README' 'sed -n "/^To install it without/,/^Proved is/s/^    //p" $N/README.md > lines; test $(wc -l < lines) = 4
-    cargo init -q --vcs none --name reader reader; cp dist/* reader; cp $F reader/Font.otf; cd reader
-    for n in 1 2 3 4; do sed -n ${n}p ../lines > line; PATH=/t/v/bin:$PATH DEBIAN_FRONTEND=noninteractive sh -eu line > told$n; done
-    grep -q "<svg" hello.svg; grep -q "^top FullName" told2; grep -q "^M.*Z$" told3; cargo build -q --offline'
+got librsvg2-bin
+case_of 'the lines of README' 'sed -n "/^## Status and installation/,/^\`\`\`/s/^    //p" $N/README.md | sed "s/^sudo //" > lines; test $(wc -l < lines) = 6
+    mkdir reader; ln -s /t/dist reader/dist; cp $F reader/Font.otf; cd reader
+    for n in 1 2 3 4 5 6; do sed -n ${n}p ../lines > line; DEBIAN_FRONTEND=noninteractive sh -eu line > told$n; done
+    grep -q "<svg" hello.svg; test -s hello.png; grep -q "^M.*Z$" told6; cd app; cargo build -q --offline'
+case_of 'the links of the documents' 'cd $N; for page in *.md docs/*.md docs/*/*.md; do grep -o "](\([^)#]*\)" $page | sed "s/^](//" | grep -v "://" | while read -r link; do
+    test -z "$link" || test -e "$(dirname $page)/$link" || { echo "$page: $link"; exit 1; }; done; done'
 got man-db bash zsh fish
 case_of 'manual pages: no warning' 'for page in $N/share/man/man*/*; do MANROFFSEQ= man --warnings -E UTF-8 -l -Tutf8 -Z $page > /dev/null 2> log; cat log; refused test -s log; done'
 case_of 'manual pages: each option' 'for c in inspect glyph svg sheet report flat instance subset; do psotf $c --help | grep -o -e "--[a-z-]*" | sort -u | while read -r o; do

@@ -25,9 +25,17 @@ filled "$top/tools/dist/postscriptConfig.cmake.in" INCLUDE=../include > "$tree/l
 filled "$top/tools/dist/postscriptConfigVersion.cmake.in" > "$tree/lib/cmake/postscript/postscriptConfigVersion.cmake"
 "$top/tools/dist/pages.py" "$tree/bin/psotf" "$tree/bin/psfont" "$share"
 
-cp "$top/README.md" "$top/CHANGELOG.md" "$top/LICENSE-APACHE" "$top/LICENSE-MIT" "$tree"
+cp "$top/README.md" "$top/CHANGELOG.md" "$top/CONTRIBUTING.md" "$top/SECURITY.md" "$top/LICENSE-APACHE" "$top/LICENSE-MIT" "$tree"
 cp "$proof" "$tree/PROOF.txt"
-cp "$top/docs"/*.md "$top/docs"/*.svg "$tree/docs"
+cp -r "$top/docs/." "$tree/docs"
+# links to files that are only in the repository become text
+/usr/bin/python3 - "$tree" << 'END'
+import pathlib, re, sys
+for page in [*pathlib.Path(sys.argv[1]).glob("*.md"), *pathlib.Path(sys.argv[1], "docs").rglob("*.md")]:
+    def shown(link):
+        return link[0] if "://" in link[2] or link[2].startswith("#") or (page.parent / link[2].partition("#")[0]).exists() else link[1]
+    page.write_text(re.sub(r"(?<!!)\[([^]\n]+)\]\(([^)\s]+)\)", shown, page.read_text(encoding="utf-8")), encoding="utf-8")
+END
 cp "$top/bindings/c/svg_glyph.c" "$top/bindings/c/operations.c" "$top/tools/dist/example/advance.c" "$tree/examples"
 cp "$top/bindings/rust/examples/small.otf" "$tree/examples"
 filled "$top/tools/dist/example/CMakeLists.txt" > "$tree/examples/CMakeLists.txt"
