@@ -9,9 +9,10 @@ of all these fonts, which are drawn from SEED and printed. Needs gcc and Debian'
 and libharfbuzz-bin. Each font is written by `psotf flat`, and, of glyphs that are drawn at random from SEED, three times by `psotf
 subset` and once by `psotf subset --retain-gids`. Of each file that is written fontTools, as it comes, has to draw each glyph with the
 same segments, and to tell the same metrics and the same name or CID; FreeType has to tell the same points, unscaled and unhinted, and
-the same advance; the sums in the file have to be right; and `ots-sanitize` has to accept it where it accepts the source. The bytes of
-the table `CFF ` of the flat file and the time are added up beside `hb-subset --desubroutinize` of all glyphs. It prints each file that
-differs, and then how many fonts, files and glyphs were compared. A process for each processor takes one font after another.
+the same advance; the sums in the file have to be right; and `ots-sanitize` has to accept it if it accepts the source. Sizes of the
+`CFF ` tables and times of the whole commands are compared with `hb-subset --desubroutinize` of all glyphs, which drops the layout tables GSUB, GPOS and GDEF and does not
+rewrite them; `psotf flat` copies them. It prints each file that differs, and then how many fonts, files and glyphs were compared. One process per processor takes one font
+after another.
 """
 
 import collections
@@ -141,7 +142,7 @@ def counted(path, folder, program, draw):
         sums["unsound"] += refused
         if different or other or refused:
             print(f"{path}: {name}: {different} glyphs differ, {other} for FreeType, {'not ' if refused else ''}accepted", flush=True)
-    done, theirs, _ = timed(["hb-subset", "--desubroutinize", "--gids=*", "--notdef-outline", "--glyph-names", "--layout-features=*", f"--output-file={theirs_at}", path])
+    done, theirs, _ = timed(["hb-subset", "--desubroutinize", "--gids=*", "--notdef-outline", "--glyph-names", "--drop-tables+=GSUB,GPOS,GDEF", f"--output-file={theirs_at}", path])
     if done:
         sums["own_bytes"] += len(TTFont(flat, lazy=True).reader["CFF "])
         sums["their_bytes"] += len(TTFont(theirs_at, lazy=True).reader["CFF "])
@@ -167,7 +168,7 @@ def main(words):
             sums.update(done.result())
     print(f"seed {words[0]}: {sums['fonts']} fonts, {sums['refused']} refused, {sums['files']} files, {sums['glyphs']} glyphs, {sums['points']} also by FreeType, {sums['differ']} differ, {sums['unsound']} not accepted")
     if sums["their_bytes"]:
-        print(f"beside hb-subset: {sums['own_bytes'] / sums['their_bytes']:.4f} of its bytes, {sums['own_seconds'] / sums['their_seconds']:.2f} of its time")
+        print(f"compared with hb-subset without layout tables: {sums['own_bytes'] / sums['their_bytes']:.4f} of its bytes, {sums['own_seconds'] / sums['their_seconds']:.2f} of its time")
     return sums["differ"] or sums["unsound"]
 
 
