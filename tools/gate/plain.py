@@ -54,11 +54,18 @@ def of_markdown(text):
 
 
 def of_rust(text):
-    return re.sub(r"`[^`]*`", "CODE", "\n".join(found[1] for found in re.finditer(r"^\s*//[/!]?(?: (.*))?$", text, re.M) if found[1]))
+    """The comments; those that are not on neighbouring lines are apart."""
+    told, last = [], -1
+    for number, line in enumerate(text.split("\n")):
+        found = re.match(r"\s*//[/!]?(?: (.*))?$", line)
+        if found:
+            told += ([""] if number != last + 1 else []) + [found[1] or ""]
+            last = number
+    return re.sub(r"`[^`]*`", "CODE", "\n".join(told))
 
 
 def of_header(text):
-    return "\n".join(found[0].strip("/* ") for found in re.finditer(r"/\*.*?\*/", text, re.S)).replace("\n *", "\n")
+    return "\n\n".join(found[0].strip("/* ") for found in re.finditer(r"/\*.*?\*/", text, re.S)).replace("\n *", "\n")
 
 
 def of_python(text):
@@ -70,7 +77,7 @@ def of_python(text):
 def of_texts(text):
     text = re.sub(r"^\s*//.*$", "", text, flags=re.M)
     texts = re.findall(r'"((?:[^"\\]|\\.)*)"', text)
-    return "\n\n".join(one for one in texts if " " in one and not re.search(r"[<>{;=]\s*$|function|var\(|px", one))
+    return "\n\n".join(one for one in texts if " " in one and "\n" not in one and not re.search(r"[<>{;=]\s*$|function|var\(|px", one))
 
 
 def corpora():
@@ -132,6 +139,9 @@ def main():
     whole = "\n\n".join(found.values())
     wrong = [f"{word}: {share:.2f} per 1,000 words, aim {aim}" for word, share, aim in missed(whole)]
     lengths = [len(one.split()) for one in sentences(whole)]
+    long = sum(one > 40 for one in lengths)
+    if long > 0:
+        wrong.append(f"{long} sentences of more than 40 words")
     if sum(lengths) / len(lengths) > 18:
         wrong.append(f"{sum(lengths) / len(lengths):.1f} words a sentence, aim 18")
     wrong += sizes()

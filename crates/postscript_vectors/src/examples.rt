@@ -29,8 +29,9 @@ const FLAT: [u8; 13] = [
     0x8e, 0x8c, 0x8d, 0x15, 0x20, 0x0c, 0x12, 0x8c, 0x06, 0x8b, 0x0c, 0x12, 0x0e,
 ];
 
-/// A font of the name A with this glyph: its header, its names, its Top DICT (`CharStrings` at 24, `Private` of 2 bytes
-/// at 36), no strings, no global subroutines, its charstrings, its Private DICT (`Subrs` 2 after it), its subroutine.
+/// A font of the name A with this glyph. After the header and the names come the Top DICT (`CharStrings` at 24, `Private`
+/// of 2 bytes at 36), no strings and no global subroutines. Then come the charstrings, the Private DICT (`Subrs` 2 after
+/// it) and the subroutine.
 const FONT: [u8; 46] = [
     1, 0, 4, 1, 0, 1, 1, 1, 2, 0x41, 0, 1, 1, 1, 6, 0xa3, 0x11, 0x8d, 0xaf, 0x12, 0, 0, 0, 0, 0, 1,
     1, 1, 8, 0x8e, 0x8c, 0x8d, 0x15, 0x20, 0x0a, 0x0e, 0x8d, 0x13, 0, 1, 1, 1, 4, 0x8c, 0x06, 0x0b,

@@ -9,9 +9,9 @@ use std::process::Abort;
 
 const USAGE: &str = "usage: psfont [font PATH | lenient PATH]\n";
 
-/// A font of the name A with one glyph: its header, its names, its Top DICT (`CharStrings` at 24, `Private` of 2 bytes
-/// at 30), no strings, no global subroutines, its charstrings, its Private DICT (`Subrs` 2 after it), and no local
-/// subroutines.
+/// A font of the name A with one glyph. After the header and the names come the Top DICT (`CharStrings` at 24, `Private`
+/// of 2 bytes at 30), no strings and no global subroutines. Then come the charstrings and the Private DICT (`Subrs` 2
+/// after it). There are no local subroutines.
 const FONT: &[u8] = &[
     1, 0, 4, 1, 0, 1, 1, 1, 2, 0x41, 0, 1, 1, 1, 6, 0xa3, 0x11, 0x8d, 0xa9, 0x12, 0, 0, 0, 0, 0, 1,
     1, 1, 2, 0x0e, 0x8d, 0x13, 0, 0,
