@@ -20,7 +20,7 @@ use Rattle.postscript_type2.specs.Program.Routines.{lent}
 use Rattle.postscript_type2.specs.Program.Runs.{Phrase, End, UsedUp, Returned, Finished, Fault, Run, fault_of}
 use Rattle.postscript_type2.specs.Program.Within.{StepsWithin}
 use Rattle.postscript_view.specs.Advances.{HasRun}
-use Rattle.postscript_view.specs.Fitting.{CostTheLimit, FitsIn, Goes, GlyphCosts, ends, is_refused, GlyphFits, longest, RunsCost, one_more as one_run, refusal_cost}
+use Rattle.postscript_view.specs.Fitting.{CostTheLimit, FitsIn, Goes, GlyphCosts, ends, is_refused, GlyphFits, GlyphLeaves, all_paid, refusal_paid, longest, RunsCost, one_more as one_run, refusal_cost}
 use Rattle.postscript_view.specs.declared.fitting.Outcome.{Outcome}
 use Rattle.postscript_view.specs.Glyphs.{HasGlyph}
 use Rattle.postscript_view.specs.declared.fitting.Outcome.TheVariants as outcomes
@@ -176,25 +176,27 @@ goes-so {outcome} {way} {program} {run} limit left is begins goes =
 pub ended-so : (font : FontView) (i : ℕ) (part : PrivateDict) (run : Run) (limit left : ℕ) {outcome : Outcome} {program : Pending} →
     LimitIsCost → HasRun font i part run → outcome ≡ outcomes.Ended →
     program ≡ begun run → Goes outcome program limit left → GlyphFits font limit
-    i × ((cost : ℕ) × GlyphCosts font i cost × (left ≡ limit - cost))
+    i × ((cost : ℕ) × GlyphCosts font i cost × (left ≡ limit - cost)) × GlyphLeaves font limit i left
 ended-so font i part run limit left {outcome} {program} law has is begins goes =
     let so = goes-so limit left is begins goes in
     let all = law limit run.trace left [] so.1 in
     let same : run.trace ≡ all.0 = all.1 ∙ append-nil all.0 in (
       inr (part, run, has, (left, ([], so.1, omega arith))),
       (cost run.trace, ends part run has so.0, subst (λ (xs : List Phrase). left ≡ limit - cost xs) (sym same) all.2),
+      all_paid part run has so.0 left so.1,
     )
 
 pub refused-so : (font : FontView) (i : ℕ) (part : PrivateDict) (run : Run) (limit left last : ℕ) {outcome : Outcome}
     {program : Pending} → LimitIsCost → (has : HasRun font i part run) → outcome ≡ Refused →
     program ≡ begun run → Goes outcome program limit left → last ≡ left - refusal_cost font part has.code →
-    GlyphFits font limit i × ((cost : ℕ) × GlyphCosts font i cost × (last ≡ limit - cost))
+    GlyphFits font limit i × ((cost : ℕ) × GlyphCosts font i cost × (last ≡ limit - cost)) × GlyphLeaves font limit i last
 refused-so font i part run limit left last {outcome} {program} law has is begins goes paid =
     let so = goes-so limit left is begins goes in
     let all = law limit run.trace left so.1.0 so.1.1 in
     let ran = all.2 in (
       inr (part, run, has, (left, so.1)),
       (cost all.0 + refusal_cost font part has.code, is_refused part run has so.0 all.0 so.1.0 all.1 so.1.2, omega (arith, ran, paid)),
+      subst (λ n. GlyphLeaves font limit i n) (sym paid) (refusal_paid part run has so.0 left so.1.0 so.1.1 so.1.2),
     )
 
 pub used-so : (font : FontView) (i : ℕ) (part : PrivateDict) (run : Run) (limit left : ℕ) {outcome : Outcome} {program : Pending} →
