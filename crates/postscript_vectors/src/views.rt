@@ -4,10 +4,10 @@ pub mod rows;
 use crate::checks::{bytes_of, changed, code_of, holds, holds_at, is_text, put_shown};
 use crate::fonts::TWO_DICTIONARIES;
 use postscript::compact1::FontSet;
-use postscript_view::{Advance, FontView};
+use postscript_view::{Advance, FdSelect, FontView};
 use rows::{
     BROKEN, CID, CIDS_OF_LETTERS, CODES, FALLING, FITTING, GLYPHS, LASTS, MATRICES, PLAIN, RANGE,
-    REFUSED, SELECTIONS,
+    REFUSED, SELECTED, SELECTIONS,
 };
 use std::alloc::Global;
 use std::io::Cursor;
@@ -86,6 +86,16 @@ fn ranges_that_fall_give_no_part(rt: HostRuntime) {
     for glyph in 0..4 {
         let is_none = font.part_of(glyph).is_none() && font.glyph(glyph).is_none();
         holds_at(&rt, is_none, "glyph", glyph);
+    }
+}
+
+#[test]
+fn font_dictionaries_of_glyphs(rt: HostRuntime) {
+    let alloc = rt.alloc();
+    for (row, (selection, glyphs, glyph, wanted)) in SELECTED.iter().enumerate() {
+        let bytes = bytes_of(&rt, alloc, selection);
+        let select = FdSelect::at(bytes.as_slice(), 0, *glyphs);
+        holds_at(&rt, select.part_of(*glyph) == *wanted, "row", row);
     }
 }
 

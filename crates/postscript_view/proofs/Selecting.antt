@@ -77,35 +77,37 @@ named (Listed list) bytes map place glyphs names h =
     (h.0, cc, h.2)
 named (InRanges ranges) bytes map place glyphs names h =
     let there = h.1 in
-    (h.0, cc)
+    (h.0, cc, h.2)
 named Unknown bytes map place glyphs names h = λ glyph fd selected.
     let other = selected.1 in
     let same : selected.0 ≡ place = cc in
     h glyph fd (subst (λ p. Selects bytes p glyphs glyph fd) same selected.2)
 
 -- where the ranges give none, none is selected
-none_at_place : (r : Ranges) (glyph : ℕ) → ((fd : ℕ) → IsInGlyphRanges r.bytes.now r.place glyph fd → ⊥) → (bytes : List ℕ)
+none_at_place : (r : Ranges) (glyph : ℕ) → ((fd : ℕ) → IsInGlyphRanges r.bytes.now r.place r.glyphs glyph fd → ⊥) → (bytes : List ℕ)
     (place glyphs fd : ℕ) → SelectStandsAt (InRanges r) bytes place glyphs → Selects bytes place glyphs glyph fd → ⊥
 none_at_place r glyph none bytes place glyphs fd stands selects =
     let bytes_are = stands.0 in
     let place_is = stands.1 in
+    let glyphs_are = stands.2 in
     let format : number_at bytes place 1 ≡ number_at r.bytes.now r.place 1 = cc in
     elim selects [
       | inl listed ↦ absurd (omega (arith, listed.format, r.format, format))
-      | inr ranges ↦ none fd (subst (λ p. IsInGlyphRanges r.bytes.now p glyph fd) (sym place_is)
-          (subst (λ b. IsInGlyphRanges b place glyph fd) (sym bytes_are) ranges))
+      | inr ranges ↦ none fd (subst (λ p. IsInGlyphRanges r.bytes.now p r.glyphs glyph fd) (sym place_is)
+          (subst (λ b. IsInGlyphRanges b place r.glyphs glyph fd) (sym bytes_are)
+          (subst (λ n. IsInGlyphRanges bytes place n glyph fd) (sym glyphs_are) ranges)))
     ]
 
-ranges_none : (r : Ranges) (glyph : ℕ) → ((fd : ℕ) → IsInGlyphRanges r.bytes.now r.place glyph fd → ⊥) → (bytes : List ℕ) (map : Dictionary)
+ranges_none : (r : Ranges) (glyph : ℕ) → ((fd : ℕ) → IsInGlyphRanges r.bytes.now r.place r.glyphs glyph fd → ⊥) → (bytes : List ℕ) (map : Dictionary)
     (glyphs fd : ℕ) → IsSelectOf (InRanges r) bytes map glyphs → IsSelected bytes map glyphs glyph fd → ⊥
 ranges_none r glyph none bytes map glyphs fd is selected =
     let names = is.1 in
     let other = selected.1 in
     let same : r.place ≡ selected.0 = cc in
-    none_at_place r glyph none bytes selected.0 glyphs fd (is.0, same) selected.2
+    none_at_place r glyph none bytes selected.0 glyphs fd (is.0, same, is.2) selected.2
 
 pub none_in_ranges_at : (o : Option ℕ) (s : Select) (r : Ranges) (glyph : ℕ) → s ≡ InRanges r →
-    IfNone o ((fd : ℕ) → IsInGlyphRanges r.bytes.now r.place glyph fd → ⊥)
+    IfNone o ((fd : ℕ) → IsInGlyphRanges r.bytes.now r.place r.glyphs glyph fd → ⊥)
     → IfNone o ((bytes : List ℕ) (place glyphs fd : ℕ) → SelectStandsAt s bytes place glyphs → Selects bytes place glyphs glyph fd → ⊥)
 none_in_ranges_at (Some fd) s r glyph is h = tt
 none_in_ranges_at None s r glyph is h =
@@ -113,7 +115,7 @@ none_in_ranges_at None s r glyph is h =
     (subst (λ s. SelectStandsAt s bytes place glyphs) is stands) selects
 
 pub none_in_ranges : (o : Option ℕ) (s : Select) (r : Ranges) (glyph : ℕ) → s ≡ InRanges r →
-    IfNone o ((fd : ℕ) → IsInGlyphRanges r.bytes.now r.place glyph fd → ⊥)
+    IfNone o ((fd : ℕ) → IsInGlyphRanges r.bytes.now r.place r.glyphs glyph fd → ⊥)
     → IfNone o ((bytes : List ℕ) (map : Dictionary) (glyphs fd : ℕ) → IsSelectOf s bytes map glyphs → IsSelected bytes map glyphs glyph fd → ⊥)
 none_in_ranges (Some fd) s r glyph is h = tt
 none_in_ranges None s r glyph is h =

@@ -10,7 +10,7 @@ use Rattle.postscript_view.specs.declared.select.Select.TheVariants.{Listed, InR
 -- it stands at a place of bytes, for so many glyphs
 abbrev pub SelectStandsAt : Select → List ℕ → (place glyphs : ℕ) → Type 0
 SelectStandsAt (Listed list) bytes place glyphs = (list.bytes.now ≡ bytes) × (list.place ≡ place) × (list.glyphs ≡ glyphs)
-SelectStandsAt (InRanges ranges) bytes place glyphs = (ranges.bytes.now ≡ bytes) × (ranges.place ≡ place)
+SelectStandsAt (InRanges ranges) bytes place glyphs = (ranges.bytes.now ≡ bytes) × (ranges.place ≡ place) × (ranges.glyphs ≡ glyphs)
 SelectStandsAt Unknown bytes place glyphs = (glyph fd : ℕ) → Selects bytes place glyphs glyph fd → ⊥
 
 -- it is what a dictionary names
@@ -18,6 +18,7 @@ abbrev pub IsSelectOf : Select → List ℕ → Dictionary → (glyphs : ℕ) �
 IsSelectOf (Listed list) bytes map glyphs = (list.bytes.now ≡ bytes) × (offset_of map operators.FDSelect ≡ Some list.place)
     × (list.glyphs ≡ glyphs)
 IsSelectOf (InRanges ranges) bytes map glyphs = (ranges.bytes.now ≡ bytes) × (offset_of map operators.FDSelect ≡ Some ranges.place)
+    × (ranges.glyphs ≡ glyphs)
 IsSelectOf Unknown bytes map glyphs = (glyph fd : ℕ) → IsSelected bytes map glyphs glyph fd → ⊥
 
 -- what was opened is said in one way

@@ -40,12 +40,12 @@ impl<'l> FdSelect<'l> {
     }
 
     /// Returns the number of the Font DICT of a glyph, counted from 0. In format 0 it is the byte of the glyph, in
-    /// format 3 the one of its range. Returns `None` if the glyph has none. The caller must check that the font has
-    /// this Font DICT.
+    /// format 3 the one of its range. Returns `None` if the glyph has none, or if the font has no such glyph, even if a
+    /// range goes on past the last one. The caller must check that the font has this Font DICT.
     pub fn part_of(&self, glyph: usize) -> Option<usize>
-        // If `Some`, it is the number of the Font DICT that `FDSelect` gives the glyph.
+        // If `Some`, there is such a glyph, and `FDSelect` gives it the Font DICT of this number.
         ensures found { IfSome result (λ fd. Selects self.now.bytes.now self.now.place self.now.glyphs glyph fd) }
-        // If `None`, `FDSelect` gives the glyph no Font DICT.
+        // If `None`, there is no such glyph, or `FDSelect` gives it no Font DICT.
         ensures none { IfNone result ((fd : ℕ) → Selects self.now.bytes.now self.now.place self.now.glyphs glyph fd → ⊥) }
     {
         self.select.part_of(glyph)

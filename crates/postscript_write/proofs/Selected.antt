@@ -136,6 +136,7 @@ ranges_all numbers firsts are low few = record {
             let a = ranges.first r (omega (arith, under, count)) in
             let b = ranges.first (r + 1) (omega (arith, under, count)) in
             omega (arith, rise, a, b);
+        there = less;
         range = record {
           range = lies.range;
           there = omega (arith, there, count);

@@ -16,6 +16,16 @@ pub const SELECTIONS: &[&str] = &["03 0002 000000 000201 0004", "00 00000101"];
 /// FDSelect whose ranges are not in the order of their first glyphs, as the Note requires.
 pub const FALLING: &str = "03 0002 000201 000000 0004";
 
+/// An `FDSelect`, the number of glyphs of its font, a glyph, and its Font DICT. A range may go on past the last glyph.
+pub const SELECTED: &[(&str, usize, usize, Option<usize>)] = &[
+    ("03 0001 0000 05 0064", 1, 0, Some(5)),
+    ("03 0001 0000 05 0064", 1, 1, None),
+    ("03 0001 0000 05 0064", 1, 50, None),
+    ("03 0001 0000 05 0064", 100, 50, Some(5)),
+    ("00 05", 1, 0, Some(5)),
+    ("00 05", 1, 50, None),
+];
+
 /// Describes each glyph of the CID-keyed font, and none after them. The CIDs, parts and advances are those that
 /// fontTools 4.38 reads. It computes no advance of an empty charstring, which has the default one by the Note.
 pub const GLYPHS: &[&str] = &[
