@@ -76,7 +76,7 @@ def clause(path, function, wanted):
     """The text of a function's clause."""
     text = text_of(path)
     at = re.search(rf"^\s*(?:pub )?fn {function}\b", text, re.M).start()
-    head = text[at : re.search(r"^ *\{$", text[at:], re.M).start() + at]
+    head = re.sub(r"^ *// .*\n", "", text[at : re.search(r"^ *\{$", text[at:], re.M).start() + at], flags=re.M)
     found = re.findall(r"ensures (?:(\w+) )?\{(.*?)\}\s*$(?=\s*ensures|\s*\Z)", head, re.M | re.S)
     return next(body for name, body in found if name == wanted)
 
