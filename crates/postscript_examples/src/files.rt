@@ -2,11 +2,11 @@
 ghost use Rattle.std.specs.Prelude.{◌≡◌, ◌⊎◌, ℕ, ◌<◌, IfOk, IfErr, length};
 ghost use Rattle.postscript_base.specs.Index.Lent.{items_of};
 
-use anyhow::{Context, Result};
+use anyhow::{Context, Result, bail};
 use postscript_drawing::LIMIT;
 use postscript_outline::Outline;
 use postscript_sfnt::{Advances, CharacterMap, FontFile};
-use postscript_view::{Advance, FontView};
+use postscript_view::{Advance, AdvanceWithin, FontView};
 use std::alloc::Global;
 
 /// Returns the names of a font's glyphs in order, with `None` for a glyph without a name.
@@ -23,8 +23,12 @@ pub fn glyph_names(alloc: Global, cff: &[u8]) -> Result<Vec<Option<&[u8]>>> {
 /// Returns the exact advance width of a glyph in glyph units, by the `CFF ` table.
 pub fn advance_of(alloc: Global, cff: &[u8], glyph: usize) -> Result<Advance> {
     let font = FontView::read(alloc, cff)?;
-    font.advance(alloc, glyph)?
-        .context("the font has no such glyph")
+    let mut limit = LIMIT;
+    match font.advance(alloc, glyph, &mut limit)? {
+        AdvanceWithin::Known(advance) => Ok(advance),
+        AdvanceWithin::Unknown => bail!("the font has no such glyph"),
+        AdvanceWithin::TooLong => bail!("the glyph takes too long to run"),
+    }
 }
 
 /// Returns the glyph of a character, by the character map that the file prefers.

@@ -4,10 +4,10 @@ pub mod rows;
 use crate::checks::{bytes_of, changed, code_of, holds, holds_at, is_text, put_shown};
 use crate::fonts::TWO_DICTIONARIES;
 use postscript::compact1::FontSet;
-use postscript_view::{Advance, FdSelect, FontView};
+use postscript_view::{Advance, AdvanceWithin, FdSelect, FontView};
 use rows::{
     BROKEN, CID, CIDS_OF_LETTERS, CODES, FALLING, FITTING, GLYPHS, LASTS, MATRICES, PLAIN, RANGE,
-    REFUSED, SELECTED, SELECTIONS,
+    REFUSED, SELECTED, SELECTIONS, WITHIN,
 };
 use std::alloc::Global;
 use std::io::Cursor;
@@ -50,7 +50,9 @@ pub fn told<R: Abort>(rt: &R, alloc: Global, font: &FontView<'_>, glyph: usize) 
     if let Some(found) = font.glyph(glyph) {
         put_shown(rt, &mut text, " bytes ", &found.code.len());
     }
-    if let Some(advance) = font.advance(alloc, glyph).expect(rt, "a run") {
+    let mut limit = 100;
+    let told = font.advance(alloc, glyph, &mut limit).expect(rt, "a run");
+    if let AdvanceWithin::Known(advance) = told {
         put_advance(rt, &mut text, &advance);
     }
     if let Some(matrix) = font.font_matrix(glyph) {
@@ -108,6 +110,23 @@ fn fonts_that_fit_a_limit(rt: HostRuntime) {
         let mut limit = *given;
         let told = font.fits(alloc, &mut limit).expect(&rt, "memory");
         holds(&rt, told == *fits && limit == *left, selection);
+    }
+}
+
+#[test]
+fn advances_within_a_limit(rt: HostRuntime) {
+    let alloc = rt.alloc();
+    let bytes = joined(&rt, alloc, CID, SELECTIONS[0]);
+    let font = FontView::read(alloc, bytes.as_slice()).expect(&rt, "a font");
+    for (row, (glyph, given, wanted, left)) in WITHIN.iter().enumerate() {
+        let mut limit = *given;
+        let told = match font.advance(alloc, *glyph, &mut limit).expect(&rt, "a run") {
+            AdvanceWithin::Known(_) => "known",
+            AdvanceWithin::Unknown => "unknown",
+            AdvanceWithin::TooLong => "too long",
+        };
+        is_text(&rt, told, wanted, "the outcome");
+        holds_at(&rt, limit == *left, "row", row);
     }
 }
 

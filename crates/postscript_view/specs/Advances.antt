@@ -1,17 +1,22 @@
 -- The advance of a glyph (Technical Note 5176, Table 23, "defaultWidthX" and "nominalWidthX"; Technical Note 5177, 3.1).
-use Rattle.std.specs.Prelude.{◌≡◌, ℕ, ℤ, pos, ◌*ℤ◌, ◌+ℤ◌, List, Option, Some, None}
+use Rattle.std.specs.Prelude.{◌≡◌, ◌⊎◌, ℕ, ℤ, pos, ◌*ℤ◌, ◌+ℤ◌, List, [], Option, Some, None, Result, Ok, Err}
 use Rattle.std.specs.Option.{option_map}
 use Rattle.postscript_base.specs.Compact1.Decimal.{Decimal, to_i32}
 use Rattle.postscript_base.specs.Compact1.Defaults.{look, first_of}
 use Rattle.postscript_base.specs.Compact1.Dictionary.{Dictionary}
 use Rattle.postscript_base.specs.declared.compact1.operator.Operator.TheVariants.{DefaultWidthX, NominalWidthX}
 use Rattle.postscript_base.specs.Index.Lent.{items_of}
+use Rattle.postscript_base.specs.declared.error.Error.{Error}
+use Rattle.postscript_base.specs.declared.error.Error.TheVariants.{Memory}
 use Rattle.postscript_type2.specs.Program.Evaluation.{run_of}
+use Rattle.postscript_type2.specs.Program.Limit.{Spends, IsLast}
 use Rattle.postscript_type2.specs.Program.Routines.{lent}
-use Rattle.postscript_type2.specs.Program.Runs.{Run}
+use Rattle.postscript_type2.specs.Program.Runs.{End, Phrase, Run, fault_of, width_of}
 use Rattle.postscript_view.specs.Glyphs.{HasGlyph}
 use Rattle.postscript_view.specs.declared.advance.Advance.{Advance}
 use Rattle.postscript_view.specs.declared.advance.Advance.TheVariants.{Default, Nominal}
+use Rattle.postscript_view.specs.declared.advance.AdvanceWithin.{AdvanceWithin}
+use Rattle.postscript_view.specs.declared.advance.AdvanceWithin.TheVariants.{Known, Unknown, TooLong}
 use Rattle.postscript_view.specs.declared.font.FontView.{FontView}
 use Rattle.postscript_view.specs.declared.private_dict.PrivateDict.{PrivateDict}
 
@@ -25,6 +30,41 @@ pub record HasRun (font : FontView) (glyph : ℕ) (part : PrivateDict) (run : Ru
   pub code : List ℕ
   pub has : HasGlyph font glyph code part
   pub runs : run ≡ run_of (lent (items_of font.global_subroutines) (items_of part.subroutines)) code
+
+-- the outcome for an advance, or for none
+abbrev pub outcome_of : Option Advance → AdvanceWithin
+outcome_of (Some advance) = Known advance
+outcome_of None = Unknown
+
+-- A run at this end, and with this advance, has this outcome: the advance where the run ends without a fault. Where the limit is used
+-- up before its end, nothing is told of it.
+abbrev pub TellsAdvance : Option Advance → End → AdvanceWithin → Type 0
+TellsAdvance advance end (Known found) = (advance ≡ Some found) × (fault_of end ≡ None)
+TellsAdvance advance end Unknown = (advance ≡ None) × (fault_of end ≡ None)
+TellsAdvance advance end TooLong = Unit {0}
+
+-- How a limit is spent on the phrases of a run: on all where the run comes to its end, and on those before the phrase at which it is
+-- refused. Nothing is left where it is used up.
+abbrev pub PaysPhrases : List Phrase → (limit : ℕ) → Result AdvanceWithin Error → (left : ℕ) → Type 0
+PaysPhrases phrases limit (Ok (Known advance)) left = Spends limit phrases left []
+PaysPhrases phrases limit (Ok Unknown) left = Spends limit phrases left []
+PaysPhrases phrases limit (Ok TooLong) left = (left ≡ 0) × ((rest : List Phrase) × Spends limit phrases left rest)
+PaysPhrases phrases limit (Err e) left = (rest : List Phrase) × Spends limit phrases left rest × ((e ≡ Memory) ⊎ IsLast rest)
+
+-- there is no such glyph, or it has no part
+abbrev pub LacksGlyph : FontView → (glyph : ℕ) → Type 0
+LacksGlyph font glyph = (code : List ℕ) (part : PrivateDict) → HasGlyph font glyph code part → ⊥
+
+-- The outcome for a glyph is that for its run. A glyph that is not there has no advance.
+abbrev pub TellsGlyph : FontView → (glyph : ℕ) → AdvanceWithin → Type 0
+TellsGlyph font glyph told = (LacksGlyph font glyph × (told ≡ Unknown))
+    ⊎ ((part : PrivateDict) × (run : Run) × HasRun font glyph part run
+    × TellsAdvance (advance_of part.dictionary (width_of run)) run.end told)
+
+-- The limit is spent on the run of the glyph. A glyph that is not there costs nothing.
+abbrev pub PaysGlyph : FontView → (glyph limit : ℕ) → Result AdvanceWithin Error → (left : ℕ) → Type 0
+PaysGlyph font glyph limit result left = (LacksGlyph font glyph × (left ≡ limit))
+    ⊎ ((part : PrivateDict) × (run : Run) × HasRun font glyph part run × PaysPhrases run.trace limit result left)
 
 -- a width of a dictionary in 65536ths of a unit, where it is a whole number of 32 bits
 abbrev pub whole_bits : Decimal → Option ℤ

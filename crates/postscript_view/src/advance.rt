@@ -1,14 +1,16 @@
 //! Advances of glyphs.
-ghost use Rattle.std.specs.Prelude.{◌≡◌, ◌⊎◌, ◌≤◌, ◌^◌, Some, None, IfOk, IfErr, IfSome, OnOk};
+ghost use Rattle.std.specs.Prelude.{◌≡◌, ◌≢◌, ◌⊎◌, ◌<◌, ◌≤◌, ◌^◌, Some, Ok, IfOk, IfErr, IfSome};
 ghost use Rattle.std.specs.Int.RustNames.{unsigned_abs};
 ghost use Rattle.postscript_base.specs.RefusalOf.{refusal_of};
 ghost use Rattle.postscript_base.specs.declared.error.Error.TheVariants as errors;
+ghost use Rattle.postscript_type2.specs.Program.Limit.{cost};
 ghost use Rattle.postscript_type2.specs.Program.Runs.{fault_of, width_by};
-ghost use Rattle.postscript_view.specs.Advances.{whole_bits};
+ghost use Rattle.postscript_view.specs.Advances.{advance_of, outcome_of, whole_bits, PaysPhrases, TellsAdvance};
 
+use crate::private_dict::PrivateDict;
 use postscript_base::Result;
 use postscript_base::compact1::Operand;
-use postscript_type2::{Operand as Difference, Program};
+use postscript_type2::{Operand as Difference, Program, Within};
 
 /// The advance of a glyph, in glyph units, as exact summands.
 #[derive(Clone, Copy)]
@@ -46,16 +48,45 @@ fn in_bits(width: Operand) -> Option<i64>
     Some(i64::from(width.to_i32()?) * 65536)
 }
 
-/// The width after all that a program has left to run.
-pub(crate) fn width_at_end(program: &mut Program<'_>) -> Result<Option<Difference>>
-    ensures width { IfOk result (λ width. width ≡ width_by program.old.width program.old.answers program.old.end) }
-    ensures faultless { OnOk result (fault_of program.old.end ≡ None) }
+/// The outcome of a call for the advance of a glyph within a limit.
+#[derive(Clone, Copy)]
+pub enum AdvanceWithin {
+    /// The advance.
+    Known(Advance),
+    /// There is no such glyph, or the operator of its width has no operand.
+    Unknown,
+    /// The limit is used up before the end of the run.
+    TooLong,
+}
+
+/// The outcome for an advance, or for none.
+fn outcome(advance: Option<Advance>) -> AdvanceWithin
+    ensures { result ≡ outcome_of advance }
+{
+    match advance {
+        Some(advance) => AdvanceWithin::Known(advance),
+        None => AdvanceWithin::Unknown,
+    }
+}
+
+/// The advance by a Private DICT and by the width after all that a program has left to run, within a limit.
+pub(crate) fn advance_within(
+    program: &mut Program<'_>,
+    part: &PrivateDict<'_>,
+    limit: &mut u64,
+) -> Result<AdvanceWithin>
+    ensures told { IfOk result (TellsAdvance (advance_of part.now.dictionary
+        (width_by program.old.width program.old.answers program.old.end)) program.old.end) }
+    ensures spent { PaysPhrases program.old.trace limit.old result limit.new }
+    ensures suffices { cost program.old.trace < limit.old → result ≢ Ok AdvanceWithin.TooLong }
     ensures refused { IfErr result (λ e. (e ≡ errors.Memory) ⊎ (fault_of program.old.end ≡ Some (refusal_of e))) }
 {
     loop {
-        match program.next()? {
-            Some(_operation) => {}
-            None => return Ok(program.width()),
+        match program.step_within(limit) {
+            Ok(Within::Operation(..)) => {}
+            Ok(Within::End) => return Ok(outcome(part.advance_by(program.width()))),
+            Ok(Within::Paused) => return Ok(AdvanceWithin::TooLong),
+            Err(e) => return Err(e),
         }
     }
 }

@@ -59,6 +59,16 @@ pub const FITTING: &[(&str, &str, u64, bool, u64)] = &[
     (CID, FALLING, 20, true, 20),
 ];
 
+/// Glyphs of the CID-keyed font, a limit, the outcome of their advance within it, and the rest of the limit. By hand: the
+/// runs of the glyphs 1 and 3 cost 6 units and none. There is no glyph 4.
+pub const WITHIN: &[(usize, u64, &str, u64)] = &[
+    (1, 7, "known", 1),
+    (1, 4, "too long", 0),
+    (1, 0, "too long", 0),
+    (3, 1, "known", 1),
+    (4, 5, "unknown", 5),
+];
+
 /// Encodings, and the codes that have a glyph by them, or the error. Those without supplements are as fontTools 4.38
 /// reads them, except if a code occurs twice or has no such glyph.
 pub const CODES: &[(&str, &str)] = &[
