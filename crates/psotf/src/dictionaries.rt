@@ -3,6 +3,8 @@ use crate::decimal;
 use crate::sheet::Sheet;
 use crate::text::Text;
 use postscript_base::compact1::{Operand, Operations, Operator};
+use postscript_view::FontView;
+use std::alloc::Global;
 
 /// The operators of the dictionary of a font (Technical Note 5176, Table 9).
 const TOP: [u16; 25] = [
@@ -41,39 +43,91 @@ fn codes_of(kind: Kind) -> &'static [u16] {
     }
 }
 
-/// Writes the operators that have operands, in the dictionary or by default.
-pub fn write(sheet: &mut Sheet, dictionary: &Operations, kind: Kind) {
+/// Whether an operand is a SID: its operator, and its index (Technical Note 5176, Tables 9 and 10).
+fn is_identifier(operator: Operator, i: usize) -> bool {
+    match operator {
+        Operator::Version | Operator::Notice | Operator::Copyright | Operator::FullName => true,
+        Operator::FamilyName | Operator::Weight | Operator::FontName => true,
+        Operator::PostScript | Operator::BaseFontName => true,
+        Operator::ROS => i < 2,
+        _ => false,
+    }
+}
+
+/// The string of a font that an operand is the SID of. `None` if it is no SID, or has no string.
+fn string_of<'l>(
+    font: &FontView<'l>,
+    operator: Operator,
+    i: usize,
+    operand: &Operand,
+) -> Option<&'l [u8]> {
+    if !is_identifier(operator, i) {
+        return None;
+    }
+    font.string(u16::try_from(operand.to_i32()?).ok()?)
+}
+
+/// Writes the operands of an operator as a list of strings and numbers.
+fn put(sheet: &mut Sheet, font: &FontView<'_>, operator: Operator, operands: &[Operand]) {
+    sheet.begin_array();
+    for (i, operand) in operands.iter().enumerate() {
+        match string_of(font, operator, i, operand) {
+            Some(string) => sheet.printable(string),
+            None => sheet.decimal(operand),
+        }
+    }
+    sheet.end_array();
+}
+
+/// Writes the operators of a DICT that have operands, in the DICT or by default.
+pub fn write(sheet: &mut Sheet, font: &FontView<'_>, dictionary: &Operations, kind: Kind) {
     sheet.begin_object();
     for code in codes_of(kind) {
         if let Ok(operator) = Operator::from(*code) {
             if let Some(operands) = dictionary.get(operator) {
                 sheet.key(operator.name());
-                sheet.decimals(operands.as_slice());
+                put(sheet, font, operator, operands.as_slice());
             }
         }
     }
     sheet.end_object();
 }
 
-/// Adds a line of an operator and its operands, behind the dictionary's title.
-fn put_line(lines: &mut Text, title: &str, operator: Operator, operands: &[Operand]) {
-    lines.push_str(title);
-    lines.push(' ');
-    lines.push_str(operator.name());
-    lines.push(':');
-    for operand in operands {
+/// Adds the operands of an operator, each after a space.
+fn put_operands(
+    alloc: Global,
+    lines: &mut Text,
+    font: &FontView<'_>,
+    operator: Operator,
+    operands: &[Operand],
+) {
+    for (i, operand) in operands.iter().enumerate() {
         lines.push(' ');
-        decimal::put(lines, operand);
+        match string_of(font, operator, i, operand) {
+            Some(string) => lines.put_printable(alloc, string),
+            None => decimal::put(lines, operand),
+        }
     }
-    lines.push('\n');
 }
 
-/// Adds a line for each operator that has operands, behind the dictionary's title.
-pub fn list(lines: &mut Text, title: &str, dictionary: &Operations, kind: Kind) {
+/// Adds a line for each operator that has operands, after a title.
+pub fn list(
+    alloc: Global,
+    lines: &mut Text,
+    font: &FontView<'_>,
+    title: &str,
+    dictionary: &Operations,
+    kind: Kind,
+) {
     for code in codes_of(kind) {
         if let Ok(operator) = Operator::from(*code) {
             if let Some(operands) = dictionary.get(operator) {
-                put_line(lines, title, operator, operands.as_slice());
+                lines.push_str(title);
+                lines.push(' ');
+                lines.push_str(operator.name());
+                lines.push(':');
+                put_operands(alloc, lines, font, operator, operands.as_slice());
+                lines.push('\n');
             }
         }
     }

@@ -59,14 +59,14 @@ fn refused(sheet: &mut Sheet, refusal: &Refusal) {
     sheet.tell("refused", refusal);
 }
 
-/// Writes an operation as a text, and takes what that takes.
+/// Writes an operation as a list, and spends its cost.
 fn operation(sheet: &mut Sheet, operator: Operator, operands: &[Operand], budget: &mut Budget) {
     let count = (operands.len() as u64).saturating_add(1);
     budget.spend(count.saturating_mul(OPERAND));
     sheet.operation(operator.name(), operands);
 }
 
-/// Writes the operations of a program, each as a text.
+/// Writes the operations of a program, each as a list.
 fn operations(
     sheet: &mut Sheet,
     program: &mut Program<'_>,

@@ -73,7 +73,7 @@ fn parts(sheet: &mut Sheet, face: &Face<'_>) {
         privates(sheet, face);
     } else if let Some(part) = face.font.parts.get(0) {
         sheet.key("private");
-        dictionaries::write(sheet, &part.dictionary, Kind::Private);
+        dictionaries::write(sheet, &face.font, &part.dictionary, Kind::Private);
     }
 }
 
@@ -81,7 +81,7 @@ fn parts(sheet: &mut Sheet, face: &Face<'_>) {
 fn privates(sheet: &mut Sheet, face: &Face<'_>) {
     sheet.begin_list("privates");
     for part in &face.font.parts {
-        dictionaries::write(sheet, &part.dictionary, Kind::Private);
+        dictionaries::write(sheet, &face.font, &part.dictionary, Kind::Private);
     }
     sheet.end_array();
 }
@@ -124,7 +124,7 @@ fn font(alloc: Global, sheet: &mut Sheet, face: &Face<'_>, hinted: u64) {
     keys(sheet, face);
     counts(sheet, face, hinted);
     sheet.key("top");
-    dictionaries::write(sheet, &face.font.dictionary, top(face));
+    dictionaries::write(sheet, &face.font, &face.font.dictionary, top(face));
     parts(sheet, face);
     readings::put(alloc, sheet, face.cff);
     sheet.end_object();
@@ -184,7 +184,7 @@ fn count_lines(lines: &mut Text, face: &Face<'_>, hinted: u64, characters: u64) 
 }
 
 /// Adds lines of what the table `CFF ` holds once.
-fn font_lines(lines: &mut Text, face: &Face<'_>) {
+fn font_lines(alloc: Global, lines: &mut Text, face: &Face<'_>) {
     if face.font.is_cid_keyed() {
         let fds = face.font.parts.len();
         lines.put_count("CID-keyed, font dictionaries", fds as u64);
@@ -193,14 +193,22 @@ fn font_lines(lines: &mut Text, face: &Face<'_>) {
     lines.put_word("char set", char_set(face).unwrap_or("refused"));
     let globals = face.font.global_subroutines.len();
     lines.put_count("global subroutines", globals as u64);
-    dictionaries::list(lines, "top", &face.font.dictionary, top(face));
+    let (font, kind) = (&face.font, top(face));
+    dictionaries::list(alloc, lines, font, "top", &font.dictionary, kind);
 }
 
 /// Adds lines of each private dictionary and its subroutines.
-fn part_lines(lines: &mut Text, face: &Face<'_>) {
+fn part_lines(alloc: Global, lines: &mut Text, face: &Face<'_>) {
     for part in &face.font.parts {
         lines.put_count("local subroutines", part.subroutines.len() as u64);
-        dictionaries::list(lines, "private", &part.dictionary, Kind::Private);
+        dictionaries::list(
+            alloc,
+            lines,
+            &face.font,
+            "private",
+            &part.dictionary,
+            Kind::Private,
+        );
     }
 }
 
@@ -215,8 +223,8 @@ fn lines<W: Write>(
     name_lines(alloc, &mut lines, face);
     let characters = lines.found(count(alloc, &face.map));
     count_lines(&mut lines, face, hinted, characters);
-    font_lines(&mut lines, face);
-    part_lines(&mut lines, face);
+    font_lines(alloc, &mut lines, face);
+    part_lines(alloc, &mut lines, face);
     readings::put_lines(alloc, &mut lines, face.cff);
     lines.end_in(out)
 }

@@ -2,7 +2,7 @@
 use crate::failure::Failure;
 use crate::text::Text;
 use crate::{decimal, telling};
-use json::Writer;
+use json::{Writer, is_number};
 use postscript_base::compact1;
 use postscript_outline::{Bounds, Point, Segment};
 use postscript_sfnt::Name;
@@ -179,11 +179,24 @@ impl Sheet {
         self.put_own();
     }
 
-    /// 65536ths of a unit, as an exact decimal text.
+    /// Writes the number in `text`, which is a text if JSON has no such number.
+    fn put_number(&mut self) {
+        if self.failed {
+            return;
+        }
+        let text = self.text.as_str();
+        self.failed = if is_number(text) {
+            self.json.number(text).is_err()
+        } else {
+            self.json.string(text).is_err()
+        };
+    }
+
+    /// Writes 65536ths of a unit as an exact decimal.
     pub fn bits(&mut self, bits: i64) {
         self.text.clear();
         decimal::put_bits(&mut self.text, bits);
-        self.put_own();
+        self.put_number();
     }
 
     /// Bytes as text.
@@ -216,31 +229,28 @@ impl Sheet {
         self.put_own();
     }
 
-    /// An operand of a dictionary, as a text.
-    fn decimal(&mut self, operand: &compact1::Operand) {
+    /// Writes the string of a SID, without control characters.
+    pub fn printable(&mut self, bytes: &[u8]) {
+        self.text.clear();
+        self.text.put_printable(self.alloc, bytes);
+        self.put_own();
+    }
+
+    /// Writes an operand of a DICT as a number.
+    pub fn decimal(&mut self, operand: &compact1::Operand) {
         self.text.clear();
         decimal::put(&mut self.text, operand);
-        self.put_own();
+        self.put_number();
     }
 
-    /// Operands of a dictionary, as a list of texts.
-    pub fn decimals(&mut self, operands: &[compact1::Operand]) {
+    /// Writes an operation as a list: the operator's name, and its operands.
+    pub fn operation(&mut self, name: &str, operands: &[Operand]) {
         self.begin_array();
+        self.string(name);
         for operand in operands {
-            self.decimal(operand);
+            self.bits(i64::from(operand.bits()));
         }
         self.end_array();
-    }
-
-    /// An operation, as a text.
-    pub fn operation(&mut self, name: &str, operands: &[Operand]) {
-        self.text.clear();
-        self.text.push_str(name);
-        for operand in operands {
-            self.text.push(' ');
-            self.text.write_fmt(operand);
-        }
-        self.put_own();
     }
 
     /// A member with a name of the font, or null.
@@ -254,10 +264,10 @@ impl Sheet {
         self.put_own();
     }
 
-    /// A point, as two texts.
+    /// Writes the two coordinates of a point.
     fn point(&mut self, at: Point) {
-        self.shown(&Operand::from_bits(at.x));
-        self.shown(&Operand::from_bits(at.y));
+        self.bits(i64::from(at.x));
+        self.bits(i64::from(at.y));
     }
 
     /// A member with the corners of bounds, as a list of four texts, or null.

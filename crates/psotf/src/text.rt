@@ -106,6 +106,18 @@ impl Text {
         }
     }
 
+    /// Adds bytes as UTF-8. Invalid ones are replaced by U+FFFD, and control characters by `?`.
+    pub fn put_printable(&mut self, alloc: Global, bytes: &[u8]) {
+        match String::from_utf8_lossy(alloc, bytes) {
+            Ok(made) => {
+                for char in made.as_str().chars() {
+                    self.push(if char.is_control() { '?' } else { char });
+                }
+            }
+            Err(_) => self.failed = true,
+        }
+    }
+
     /// A number that took memory to find; or 0, and keeps that it failed.
     pub fn found(&mut self, number: Result<u64, AllocError>) -> u64 {
         match number {

@@ -58,7 +58,7 @@ fn font_dictionaries(sheet: &mut Sheet, face: &Face<'_>) {
     sheet.begin_list("font_dictionaries");
     for part in &face.font.parts {
         if let Some(dictionary) = &part.font_dictionary {
-            dictionaries::write(sheet, dictionary, Kind::CidTop);
+            dictionaries::write(sheet, &face.font, dictionary, Kind::CidTop);
         }
     }
     sheet.end_array();
