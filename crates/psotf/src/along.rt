@@ -117,7 +117,7 @@ impl Kept {
             let Component { glyph, of } = *component;
             telling::tell(
                 rt,
-                format_args!("glyph {glyph} is kept, since glyph {of} is drawn with it"),
+                format_args!("glyph {glyph} is kept too: it is a component of glyph {of}"),
             )?;
         }
         Ok(())

@@ -7,7 +7,8 @@ use postscript_sfnt_write::Mapping;
 use std::alloc::{AllocError, Global};
 
 /// What is said of a list of characters that is none.
-const NOT_IN_HEX: &str = "--unicodes: a list of numbers in hex, as 41,U+42,61-7a";
+const NOT_IN_HEX: &str =
+    "--unicodes takes a list of hexadecimal numbers and ranges, e.g. 41,U+42,61-7a";
 
 /// Glyphs, and characters with their glyphs.
 #[derive(Drop)]
@@ -209,6 +210,6 @@ fn gid_of(word: &str, glyphs: usize) -> Result<u32, Failure> {
     match word.parse::<u32>() {
         Ok(gid) if (gid as usize) < glyphs => Ok(gid),
         Ok(gid) => Err(Failure::no_glyph(gid)),
-        Err(_) => Err(Failure::usage("--gids: a list of numbers, as 1,7-12")),
+        Err(_) => Err(Failure::usage("--gids takes a list of numbers and ranges, e.g. 1,7-12")),
     }
 }

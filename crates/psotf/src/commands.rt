@@ -60,11 +60,11 @@ enum Place {
 
 /// The face of a file, which each subcommand is about, and how long the runs of its glyphs may take.
 const FACE: &[Word] = &[
-    Word::File("FILE", "An OpenType file or collection"),
-    Word::Given("face", "0", "The face of a collection, from 0 on"),
+    Word::File("FILE", "OpenType file or collection"),
+    Word::Given("face", "0", "Select a font of a collection, counted from 0"),
     Word::Units(
         "limit",
-        "How many bytes of operators and numbers the run of a glyph may go through, by default 20000000; all together 20 times as many",
+        "How much work one glyph may cost, in units of about one byte of charstring (default 20000000); a whole command may cost 20 times as much",
     ),
 ];
 
@@ -73,21 +73,25 @@ const PLACE: &[Word] = &[
     Word::Text(
         "variations",
         "LIST",
-        "The place of a variable font, as wght=650,opsz=12; by default that of its defaults",
+        "Axis values of a variable font, e.g. wght=650,opsz=12 (default: the default instance)",
     ),
-    Word::Text("instance", "NAME", "A named instance of a variable font"),
+    Word::Text(
+        "instance",
+        "NAME",
+        "Select a named instance of a variable font",
+    ),
 ];
 
 /// The place that a static file is of.
 const ONE_PLACE: &[Word] = &[
-    Word::Text("variations", "LIST", "The place, as wght=650,opsz=12"),
-    Word::Text("instance", "NAME", "The named instance"),
+    Word::Text("variations", "LIST", "Axis values, e.g. wght=650,opsz=12"),
+    Word::Text("instance", "NAME", "Select a named instance"),
 ];
 
 const SUBCOMMANDS: &[Subcommand] = &[
     Subcommand {
         name: "inspect",
-        about: "What a face holds",
+        about: "Show what a font contains",
         group: "",
         one_of: &[],
         place: Place::None,
@@ -95,115 +99,119 @@ const SUBCOMMANDS: &[Subcommand] = &[
     },
     Subcommand {
         name: "glyph",
-        about: "Glyphs: names, characters, advances, outlines",
+        about: "Print glyphs: names, characters, advances, outlines",
         group: "which",
         one_of: &["gid", "char", "name", "all"],
         place: Place::Any,
         words: &[
-            Word::Number("gid", "The glyph of this number"),
-            Word::Text("char", "C", "The glyph of this character"),
-            Word::Text("name", "NAME", "The glyph of this name"),
-            Word::Flag("all", "Each glyph"),
+            Word::Number("gid", "Print the glyph with this number"),
+            Word::Text("char", "C", "Print the glyph for this character"),
+            Word::Text("name", "NAME", "Print the glyph with this name"),
+            Word::Flag("all", "Print all glyphs"),
             Word::Flag("json", "Write JSON"),
         ],
     },
     Subcommand {
         name: "svg",
-        about: "A glyph or a line of text as a picture",
+        about: "Draw a glyph or a line of text as SVG",
         group: "what",
         one_of: &["text", "gid"],
         place: Place::Any,
         words: &[
-            Word::Text("text", "TEXT", "A line of text"),
-            Word::Number("gid", "The glyph of this number"),
+            Word::Text("text", "TEXT", "Draw a line of text"),
+            Word::Number("gid", "Draw the glyph with this number"),
             Word::Text(
                 "missing",
                 "draw",
-                "With the word draw: characters that the face has no glyph for are drawn as .notdef",
+                "With the word draw: draw characters that have no glyph as .notdef",
             ),
             Word::Text(
                 "animate",
                 "AXIS",
-                "A picture of a variable font that goes through this axis and back, as wght",
+                "Animate a variable font along this axis and back, e.g. wght",
             ),
-            Word::Out(false, "Where to write it, by default standard output"),
+            Word::Out(false, "Write to this file (default: standard output)"),
         ],
     },
     Subcommand {
         name: "sheet",
-        about: "A picture of the glyphs, each in a cell with its number and name",
+        about: "Draw all glyphs, each in a cell with its number and name, as SVG",
         group: "",
         one_of: &[],
         place: Place::Any,
         words: &[
-            Word::Given("from", "0", "The first glyph"),
-            Word::Given("count", "65535", "How many glyphs at most"),
-            Word::Out(false, "Where to write it, by default standard output"),
+            Word::Given("from", "0", "Begin with this glyph"),
+            Word::Given("count", "65535", "Write at most N glyphs"),
+            Word::Out(false, "Write to this file (default: standard output)"),
         ],
     },
     Subcommand {
         name: "report",
-        about: "A page to look at: what the face holds, and its glyphs, each operation of them",
+        about: "Write an HTML report: the font, its glyphs and each operation of them",
         group: "",
         one_of: &[],
         place: Place::Any,
         words: &[
-            Word::Given("from", "0", "The first glyph"),
-            Word::Given("count", "65535", "How many glyphs at most"),
+            Word::Given("from", "0", "Begin with this glyph"),
+            Word::Given("count", "65535", "Write at most N glyphs"),
             Word::Out(
                 true,
-                "Where to write it; more than 10000 glyphs make further pages beside it",
+                "Write to this file; more than 10000 glyphs make more pages next to it",
             ),
         ],
     },
     Subcommand {
         name: "flat",
-        about: "A file of the face whose char strings call no subroutines",
+        about: "Write the font with charstrings that call no subroutines",
         group: "",
         one_of: &[],
         place: Place::Any,
-        words: &[Word::Out(true, "Where to write it")],
+        words: &[Word::Out(true, "Write to this file")],
     },
     Subcommand {
         name: "instance",
-        about: "A static file of one place of a variable font, with its outlines in the table CFF",
+        about: "Write one instance of a variable font as a static font with a CFF table",
         group: "place",
         one_of: &["variations", "instance"],
         place: Place::One,
         words: &[
-            Word::Flag("round", "Put each point at the nearest whole units"),
-            Word::Flag("quiet", "Do not tell what is left out"),
-            Word::Out(true, "Where to write it"),
+            Word::Flag("round", "Round every point to the nearest whole unit"),
+            Word::Flag("quiet", "Do not report what is dropped"),
+            Word::Out(true, "Write to this file"),
         ],
     },
     Subcommand {
         name: "subset",
-        about: "A file of some glyphs: without kerning and ligatures, with the names that systems read",
+        about: "Write a font with only some glyphs (kerning and ligatures are dropped)",
         group: "kept",
         one_of: &["text", "gids", "unicodes"],
         place: Place::Any,
         words: &[
-            Word::Text("text", "TEXT", "The glyphs of these characters"),
+            Word::Text(
+                "text",
+                "TEXT",
+                "Keep the glyphs for the characters of this text",
+            ),
             Word::Text(
                 "gids",
                 "LIST",
-                "The glyphs of these numbers, as 1,7-12, and their characters",
+                "Keep the glyphs with these numbers, e.g. 1,7-12, and their characters",
             ),
             Word::Text(
                 "unicodes",
                 "LIST",
-                "The glyphs of these characters, as 41,U+42,61-7a",
+                "Keep the glyphs for these characters, e.g. 41,U+42,61-7a",
             ),
             Word::Flag(
                 "retain-gids",
-                "Keep the numbers of glyphs; others are empty",
+                "Keep glyph numbers, with empty glyphs in between",
             ),
             Word::Flag(
                 "keep-names",
-                "Keep copyright, trademark and licence in the table name too",
+                "Keep copyright, trademark and licence in the name table too",
             ),
-            Word::Flag("quiet", "Do not tell what is left out or comes along"),
-            Word::Out(true, "Where to write it"),
+            Word::Flag("quiet", "Do not report what is dropped or added"),
+            Word::Out(true, "Write to this file"),
         ],
     },
 ];
@@ -315,7 +323,7 @@ fn commands<'a>(alloc: Global) -> Result<Vec<Command<'a>>, AllocError> {
 fn without_subcommands<'a>(alloc: Global) -> Command<'a> {
     Command::new(alloc, "psotf")
         .version("0.2.0")
-        .about("Fonts with a table CFF or CFF2 in OpenType files")
+        .about("Inspect, draw and write OpenType fonts with CFF or CFF2 outlines")
         .after_help(EXAMPLES)
         .subcommand_required(true)
         .arg_required_else_help(true)

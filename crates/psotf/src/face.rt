@@ -85,9 +85,9 @@ pub fn refusal_of(alloc: Global, cff: &[u8]) -> Option<(Spot, Error)> {
 /// What a file is that holds no face for this program, if it is one of these.
 fn other_kind(bytes: &[u8]) -> Option<&'static str> {
     if bytes.starts_with(b"wOFF") {
-        Some("a WOFF file, which is packed")
+        Some("a compressed WOFF file")
     } else if bytes.starts_with(b"wOF2") {
-        Some("a WOFF2 file, which is packed")
+        Some("a compressed WOFF2 file")
     } else if bytes.starts_with(b"%!PS") || bytes.starts_with(&[0x80, 0x01]) {
         Some("a Type 1 font")
     } else {
@@ -98,7 +98,7 @@ fn other_kind(bytes: &[u8]) -> Option<&'static str> {
 /// What a face is that has no table `CFF `, if it is one of these.
 fn other_outlines(file: &FontFile<'_>) -> Option<&'static str> {
     if file.table(*b"glyf").is_some() {
-        return Some("a TrueType font, whose outlines stand in the table glyf");
+        return Some("a TrueType font, with its outlines in a glyf table");
     }
     None
 }

@@ -65,7 +65,7 @@ impl<'l> Glyphs for Face<'l> {
     fn of_name(&self, name: &str) -> Result<u16, Failure> {
         match self.glyph_of_name(name.as_bytes()) {
             Some(gid) => Ok(u16::try_from(gid).unwrap_or(u16::MAX)),
-            None => Err(Failure::no_part("glyph of this name")),
+            None => Err(Failure::no_part("glyph with this name")),
         }
     }
 
@@ -117,7 +117,7 @@ fn put_line<G: Glyphs>(
             true
         }
         Err(refusal) => {
-            line.push_str("refused: ");
+            line.push_str("error: ");
             line.write_fmt(&refusal);
             line.push('\n');
             false
@@ -190,7 +190,7 @@ fn asked<G: Glyphs>(glyphs: &G, words: &ArgMatches<'_>) -> Result<u16, Failure> 
         return Err(Failure::no_part("character map"));
     };
     match map.glyph_of(char) {
-        0 => Err(Failure::no_part("glyph of this character")),
+        0 => Err(Failure::no_part("glyph for this character")),
         gid => Ok(gid),
     }
 }

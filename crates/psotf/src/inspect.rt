@@ -29,7 +29,7 @@ fn encoding(face: &Face<'_>) -> &'static str {
         Some(offset) => match offset.to_i32() {
             Some(0) => "Standard",
             Some(1) => "Expert",
-            _ => "own",
+            _ => "custom",
         },
         None => "Standard",
     }
@@ -49,7 +49,7 @@ fn name_of(identifiers: &Identifiers<'_>) -> &'static str {
         Identifiers::ISOAdobe => "ISOAdobe",
         Identifiers::Expert => "Expert",
         Identifiers::ExpertSubset => "ExpertSubset",
-        _ => "own",
+        _ => "custom",
     }
 }
 
@@ -187,10 +187,10 @@ fn count_lines(lines: &mut Text, face: &Face<'_>, hinted: u64, characters: u64) 
 fn font_lines(alloc: Global, lines: &mut Text, face: &Face<'_>) {
     if face.font.is_cid_keyed() {
         let fds = face.font.parts.len();
-        lines.put_count("CID-keyed, font dictionaries", fds as u64);
+        lines.put_count("CID-keyed, Font DICTs", fds as u64);
     }
     lines.put_word("encoding", encoding(face));
-    lines.put_word("char set", char_set(face).unwrap_or("refused"));
+    lines.put_word("charset", char_set(face).unwrap_or("invalid"));
     let globals = face.font.global_subroutines.len();
     lines.put_count("global subroutines", globals as u64);
     let (font, kind) = (&face.font, top(face));

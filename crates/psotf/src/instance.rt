@@ -160,7 +160,10 @@ fn made(
 /// Tells what is left out, in a line each: names of glyphs, and tables.
 fn tell(rt: &HostRuntime, face: &VariableFace<'_>, made: &StaticFile) -> Result<(), Failure> {
     if let Some(why) = made.lost {
-        telling::tell(rt, format_args!("names of glyphs left out: {why}"))?;
+        telling::tell(
+            rt,
+            format_args!("glyph names dropped (the font becomes CID-keyed): {why}"),
+        )?;
     }
     kept::tell(rt, face, &made.made)
 }

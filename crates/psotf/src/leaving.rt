@@ -58,5 +58,5 @@ pub fn tell(rt: &HostRuntime, file: &FontFile<'_>) -> Result<(), Failure> {
     } else {
         ""
     };
-    telling::tell(rt, format_args!("tables left out:{tags}{lost}"))
+    telling::tell(rt, format_args!("tables dropped:{tags}{lost}"))
 }

@@ -85,13 +85,13 @@ pub fn put(alloc: Global, sheet: &mut Sheet, cff: &[u8]) {
 fn put_line(lines: &mut Text, reading: &str, refused: &Option<Refused>) {
     if let Some(Refused { error, spot }) = refused {
         let code = error.code();
-        lines.push_str("refused by the ");
+        lines.push_str("rejected by the ");
         lines.push_str(reading);
-        lines.push_str(" reading: ");
+        lines.push_str(" reader: ");
         lines.write_fmt(spot);
         lines.push_str(": ");
         lines.write_fmt(error);
-        lines.push_str(" (refusal ");
+        lines.push_str(" (error ");
         lines.put_number(u64::from(code));
         lines.push_str("): ");
         lines.push_str(rule_of(code));

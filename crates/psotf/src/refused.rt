@@ -40,10 +40,10 @@ fn named(part: &'static str) -> Spot {
 
 /// The INDEXes that stand behind the header, in their order.
 const BEHIND_THE_HEADER: [&str; 4] = [
-    "the names",
-    "the dictionaries",
-    "the strings",
-    "the global subroutines",
+    "the Name INDEX",
+    "the Top DICT INDEX",
+    "the String INDEX",
+    "the Global Subr INDEX",
 ];
 
 /// Where the first font of a table is refused, which is.
@@ -64,48 +64,48 @@ pub fn spot_of(alloc: Global, cff: &[u8]) -> Spot {
 /// The same, where the INDEXes behind the header stand.
 fn in_dictionary(alloc: Global, cff: &[u8], start: usize) -> Spot {
     let Ok((_names, place)) = IndexView::open(cff, start) else {
-        return at("the names", start as u64);
+        return at("the Name INDEX", start as u64);
     };
     let Ok((dictionaries, _next)) = IndexView::open(cff, place) else {
-        return at("the dictionaries", place as u64);
+        return at("the Top DICT INDEX", place as u64);
     };
     let Some(item) = dictionaries.get(0) else {
-        return at("the dictionary of the font", place as u64);
+        return at("the Top DICT", place as u64);
     };
     match operations_of(alloc, item) {
         Ok(dictionary) => in_parts(alloc, cff, &dictionary),
-        Err(_) => at("the dictionary of the font", place as u64),
+        Err(_) => at("the Top DICT", place as u64),
     }
 }
 
 /// The same, where the dictionary is read.
 fn in_parts(alloc: Global, cff: &[u8], dictionary: &Operations) -> Spot {
     let Ok(place) = place_at(0, 0, dictionary, Operator::CharStrings) else {
-        return named("the operator CharStrings of the font's dictionary");
+        return named("the operator CharStrings of the Top DICT");
     };
     if place > cff.len() as u64 || IndexView::open(cff, place as usize).is_err() {
-        return at("the char strings", place);
+        return at("the CharStrings INDEX", place);
     }
     if dictionary.get(Operator::ROS).is_some() {
         return match place_at(0, 0, dictionary, Operator::FDArray) {
-            Ok(place) => at("the font dictionaries", place),
-            Err(_) => named("the operator FDArray of the font's dictionary"),
+            Ok(place) => at("the Font DICT INDEX", place),
+            Err(_) => named("the operator FDArray of the Top DICT"),
         };
     }
     let Ok((size, _offset, place)) = bounds(0, dictionary) else {
-        return named("the operator Private of the font's dictionary");
+        return named("the operator Private of the Top DICT");
     };
     match slice_at(cff, place, size) {
         Ok(text) => in_private(alloc, place, text),
-        Err(_) => at("the private dictionary", place),
+        Err(_) => at("the Private DICT", place),
     }
 }
 
 /// The same, where the bytes of the private dictionary are there.
 fn in_private(alloc: Global, place: u64, text: &[u8]) -> Spot {
     match operations_of(alloc, text) {
-        Ok(_dictionary) => at("the local subroutines of the private dictionary", place),
-        Err(_) => at("the private dictionary", place),
+        Ok(_dictionary) => at("the local subroutines of the Private DICT", place),
+        Err(_) => at("the Private DICT", place),
     }
 }
 
@@ -148,11 +148,11 @@ impl Last {
 
     /// The parts begin that a dictionary names.
     fn see_named(&mut self, dictionary: &Operations) {
-        self.see_one("the char set", dictionary, Operator::CharSet);
+        self.see_one("the charset", dictionary, Operator::CharSet);
         self.see_one("the encoding", dictionary, Operator::Encoding);
-        self.see_one("the char strings", dictionary, Operator::CharStrings);
+        self.see_one("the CharStrings INDEX", dictionary, Operator::CharStrings);
         self.see_one("FDSelect", dictionary, Operator::FDSelect);
-        self.see_one("the font dictionaries", dictionary, Operator::FDArray);
+        self.see_one("the Font DICT INDEX", dictionary, Operator::FDArray);
     }
 
     /// The private dictionary begins that a dictionary names, and its local subroutines.
@@ -160,12 +160,12 @@ impl Last {
         let Ok((size, offset, place)) = bounds(0, dictionary) else {
             return;
         };
-        self.see("the private dictionary", place);
+        self.see("the Private DICT", place);
         let Ok(text) = slice_at(cff, place, size) else {
             return;
         };
         if let Some(place) = subroutines_at(alloc, text, offset) {
-            self.see("the local subroutines", place);
+            self.see("the Local Subr INDEX", place);
         }
     }
 }
@@ -195,13 +195,11 @@ fn part_at(alloc: Global, cff: &[u8], place: u64) -> &'static str {
 fn dictionary_at(error: &Error) -> Option<&'static str> {
     match error {
         Error::MissingOperation(Operator::Subrs) | Error::MalformedOperation(Operator::Subrs) => {
-            Some("the private dictionary")
+            Some("the Private DICT")
         }
-        Error::MissingOperation(_) | Error::MalformedOperation(_) => {
-            Some("the dictionary of the font")
-        }
+        Error::MissingOperation(_) | Error::MalformedOperation(_) => { Some("the Top DICT") }
         Error::UnknownCharStringFormat | Error::OutOfRangeOffset | Error::Unsupported(_) => {
-            Some("the dictionary of the font")
+            Some("the Top DICT")
         }
         _ => None,
     }
@@ -220,36 +218,35 @@ pub fn spot_by(alloc: Global, cff: &[u8], error: &Error, place: u64) -> Spot {
 pub fn rule_of(code: u8) -> &'static str {
     match code {
         1 =>
-            "what stands here has to end within the table (Technical Note 5176, section 2); the file may be cut off",
-        5 => "offsets of an INDEX have 1 to 4 bytes (Technical Note 5176, section 5)",
+            "this part has to end within the table (Technical Note 5176, section 2), and the file may be truncated",
+        5 => "the offset size of an INDEX is 1 to 4 (Technical Note 5176, section 5)",
         6 =>
-            "offsets of an INDEX begin with 1 and rise (Technical Note 5176, section 5), here by one byte at least for each item",
+            "the offsets of an INDEX begin with 1 and never decrease, and a strict reading allows no empty items (Technical Note 5176, section 5)",
         7 =>
-            "a number begins with one of the bytes 28 to 30 and 32 to 254, and a real ends (Technical Note 5176, section 4)",
+            "a number begins with a byte from 28 to 30 or 32 to 254, and a real has a last digit (Technical Note 5176, section 4)",
         8 =>
-            "a real has up to 18 digits that count, and exponents from -1000 to 1000 (a limit of this library)",
+            "a real has up to 18 significant digits, and an exponent from -1000 to 1000 (a limit of this library)",
         9 =>
-            "an operator is one of those in Technical Note 5176, Tables 9, 10 and 23, or of a charstring in 5177, appendix A",
+            "DICT operators are listed in Technical Note 5176, Tables 9, 10 and 23, charstring operators in 5177, Appendix A",
         10 =>
-            "a char set has each glyph but the first, and no more (Technical Note 5176, section 13)",
-        11 => "a char set has the format 0, 1 or 2 (Technical Note 5176, section 13)",
+            "a charset has an entry for each glyph except the first, and no more (Technical Note 5176, section 13)",
+        11 => "the format of a charset is 0, 1 or 2 (Technical Note 5176, section 13)",
         12 => "CharstringType is 2 (Technical Note 5176, Table 9)",
-        13 => "an offset and a size are whole numbers (Technical Note 5176, Tables 9 and 23)",
-        14 =>
-            "the operator has to be there, with its operands (Technical Note 5176, Tables 9 and 23)",
-        15 => "an offset and a size are not negative (Technical Note 5176, section 3)",
+        13 => "offsets and sizes are whole numbers (Technical Note 5176, Tables 9 and 23)",
+        14 => "the operator and its operands are required (Technical Note 5176, Tables 9 and 23)",
+        15 => "offsets and sizes are not negative (Technical Note 5176, section 3)",
         16 =>
-            "encodings of a font's own and the operator random are not followed (a limit of this library)",
+            "custom encodings and the operator random are not supported (a limit of this library)",
         17 | 18 | 19 | 20 | 21 =>
-            "each operator takes its operands off the stack (Technical Note 5177, sections 4.1 to 4.6)",
+            "an operator takes its operands from the stack (Technical Note 5177, sections 4.1 to 4.6)",
         22 =>
-            "the number of a subroutine, with its bias, is one of the list (Technical Note 5177, section 4.7)",
-        23 => "return stands in a subroutine alone (Technical Note 5177, section 4.7)",
-        24 => "nothing follows endchar (Technical Note 5177, section 4.2)",
-        25 => "ten calls may nest (Technical Note 5177, appendix B)",
-        26 => "numbers and coordinates are 16.16 bits (Technical Note 5177, section 3.2)",
-        27 => "div takes a divisor other than zero (Technical Note 5177, section 4.4)",
-        28 => "sqrt takes no negative number (Technical Note 5177, section 4.4)",
-        _ => "docs/FAULTS.md says what the number means",
+            "a subroutine number plus the bias is an index of the INDEX (Technical Note 5177, section 4.7)",
+        23 => "return ends a subroutine only (Technical Note 5177, section 4.7)",
+        24 => "no bytes follow endchar (Technical Note 5177, section 4.2)",
+        25 => "at most ten calls are nested (Technical Note 5177, Appendix B)",
+        26 => "numbers and coordinates have 16.16 bits (Technical Note 5177, section 3.2)",
+        27 => "the divisor of div is not zero (Technical Note 5177, section 4.4)",
+        28 => "the operand of sqrt is not negative (Technical Note 5177, section 4.4)",
+        _ => "docs/errors.md explains the number",
     }
 }

@@ -28,7 +28,7 @@ impl<'r> Stopped<'r> {
             Refusal::UsedUp(_) if self.is_over => return Ok(()),
             Refusal::UsedUp(_) => {
                 self.is_over = true;
-                " and those behind it"
+                " and all later glyphs"
             }
             _ => "",
         };

@@ -79,7 +79,7 @@ fn see_missing(
     let missing = missing(rt.alloc(), map, text)?;
     if !missing.is_empty() {
         match words.get_str("missing") {
-            Some("draw") => tell(rt, format_args!("the face has no glyph for:{missing}"))?,
+            Some("draw") => tell(rt, format_args!("the font has no glyph for:{missing}"))?,
             Some(_) => return Err(Failure::usage("--missing takes the word draw")),
             None => return Err(Failure::no_chars(missing)),
         }

@@ -90,7 +90,9 @@ pub fn refuse(name: &str, words: &ArgMatches<'_>) -> Result<(), Failure> {
         return Err(Failure::no_places());
     }
     if names_place(words) {
-        return Err(Failure::usage("--variations, --instance and --animate want a variable font"));
+        return Err(Failure::usage(
+            "--variations, --instance and --animate need a variable font with a CFF2 table",
+        ));
     }
     Ok(())
 }

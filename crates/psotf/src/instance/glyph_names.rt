@@ -82,13 +82,13 @@ fn has_twins(alloc: Global, names: &[&[u8]]) -> Result<bool, AllocError> {
 /// Names that a font has room for, and which differ.
 fn fit<'l>(alloc: Global, names: Vec<&'l [u8]>) -> Result<Kept<'l>, AllocError> {
     if names.len() > MOST {
-        return Ok(Kept::Lost("there are too many"));
+        return Ok(Kept::Lost("there are too many names"));
     }
     if names.first().copied() != Some(b".notdef") {
-        return Ok(Kept::Lost("the first is not .notdef"));
+        return Ok(Kept::Lost("the first name is not .notdef"));
     }
     if has_twins(alloc, &names)? {
-        return Ok(Kept::Lost("two glyphs have the same"));
+        return Ok(Kept::Lost("two glyphs have the same name"));
     }
     Ok(Kept::Names(names))
 }
@@ -103,10 +103,10 @@ pub fn names_of<'l>(alloc: Global, face: &VariableFace<'l>) -> Result<Kept<'l>, 
         return Ok(Kept::Untold);
     };
     if face.font.font_dictionaries.len() != 1 {
-        return Ok(Kept::Lost("the font has several font dictionaries"));
+        return Ok(Kept::Lost("the font has several Font DICTs"));
     }
     match all(alloc, &names, face.font.char_strings.len())? {
         Some(names) => fit(alloc, names),
-        None => Ok(Kept::Lost("not each glyph has one that fits")),
+        None => Ok(Kept::Lost("a glyph has no name, or one that CFF does not allow")),
     }
 }

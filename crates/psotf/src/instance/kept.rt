@@ -51,9 +51,9 @@ const GONE: [[u8; 4]; 9] = [
 
 /// Tags of tables, and what is lost with each.
 const LOST: [([u8; 4], &str); 5] = [
-    (*b"GPOS", "kerning and the places of marks"),
-    (*b"GSUB", "ligatures and other substitutes"),
-    (*b"GDEF", "the classes of glyphs"),
+    (*b"GPOS", "kerning and mark positions"),
+    (*b"GSUB", "ligatures and other substitutions"),
+    (*b"GDEF", "glyph classes"),
     (*b"vmtx", "vertical metrics"),
     (*b"COLR", "colours"),
 ];
@@ -129,7 +129,11 @@ fn lost(alloc: Global, file: &FontFile<'_>, made: &Made) -> Result<String, Alloc
     let mut text = Text::new(alloc);
     for (tag, what) in &LOST {
         if file.table(*tag).is_some() && is_left_out(file, made, *tag) {
-            text.push_str(if text.is_empty() { "; lost are " } else { ", " });
+            text.push_str(if text.is_empty() {
+                "; lost with them: "
+            } else {
+                ", "
+            });
             text.push_str(what);
         }
     }
@@ -143,5 +147,5 @@ pub fn tell(rt: &HostRuntime, face: &VariableFace<'_>, made: &Made) -> Result<()
         return Ok(());
     }
     let lost = lost(rt.alloc(), &face.file, made)?;
-    telling::tell(rt, format_args!("tables left out:{tags}{lost}"))
+    telling::tell(rt, format_args!("tables dropped:{tags}{lost}"))
 }

@@ -226,7 +226,7 @@ fn table_of(alloc: Global, records: &[Record<'_>]) -> Result<Vec<u8>, Failure> {
     keep(&mut kept, records)?;
     match kept.table(alloc)? {
         Some(table) => Ok(table),
-        None => Err(Failure::no_part("room for more names in its table name")),
+        None => Err(Failure::no_part("space for more names in its name table")),
     }
 }
 

@@ -120,7 +120,7 @@ impl<'f, 'l> Glyphs for Placed<'f, 'l> {
     }
 
     fn of_name(&self, _name: &str) -> Result<u16, Failure> {
-        Err(Failure::no_part("names of glyphs: CFF2 has none"))
+        Err(Failure::no_part("glyph names: CFF2 has none"))
     }
 
     fn put_name(&self, _alloc: Global, _line: &mut Text, _gid: u16) {}

@@ -125,7 +125,7 @@ fn axis_line(alloc: Global, lines: &mut Text, face: &VariableFace<'_>, axis: &Ax
     lines.put_name(name_of(face, axis.name));
     put_value(lines, ", ", axis.minimum);
     put_value(lines, " to ", axis.maximum);
-    put_value(lines, ", by default ", axis.default);
+    put_value(lines, ", default ", axis.default);
     lines.push_str(if axis.flags % 2 == 1 {
         ", hidden\n"
     } else {
@@ -152,7 +152,7 @@ fn head_lines(alloc: Global, lines: &mut Text, face: &VariableFace<'_>) {
     let (family, style) = called(&face.common.names);
     lines.put_named("family", family);
     lines.put_named("style", style);
-    lines.push_str("a variable font: its outlines stand in the table CFF2\n");
+    lines.push_str("a variable font: its outlines are in a CFF2 table\n");
     let characters = lines.found(count(alloc, &face.common.map));
     for (key, count) in &counts(face, characters) {
         lines.put_count(key, *count);

@@ -23,7 +23,7 @@ pub struct Chosen {
 }
 
 /// What is said of a list of settings that is none.
-const NO_SETTINGS: &str = "--variations: a list of tags and numbers, as wght=650,opsz=12";
+const NO_SETTINGS: &str = "--variations takes a list of tags and numbers, e.g. wght=650,opsz=12";
 
 /// The number of a tag of one to four bytes; spaces fill it.
 fn tag_of(word: &str) -> Option<u32> {
@@ -83,7 +83,7 @@ fn setting_of(rt: &HostRuntime, axes: &Axes<'_>, word: &str) -> Result<Setting, 
     if value < axis.minimum || value > axis.maximum {
         tell(
             rt,
-            format_args!("{number} is past the end of the axis {name}, which is taken instead"),
+            format_args!("{name}={number} is outside the axis and is clamped"),
         )?;
     }
     Ok(Setting { tag, value })

@@ -1,16 +1,16 @@
 //! The script of the page: how it makes elements, and how it reads the block of JSON.
 
-/// Of the block each text comes into the page by `put` alone.
+/// Reads the block, and makes elements. Texts of the block enter the page through `put` only.
 pub const BLOCK: &str = r##"
 "use strict";
 
-// All that is told of the font stands in one block of JSON (docs/REPORT.md). Each text of it comes into the page by `textContent` or by
-// an attribute that is no link and no script, and by nothing else.
+// All data about the font are in one block of JSON (docs/report-format.md). Its texts enter the page only through `textContent`, or
+// through attributes that are neither links nor scripts.
 const data = JSON.parse(document.getElementById("data").textContent);
 const head = data.head;
 const SVG = "http://www.w3.org/2000/svg";
 
-// What is told of the font. Where the reading in place refuses its table CFF, there is nothing of it to show but the refusal.
+// The data about the font. If the in-place reader rejects the CFF table, only the error can be shown.
 const isRead = head.font !== undefined;
 const UNREAD = { glyphs: 0, top: {}, is_cid: false };
 const font = head.font ?? { units_per_em: 1000, cff: UNREAD };
@@ -40,7 +40,7 @@ function table(titles, rows, numbers = []) {
   return make("table", {}, ...titled, make("tbody", {}, ...rows.map((cells) => make("tr", {}, ...cells.map(cell("td"))))));
 }
 
-// Numbers as the block writes them: digits of five bits, the lowest first, the sign in the lowest bit, 65536ths behind a point.
+// Numbers of the block: digits of five bits, lowest first, the sign in the lowest bit. A point precedes a number in 65536ths.
 const DIGITS = new Int8Array(128);
 const LETTERS = "ABCDEFGHIJKLMNOPQRSTUVWXYZabcdefghijklmnopqrstuvwxyz0123456789+/";
 [...LETTERS].forEach((digit, i) => { DIGITS[digit.charCodeAt(0)] = i; });
@@ -63,7 +63,7 @@ function numbers(text) {
 
 const bytesOf = (hex) => Uint8Array.from({ length: hex.length / 2 }, (_, i) => parseInt(hex.slice(2 * i, 2 * i + 2), 16));
 
-// A glyph, by its row. What is behind a getter is read when it is looked at.
+// A glyph, by its row. Getters decode their item when they are read.
 const POINTS = { M: 1, L: 1, C: 3, Z: 0 };
 const MASKS = [19, 20];
 class Glyph {
@@ -85,7 +85,7 @@ class Glyph {
   get isEmpty() { return !this.isRefused && this.row[9] === ""; }
   get label() { return this.name === null ? "" : font.cff.is_cid ? `CID ${this.name}` : this.name; }
 
-  // The outline: of each segment its letter, its points and the letters as SVG has them, with y upward.
+  // The outline: the letter, the points and the SVG text of each segment, with y upwards.
   get segments() {
     const moves = numbers(this.row[10]);
     let i = 0, x = 0, y = 0;
@@ -97,7 +97,7 @@ class Glyph {
   }
   get path() { return this.segments.map((segment) => segment.text).join(""); }
 
-  // The operations of the run: the code of each operator, its operands, and those of the stems that a mask implies, and its bytes.
+  // The operations of the run: the code of each operator and its operands, and for a mask its implied stems and its bytes.
   get operations() {
     const told = numbers(this.row[11]);
     const operations = [];

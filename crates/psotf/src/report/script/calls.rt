@@ -1,13 +1,13 @@
 //! The script of the page: subroutines, and which glyphs call them.
 
-/// Calls are counted once they are asked for.
+/// Calls are counted when they are first shown.
 pub const CALLS: &str = r##"
-// Subroutines: counted over the glyphs of the page once they are asked for.
+// Subroutines, counted over the glyphs of the page when they are first shown.
 const callers = new Map();
 const MOST_LISTED = 200;
 const unfollowed = [];
 const all = lists.global.length + lists.local.reduce((sum, list) => sum + list.length, 0);
-const summary = make("summary", {}, `${many(all, "subroutine")}: how often each is called, and by which glyphs`);
+const summary = make("summary", {}, `${many(all, "subroutine")}: number of calls, and the glyphs that call them`);
 const counted = make("p", { role: "status" }, "");
 const listed = make("div", { class: "listed" });
 const one = make("div", { id: "subroutine" });
@@ -27,14 +27,14 @@ function countOf(glyph) {
 
 function summed() {
   const by = many(glyphs.length, "glyph");
-  const called = `${many(callers.size, "subroutine")} called by the ${by} of this page, ${count(all - callers.size)} not`;
-  const lost = unfollowed.length === 0 ? "" : `; ${many(unfollowed.length, "glyph is", "glyphs are")} not followed`;
-  return called + lost + (callers.size > MOST_LISTED ? `; the ${MOST_LISTED} that are called most` : "");
+  const called = `${many(callers.size, "subroutine")} called by the ${by} of this page, ${count(all - callers.size)} not called`;
+  const lost = unfollowed.length === 0 ? "" : `; ${many(unfollowed.length, "glyph")} not analysed`;
+  return called + lost + (callers.size > MOST_LISTED ? `; the ${MOST_LISTED} with the most calls` : "");
 }
 
 async function countAll() {
   for (let i = 0; i < glyphs.length; i++) {
-    if (i % 250 === 0) { counted.textContent = `${count(i)} of ${many(glyphs.length, "glyph")} looked at`; await pause(); }
+    if (i % 250 === 0) { counted.textContent = `${count(i)} of ${many(glyphs.length, "glyph")} done`; await pause(); }
     if (!glyphs[i].isRefused) countOf(glyphs[i]);
   }
   counted.textContent = summed();
@@ -50,7 +50,7 @@ function codeOf(key) {
   return kind === "global" ? lists.global[Number(part)] : lists.local[Number(part)][Number(number)];
 }
 
-// What a subroutine draws, in the first glyph that calls it.
+// The segments that a subroutine draws, in the first glyph that calls it.
 function drawnIn(key, gid) {
   const glyph = byNumber(gid), walk = new Walk(glyph), segments = glyph.segments;
   const totals = drawnBy(glyph.operations, segments);
@@ -75,7 +75,7 @@ function toGlyph(gid) {
 
 function traced(key, gids) {
   if (gids.length === 0) return [];
-  const where = `What it draws, in glyph ${gids[0]} ${byNumber(gids[0]).label}.`;
+  const where = `Its part of glyph ${gids[0]} ${byNumber(gids[0]).label}, in red.`;
   return [make("div", { class: "traced-in" }, drawnIn(key, gids[0])), make("p", {}, where)];
 }
 

@@ -1,44 +1,44 @@
-//! The script of the page: what the font is, its tables, and the parts of its table `CFF `.
+//! The script of the page: the font, its tables, and the parts of its `CFF ` table.
 
 /// The sections of the font as a whole.
 pub const FONT: &str = r##"
-// What each reading says of the table CFF, and where one refuses it, in which part, at which byte and by which rule.
+// The result of each reader for the CFF table: if it rejects the table, the error, the part, the byte and the rule.
 function answer(refusal) {
-  if (refusal === undefined) return [`is not asked: there are ${count(readings.dictionaries_not_read ?? 0)} dictionaries`];
-  if (refusal === null) return ["reads it"];
+  if (refusal === undefined) return [`not tried: there are ${count(readings.dictionaries_not_read ?? 0)} Top DICTs`];
+  if (refusal === null) return ["accepts it"];
   const { message, code, part, place, rule } = refusal;
-  return [`refuses it: ${message} (refusal ${code})`, part + (place === null ? "" : ` at byte ${count(place)}`), rule];
+  return [`rejects it: ${message} (error ${code})`, part + (place === null ? "" : ` at byte ${count(place)}`), rule];
 }
 function answers() {
   const asked = [
-    ["read in place", readings.in_place ?? null], ["read strictly", readings.strict], ["read leniently", readings.lenient],
+    ["in-place reader", readings.in_place ?? null], ["strict reader", readings.strict], ["lenient reader", readings.lenient],
   ];
   const rows = asked.map(([how, refusal]) => [how, make("div", {}, ...answer(refusal).map((line) => make("div", {}, line)))]);
   return make("div", { id: "readings" }, table([], rows));
 }
 
 function kind() {
-  return font.cff.is_cid ? `CID-keyed, ${many(font.cff.fds, "font dictionary", "font dictionaries")}` : "not CID-keyed";
+  return font.cff.is_cid ? `CID-keyed, ${many(font.cff.fds, "Font DICT")}` : "not CID-keyed";
 }
 function facts() {
   const { cff } = font;
   const file = ["file", `${many(head.bytes, "byte")}, face ${head.face}${isRead ? ` of ${font.faces}` : ""}`];
   const rows = !isRead ? [file] : [
     ["family", font.family ?? "none"], ["style", font.style ?? "none"], ["version", font.version ?? "none"],
-    ["name in the table CFF", cff.name ?? "none"],
+    ["name in the CFF table", cff.name ?? "none"],
     file,
     ["units per em", count(font.units_per_em)],
-    ["glyphs", `${count(font.glyphs)} by maxp, ${many(cff.glyphs, "char string")}, ${count(cff.hinted)} with hints`],
+    ["glyphs", `${count(font.glyphs)} by maxp, ${many(cff.glyphs, "charstring")}, ${count(cff.hinted)} with hints`],
     ["characters", count(font.characters)],
     ["kind", kind()],
-    ["encoding, char set", `${cff.encoding}, ${cff.char_set ?? "refused"}`],
+    ["encoding, charset", `${cff.encoding}, ${cff.char_set ?? "invalid"}`],
     ["strings", count(cff.strings)],
     ["subroutines", `${count(cff.global_subroutines)} global; local: ${cff.local_subroutines.map(count).join(", ")}`],
   ];
-  return section("font", "Font", ...pages(), table([], rows), make("h3", {}, "The table CFF"), answers());
+  return section("font", "Font", ...pages(), table([], rows), make("h3", {}, "The CFF table"), answers());
 }
 
-// The other pages, where the glyphs are on several.
+// Links to the other pages, if there are several.
 const pageOf = (gid) => head.pages.find(([, first, end]) => first <= gid && gid < end);
 function link([name, first], text, gid) {
   const current = first === head.from ? { "aria-current": "page" } : {};
@@ -50,7 +50,7 @@ function pages() {
   return [make("nav", { "aria-label": "pages", class: "row" }, make("span", { class: "soft" }, "glyphs "), ...links)];
 }
 
-// A strip of parts by their sizes, and a list of them.
+// A strip of parts, each as wide as its size, and the rows of a table of them.
 function strip(label, size, parts) {
   const whole = Math.max(size, 1);
   const bar = draw("svg", { class: "strip", viewBox: `0 0 ${whole} 10`, preserveAspectRatio: "none", role: "img", "aria-label": label });
@@ -65,33 +65,33 @@ function strip(label, size, parts) {
 }
 
 function tables() {
-  const [bar, rows] = strip("the tables in the file, each as wide as it is large", head.bytes, head.tables);
-  return section("tables", "Tables", bar, table(["tag", "place", "bytes", "of the file"], rows, [1, 2, 3]));
+  const [bar, rows] = strip("the tables of the file, as wide as their sizes", head.bytes, head.tables);
+  return section("tables", "Tables", bar, table(["tag", "offset", "bytes", "of the file"], rows, [1, 2, 3]));
 }
 
-// Operators of dictionaries (Technical Note 5176, Tables 9, 10 and 23).
+// DICT operators (Technical Note 5176, Tables 9, 10 and 23).
 const MEANINGS = {
-  Version: "version", Notice: "trademark", Copyright: "copyright", FullName: "full name", FamilyName: "family", Weight: "weight",
-  FontBBox: "bounds of all glyphs", UniqueID: "unique number", XUID: "extended unique number", CharSet: "place of the char set",
-  Encoding: "place of the encoding", CharStrings: "place of the char strings", Private: "size and place of the private dictionary",
-  IsFixedPitch: "whether all advances are the same", ItalicAngle: "slant in degrees", UnderlinePosition: "place of the underline",
-  UnderlineThickness: "thickness of the underline", PaintType: "0: filled, 2: stroked", CharStringType: "kind of the char strings",
-  FontMatrix: "from glyph units to units of text", StrokeWidth: "width of strokes", SyntheticBase: "the font that this one is made of",
+  Version: "version", Notice: "trademark notice", Copyright: "copyright", FullName: "full name", FamilyName: "family", Weight: "weight",
+  FontBBox: "bounds of all glyphs", UniqueID: "unique number", XUID: "extended unique number", CharSet: "offset of the charset",
+  Encoding: "offset of the encoding", CharStrings: "offset of the CharStrings INDEX", Private: "size and offset of the Private DICT",
+  IsFixedPitch: "1 if all advances are equal", ItalicAngle: "slant in degrees", UnderlinePosition: "position of the underline",
+  UnderlineThickness: "thickness of the underline", PaintType: "0: filled, 2: stroked", CharStringType: "charstring format",
+  FontMatrix: "from font units to text units", StrokeWidth: "width of strokes", SyntheticBase: "index of the base font",
   PostScript: "PostScript code", BaseFontName: "base font", BaseFontBlend: "its design vector",
   ROS: "registry, ordering and supplement", CIDFontVersion: "version of the CID font", CIDFontRevision: "revision",
-  CIDFontType: "kind of CID font", CIDCount: "how many CIDs", UIDBase: "first unique number",
-  FDArray: "place of the font dictionaries", FDSelect: "place of FDSelect", FontName: "name of a font dictionary",
-  BlueValues: "alignment zones", OtherBlues: "zones below", FamilyBlues: "zones of the family", FamilyOtherBlues: "its zones below",
-  StdHW: "common height of stems", StdVW: "common width of stems", DefaultWidthX: "width where a glyph tells none",
-  NominalWidthX: "what is added to the width that a glyph tells", Subrs: "place of the local subroutines, behind the dictionary",
-  BlueScale: "size from which zones count no more", BlueShift: "overshoot", BlueFuzz: "reach of zones",
-  StemSnapH: "heights of stems", StemSnapV: "widths of stems", ForceBold: "whether stems are made bold", LanguageGroup: "script",
-  ExpansionFactor: "counters", InitialRandomSeed: "seed of random",
+  CIDFontType: "type of the CID font", CIDCount: "number of CIDs", UIDBase: "first unique number",
+  FDArray: "offset of the Font DICT INDEX", FDSelect: "offset of FDSelect", FontName: "name of the Font DICT",
+  BlueValues: "alignment zones", OtherBlues: "lower alignment zones", FamilyBlues: "zones of the family", FamilyOtherBlues: "lower zones of the family",
+  StdHW: "usual height of stems", StdVW: "usual width of stems", DefaultWidthX: "width of glyphs without a width operand",
+  NominalWidthX: "added to the width operand of a glyph", Subrs: "offset of the local subroutines, from the Private DICT",
+  BlueScale: "scale at which overshoots begin to show", BlueShift: "overshoot that always shows", BlueFuzz: "how far zones are extended",
+  StemSnapH: "heights of stems", StemSnapV: "widths of stems", ForceBold: "1 if stems are made bold", LanguageGroup: "group of scripts",
+  ExpansionFactor: "limit of counter expansion", InitialRandomSeed: "seed of random",
 };
 
 function dictionary(entries) {
   const rows = Object.entries(entries).map(([name, operands]) => [name, operands.join(" "), MEANINGS[name] ?? ""]);
-  return table(["operator", "operands", "what it says"], rows);
+  return table(["operator", "operands", "meaning"], rows);
 }
 
 const privates = font.cff.privates ?? (font.cff.private ? [font.cff.private] : []);
@@ -100,9 +100,9 @@ function dictionaries() {
   const gathered = (title, list) => (list.length > 1 ? [folded(title, ...list)] : list);
   const codes = head.codes.map(([code, gid]) => make("li", {}, `${code}: ${byNumber(gid)?.label || gid}`));
   return [
-    make("h3", {}, "Dictionary of the font"), dictionary(font.cff.top),
-    ...gathered(`${head.font_dictionaries.length} font dictionaries`, shownAs("Font dictionary", head.font_dictionaries)),
-    ...gathered(`${privates.length} private dictionaries`, shownAs("Private dictionary", privates)),
+    make("h3", {}, "Top DICT"), dictionary(font.cff.top),
+    ...gathered(`${head.font_dictionaries.length} Font DICTs`, shownAs("Font DICT", head.font_dictionaries)),
+    ...gathered(`${privates.length} Private DICTs`, shownAs("Private DICT", privates)),
     ...(codes.length === 0 ? [] : [folded(`Encoding: ${many(codes.length, "code")}`, make("ul", { class: "codes" }, ...codes))]),
   ];
 }
@@ -114,8 +114,8 @@ function parts() {
     if (name === "Private DICT") own += 1;
     return [privates.length > 1 && own >= 0 ? `${name} ${own}` : name, ...rest];
   });
-  const [bar, rows] = strip("the parts of the table CFF, each as wide as it is large", size, named);
-  const list = table(["part", "place", "bytes", "of the table"], rows, [1, 2, 3]);
-  return section("cff", "The table CFF", bar, list, ...(isRead ? dictionaries() : []));
+  const [bar, rows] = strip("the parts of the CFF table, as wide as their sizes", size, named);
+  const list = table(["part", "offset", "bytes", "of the table"], rows, [1, 2, 3]);
+  return section("cff", "The CFF table", bar, list, ...(isRead ? dictionaries() : []));
 }
 "##;

@@ -1,8 +1,8 @@
 //! The script of the page: one glyph, drawn up to an operation.
 
-/// The glyph that is shown, and all that is told of it.
+/// The selected glyph and all its data.
 pub const GLYPH: &str = r##"
-// How many segments an operation draws, of so many operands.
+// The number of segments that an operation draws, by its number of operands.
 const four = (n) => Math.floor(n / 4);
 const SEGMENTS = {
   21: () => 1, 22: () => 1, 4: () => 1, 5: (n) => n / 2, 6: (n) => n, 7: (n) => n, 8: (n) => n / 6,
@@ -10,7 +10,7 @@ const SEGMENTS = {
   3106: () => 2, 3107: () => 2, 3108: () => 2, 3109: () => 2,
 };
 
-// How many of the segments are drawn by the operations up to each one, none of them first.
+// The number of segments drawn after each operation, beginning with 0 before the first.
 function drawnBy(operations, segments) {
   const totals = [0];
   let at = 0;
@@ -29,29 +29,29 @@ const stage = make("div", { class: "view" });
 const shown = { glyph: null, step: 0, zoom: 1, x: 0, y: 0, points: true, stems: true };
 const MOST_ROWS = 3000;
 
-// The steps of a glyph: what the walk along its code found, or where it found nothing, the operations alone.
+// The steps of a glyph: the rows of the walk along its code, or only the operations if the walk failed.
 function stepsOf(operations, walk) {
   if (walk.why === null) return walk.rows;
   return operations.map((told, i) => ({ code: told.code, text: textOf(told), depth: 0, within: [], at: i + 1, stems: 0, active: null }));
 }
 
-// Where the width comes from: whether the code tells an operand for it the proved run says, before which operator the walk.
+// The origin of the width. The proved run knows whether there is a width operand, and the walk knows before which operator.
 function widthOf(glyph, walk) {
   const [width, operand] = glyph.widths;
   if (width === undefined) return "none";
   const before = walk.why === null && walk.widthBefore !== null ? ` before ${walk.widthBefore}` : "";
-  if (operand === undefined) return `${width}: DefaultWidthX, since the code tells none${before}`;
+  if (operand === undefined) return `${width}: DefaultWidthX, since there is no width operand${before}`;
   const nominal = privates[glyph.part]?.NominalWidthX?.[0] ?? 0;
-  return `${width}: NominalWidthX ${nominal} and ${operand}, the first operand${before}`;
+  return `${width}: NominalWidthX ${nominal} plus ${operand}, the first operand${before}`;
 }
 
 function nameOfSubroutine(key) {
   const [kind, part, number] = key.split(" ");
   if (kind === "global") return `global ${part}`;
-  return lists.local.length > 1 ? `local ${number} of part ${part}` : `local ${number}`;
+  return lists.local.length > 1 ? `local ${number} of Private DICT ${part}` : `local ${number}`;
 }
 function callsOf(walk) {
-  if (walk.why !== null) return [`not told: ${walk.why}`];
+  if (walk.why !== null) return [`not known: ${walk.why}`];
   const tally = new Map();
   for (const key of walk.calls) tally.set(key, (tally.get(key) ?? 0) + 1);
   if (tally.size === 0) return ["none"];
@@ -72,19 +72,19 @@ function lines() {
     ["number, name", `${glyph.gid} ${glyph.label}`],
     ["characters", glyph.chars.map((char) => `${hexed(char)} ${written(char)}`).join(", ") || "none"],
     ["advance by hmtx", count(glyph.advance)],
-    ["width by its code", widthOf(glyph, walk)],
+    ["width in the charstring", widthOf(glyph, walk)],
     ["bounds of all points", box(glyph.bounds)],
     ["bounds of the curves", box(glyph.tightBounds)],
     ["points", count(points)],
-    ["code", `${many(glyph.bytes, "byte")}; flat ${count(glyph.flat)}, inlined ${count(glyph.inlined)}`],
-    ["cost of its run", many(glyph.cost, "unit")],
-    ...(lists.local.length > 1 ? [["font dictionary", String(glyph.part)]] : []),
+    ["charstring", `${many(glyph.bytes, "byte")}; flattened ${count(glyph.flat)}, desubroutinized ${count(glyph.inlined)}`],
+    ["cost", many(glyph.cost, "unit")],
+    ...(lists.local.length > 1 ? [["Font DICT", String(glyph.part)]] : []),
     ["subroutines", make("span", { id: "calls" }, ...callsOf(walk))],
-    ...(base === undefined ? [] : [["accented", `base ${base}, accent ${accent}, by the Standard Encoding`]]),
+    ...(base === undefined ? [] : [["seac", `base ${base}, accent ${accent}, in the Standard Encoding`]]),
   ];
 }
 
-// The stems, as bands: those that are active at the step, and the others.
+// The stems as bands, marked if they are active at the step.
 function bands([left, bottom, right, top]) {
   const { walk, steps, step } = shown;
   const row = steps[step - 1];
@@ -99,7 +99,7 @@ function bands([left, bottom, right, top]) {
   });
 }
 
-// What is seen of a glyph that is not moved: its bounds, its advance and the line that it stands on, with room around.
+// The view of a glyph before dragging: its bounds, its advance and its baseline, with a margin.
 function boxOf(glyph) {
   const [left, bottom, right, top] = glyph.bounds.length === 0 ? [0, 0, 0, 0] : glyph.bounds;
   const pad = font.units_per_em / 10;
@@ -169,7 +169,7 @@ function slider(id, label, [min, max, by, value], move) {
   return range;
 }
 
-// The rows of the operations. A click draws up to one; the keys and the slider do the same.
+// The rows of the operations. A click, the keys and the slider select the last operation to draw.
 function rows() {
   const list = make("ol", { class: "steps code", id: "operations", tabindex: "0", "aria-label": "operations" });
   for (const row of shown.steps.slice(0, MOST_ROWS)) {
@@ -186,7 +186,7 @@ function rows() {
   return list;
 }
 
-// Dragging moves what is seen.
+// Dragging moves the view.
 function drag(holder) {
   let from = null;
   holder.addEventListener("pointerdown", (event) => {
@@ -224,7 +224,7 @@ function redraw() {
 
 function stageOf() {
   const { glyph, walk, steps } = shown;
-  const refused = `Glyph ${glyph.gid} ${glyph.label.slice(0, 300)} is refused: ${glyph.refusal}`;
+  const refused = `Glyph ${glyph.gid} ${glyph.label.slice(0, 300)} has an error: ${glyph.refusal}`;
   if (glyph.isRefused) return [make("p", { class: "refused", id: "glyph" }, refused)];
   const holder = make("div", { class: "holder" });
   drag(holder);
@@ -233,8 +233,8 @@ function stageOf() {
   return [
     make("div", {}, holder, row(make("label", {}, "zoom ", zoom), checkbox("points", "points and handles"), checkbox("stems", "stems"))),
     make("div", { id: "glyph" }, table([], lines()), row(make("label", {}, "operations ", slide), told),
-      ...(walk.why === null ? [] : [make("p", {}, `Calls and stems are not told: ${walk.why}.`)]),
-      rows(), folded("bytes of its code", make("p", { class: "code" }, spaced(glyph.row[12])))),
+      ...(walk.why === null ? [] : [make("p", {}, `Calls and stems are not known: ${walk.why}.`)]),
+      rows(), folded("bytes of the charstring", make("p", { class: "code" }, spaced(glyph.row[12])))),
   ];
 }
 

@@ -1,6 +1,6 @@
 //! The script of the page: the grid of glyphs, its search and its filters.
 
-/// Cells are made and drawn as they come into view, and all of them before the page is printed.
+/// Cells are made and drawn when they are scrolled into view, and all of them before printing.
 pub const GRID: &str = r##"
 // Pictures of glyphs.
 const low = Math.min(-font.units_per_em / 4, Number(font.cff.top.FontBBox?.[1] ?? 0));
@@ -14,16 +14,16 @@ function picture(glyph) {
 const isHint = ({ code }) => STEMS.includes(code) || MASKS.includes(code);
 const FILTERS = {
   all: ["all", () => true],
-  refused: ["refused", (glyph) => glyph.isRefused],
+  refused: ["with errors", (glyph) => glyph.isRefused],
   empty: ["empty", (glyph) => glyph.isEmpty],
   hints: ["with hints", (glyph) => !glyph.isRefused && glyph.operations.some(isHint)],
-  calls: ["that call subroutines", (glyph) => !glyph.isRefused && glyph.flat > glyph.bytes],
-  accented: ["accented", (glyph) => glyph.accent !== undefined],
-  unmapped: ["of no character", (glyph) => glyph.chars.length === 0],
+  calls: ["calling subroutines", (glyph) => !glyph.isRefused && glyph.flat > glyph.bytes],
+  accented: ["seac", (glyph) => glyph.accent !== undefined],
+  unmapped: ["without a character", (glyph) => glyph.chars.length === 0],
 };
 const ORDERS = {
   gid: ["by number", () => 0],
-  cost: ["costliest first", (glyph) => -glyph.cost],
+  cost: ["highest cost first", (glyph) => -glyph.cost],
   bytes: ["longest first", (glyph) => -glyph.bytes],
 };
 
@@ -43,7 +43,7 @@ const search = make("input", { type: "search", id: "search", placeholder: hint, 
 const filter = make("select", { id: "filter", "aria-label": "which glyphs" }, ...options(FILTERS));
 const order = make("select", { id: "order", "aria-label": "order" }, ...options(ORDERS));
 
-// The cells that are found, how many of them are made, and what stands behind them. So many more are made as that comes into view.
+// The found glyphs, how many of them have a cell, and an element after the cells. When it is seen, `CHUNK` more cells are made.
 const CHUNK = 240;
 const more = make("li", { class: "more" });
 let kept = [], made = 0;
@@ -77,13 +77,13 @@ function addCells(many) {
   if (made < kept.length) watch.observe(more);
 }
 
-// Paper has all that is found.
+// Print all found glyphs.
 function drawAll() {
   addCells(kept.length);
   for (const button of grid.querySelectorAll(".cell")) drawCell(button);
 }
 
-// Where a glyph is that another page holds: by its number, or by a character of it.
+// Links to a glyph on another page, found by its number or a character.
 function charIn(words) {
   if (/^U\+[0-9a-f]+$/i.test(words)) return parseInt(words.slice(2), 16);
   return [...words].length === 1 ? words.codePointAt(0) : undefined;
@@ -101,7 +101,7 @@ function elsewhere(words) {
 function held() {
   const all = font.cff.glyphs;
   if (glyphs.length === all) return "";
-  const which = glyphs.length === 0 ? "none" : `those from ${head.from} to ${head.from + glyphs.length - 1}`;
+  const which = glyphs.length === 0 ? "none" : `glyphs ${head.from} to ${head.from + glyphs.length - 1}`;
   return `; this page holds ${which} of ${count(all)}`;
 }
 

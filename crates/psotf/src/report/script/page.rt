@@ -1,6 +1,6 @@
 //! The script of the page: a line of text, and the page as a whole.
 
-/// The sections in their order, and what keys do.
+/// The sections in their order, and the keys.
 pub const PAGE: &str = r##"
 // A line of text.
 const text = make("input", { type: "text", id: "text", "aria-label": "a line of text" });
@@ -18,10 +18,10 @@ function set() {
   }
   const missing = [...new Set(chars.filter((char) => !ofChar.has(char)))];
   const lacks = missing.length === 0 ? "" : ` This page has no glyph for: ${missing.map(written).join(" ")}`;
-  line.replaceChildren(svg, make("p", { role: "status" }, `Set with the advances of hmtx; kerning and ligatures are not applied.${lacks}`));
+  line.replaceChildren(svg, make("p", { role: "status" }, `Uses the advances of hmtx, without kerning and ligatures.${lacks}`));
 }
 
-// A text to begin with: the font's own characters, where it has none of these.
+// The first text: some characters of the font, if it has none of the usual ones.
 function firstText() {
   const usual = "Hamburgefonts";
   if ([...usual].some((char) => ofChar.has(char.codePointAt(0)))) return usual;
@@ -44,7 +44,7 @@ function press(event) {
   KEYS[event.key]();
 }
 
-// What is shown of the glyphs, and what follows what is done there.
+// The sections of the glyphs, and their event handlers.
 function glyphSections() {
   text.value = firstText();
   text.addEventListener("input", set);
