@@ -1,4 +1,4 @@
-//! Glyphs that come along with those that are named: the bases and accents of accented ones.
+//! Glyphs that a subset keeps in addition: the components of `seac` glyphs.
 use crate::asking::ask;
 use crate::failure::Failure;
 use crate::limit::Budget;
@@ -7,25 +7,24 @@ use postscript_drawing::{Accent, component_of};
 use postscript_view::FontView;
 use std::alloc::{AllocError, Global};
 
-/// A glyph that was not named, and the first one that is drawn with it.
+/// A glyph that was added, and the first glyph that it is a component of.
 #[derive(Clone, Copy)]
 struct Component {
     glyph: usize,
     of: usize,
 }
 
-/// The glyphs that are kept, as far as they are found.
+/// The glyphs to keep.
 #[derive(Drop)]
 pub struct Kept {
-    /// Those to be asked, in the order in which they are found.
+    /// The glyphs to check, in the order in which they are found.
     glyphs: Vec<usize>,
-    /// Whether each glyph of the font is one of them.
+    /// Whether each glyph of the font is kept.
     marks: Vec<bool>,
     components: Vec<Component>,
 }
 
 impl Kept {
-    /// None.
     pub fn new(alloc: Global) -> Kept {
         Kept {
             glyphs: Vec::new(alloc),
@@ -34,7 +33,7 @@ impl Kept {
         }
     }
 
-    /// Adds a glyph of the font, and tells whether it was not there.
+    /// Adds a glyph. Returns whether it is new.
     fn put(&mut self, glyph: usize) -> Result<bool, AllocError> {
         match self.marks.get_mut(glyph) {
             Some(mark) if !*mark => {
@@ -54,7 +53,7 @@ impl Kept {
         Ok(())
     }
 
-    /// Adds those that are named, of so many glyphs of the font.
+    /// Adds the chosen glyphs of a font with `glyphs` glyphs.
     fn put_named(&mut self, named: &[usize], glyphs: usize) -> Result<(), AllocError> {
         self.marks.resize(glyphs, false)?;
         for glyph in named {
@@ -63,7 +62,7 @@ impl Kept {
         Ok(())
     }
 
-    /// Adds the base and the accent of a glyph, as far as the font has them.
+    /// Adds the base and the accent of a glyph, if the font has them.
     fn put_both(
         &mut self,
         font: &FontView<'_>,
@@ -78,7 +77,7 @@ impl Kept {
         Ok(())
     }
 
-    /// Asks each glyph that is kept, also those that come along.
+    /// Checks each kept glyph, also those that are added.
     fn ask_each(
         &mut self,
         alloc: Global,
@@ -97,7 +96,7 @@ impl Kept {
         Ok(())
     }
 
-    /// Asks each glyph that is kept, those that are named and those that come along, whether it keeps to its share. No run goes on
+    /// Adds the chosen glyphs and their components, and checks that each of them is within its share. No run takes
     /// longer.
     pub fn ask(
         &mut self,
@@ -110,8 +109,7 @@ impl Kept {
         self.ask_each(alloc, font, budget)
     }
 
-    /// Tells on standard error, in a line each, which of the glyphs that are kept were not named, and with which other one each is
-    /// drawn.
+    /// Reports on standard error each glyph that was added, with the glyph that it is a component of.
     pub fn tell(&self, rt: &HostRuntime) -> Result<(), Failure> {
         for component in &self.components {
             let Component { glyph, of } = *component;
@@ -124,7 +122,7 @@ impl Kept {
     }
 }
 
-/// The glyph of a code, if the font has one.
+/// Returns the glyph with a code in the standard encoding, if the font has one.
 fn component_in(font: &FontView<'_>, code: u8) -> Option<usize> {
     component_of(font, code).ok()
 }

@@ -1,4 +1,4 @@
-//! Whether glyphs keep to the limit, asked before they are written.
+//! Checks that glyphs are within the limit before they are written.
 ghost use Rattle.std.specs.Prelude.{◌≡◌};
 
 use crate::failure::Failure;
@@ -8,18 +8,18 @@ use postscript_type2::Program;
 use postscript_view::FontView;
 use std::alloc::Global;
 
-/// What a program comes to within its share.
+/// The result of a program within its share.
 #[derive(Clone, Copy)]
 enum Answer {
-    /// Its end, and the base and the accent of an accented glyph.
+    /// It ended, with the base and the accent of a `seac` glyph.
     End(Option<Accent>),
-    /// A refusal.
+    /// It failed.
     Refused,
-    /// The share is used up.
+    /// It used up its share.
     Stopped,
 }
 
-/// What the program of a glyph comes to within a share, of which the rest is left.
+/// Runs a program within a share, and leaves the rest of the share.
 fn answer_of(program: &mut Program<'_>, share: &mut u64) -> Result<Answer, Failure> {
     if !program.fits(share)? {
         return Ok(Answer::Stopped);
@@ -31,14 +31,15 @@ fn answer_of(program: &mut Program<'_>, share: &mut u64) -> Result<Answer, Failu
     Ok(Answer::End(accent.unwrap_or(None)))
 }
 
-/// Asks whether a glyph comes to its end, or is refused, within its share; what it names where it is accented. One that takes
-/// longer is refused here.
+/// Checks that a glyph ends or fails within its share. Returns the base and the accent of a `seac` glyph. It fails if
+/// the glyph costs more.
 pub fn ask(
     alloc: Global,
     font: &FontView<'_>,
     glyph: usize,
     budget: &mut Budget,
 ) -> Result<Option<Accent>, Failure>
+    // The limit is unchanged.
     ensures limit { budget.new.limit ≡ budget.old.limit }
 {
     let Some(found) = font.glyph(glyph) else {
@@ -61,7 +62,7 @@ pub fn ask(
     }
 }
 
-/// Asks it of each glyph of a font.
+/// Checks each glyph of a font.
 pub fn ask_all(alloc: Global, font: &FontView<'_>, budget: &mut Budget) -> Result<(), Failure> {
     for glyph in 0..font.char_strings.len() {
         let _ = ask(alloc, font, glyph, budget)?;

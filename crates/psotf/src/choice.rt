@@ -1,4 +1,4 @@
-//! Which glyphs of a face are kept, and which of its characters.
+//! The glyphs and characters that a subset keeps.
 use crate::characters::{Mapped, all_of, by_glyph, glyph_of, of_glyph, refuse_missing};
 use crate::face::Face;
 use crate::failure::Failure;
@@ -6,7 +6,7 @@ use clap::ArgMatches;
 use postscript_sfnt_write::Mapping;
 use std::alloc::{AllocError, Global};
 
-/// What is said of a list of characters that is none.
+/// The message for a malformed list of characters.
 const NOT_IN_HEX: &str =
     "--unicodes takes a list of hexadecimal numbers and ranges, e.g. 41,U+42,61-7a";
 
@@ -18,14 +18,13 @@ pub struct Choice {
 }
 
 impl Choice {
-    /// Adds a character and its glyph.
     fn put_pair(&mut self, char: u32, glyph: u16) -> Result<(), AllocError> {
         self.glyphs.push(usize::from(glyph))?;
         self.pairs.push(Mapping { char, glyph })?;
         Ok(())
     }
 
-    /// Adds a character. One without a glyph is refused.
+    /// Adds a character. It fails if the font has no glyph for it.
     fn put_char(&mut self, face: &Face<'_>, char: u32) -> Result<(), Failure> {
         match glyph_of(&face.map, char) {
             0 => Err(Failure::no_char(char)),
@@ -33,7 +32,7 @@ impl Choice {
         }
     }
 
-    /// Adds the characters of a text. Those without a glyph are told together.
+    /// Adds the characters of a text. The error lists all characters without a glyph.
     fn put_text(&mut self, alloc: Global, face: &Face<'_>, text: &str) -> Result<(), Failure> {
         refuse_missing(alloc, &face.map, text)?;
         for char in text.chars() {
@@ -54,7 +53,7 @@ impl Choice {
         Ok(())
     }
 
-    /// Adds the characters of a list: numbers in hex, with `U+` or without, or ranges of two of these.
+    /// Adds the characters of a list of hexadecimal numbers and ranges. Each number may begin with `U+`.
     fn put_unicodes(&mut self, alloc: Global, face: &Face<'_>, list: &str) -> Result<(), Failure> {
         if list.is_empty() {
             return Ok(());
@@ -63,7 +62,7 @@ impl Choice {
         self.put_each(face, &all, list)
     }
 
-    /// Adds the characters of the words of such a list.
+    /// Adds the characters of each item of such a list.
     fn put_each(&mut self, face: &Face<'_>, all: &[(u32, u16)], list: &str) -> Result<(), Failure> {
         for word in list.split(',') {
             self.put_unicode(face, all, word)?;
@@ -71,7 +70,7 @@ impl Choice {
         Ok(())
     }
 
-    /// Adds the characters of a word of such a list.
+    /// Adds the characters of one item of such a list.
     fn put_unicode(
         &mut self,
         face: &Face<'_>,
@@ -88,7 +87,7 @@ impl Choice {
         }
     }
 
-    /// Adds glyphs of these numbers.
+    /// Adds a range of glyphs.
     fn put_numbers(&mut self, first: u32, last: u32) -> Result<(), AllocError> {
         for gid in first..last.saturating_add(1) {
             self.glyphs.push(gid as usize)?;
@@ -96,7 +95,7 @@ impl Choice {
         Ok(())
     }
 
-    /// Adds the glyphs of a list: numbers, or ranges of two of these.
+    /// Adds the glyphs of a list of numbers and ranges.
     fn put_gids(&mut self, list: &str, glyphs: usize) -> Result<(), Failure> {
         if list.is_empty() {
             return Ok(());
@@ -108,7 +107,7 @@ impl Choice {
         Ok(())
     }
 
-    /// Adds the characters of the glyphs, by a list of all.
+    /// Adds the characters of the glyphs, from a list of all characters.
     fn put_chars(&mut self, all: &[Mapped]) -> Result<(), AllocError> {
         for glyph in &self.glyphs {
             put_chars_of(&mut self.pairs, all, *glyph)?;
@@ -116,13 +115,13 @@ impl Choice {
         Ok(())
     }
 
-    /// Adds the characters that a face has for the glyphs.
+    /// Adds the characters that the font maps to the glyphs.
     fn put_own_chars(&mut self, alloc: Global, face: &Face<'_>) -> Result<(), AllocError> {
         let all = by_glyph(alloc, &face.map)?;
         self.put_chars(&all)
     }
 
-    /// Adds what words name.
+    /// Adds the glyphs that the arguments choose.
     fn put(
         &mut self,
         alloc: Global,
@@ -140,7 +139,7 @@ impl Choice {
         Ok(self.put_own_chars(alloc, face)?)
     }
 
-    /// Adds `.notdef`; then glyphs and characters rise.
+    /// Adds `.notdef`, and sorts glyphs and characters.
     fn order(&mut self) -> Result<(), AllocError> {
         self.glyphs.push(0)?;
         self.glyphs.sort()?;
@@ -150,7 +149,7 @@ impl Choice {
         Ok(())
     }
 
-    /// Adds what words name, with `.notdef`: glyphs and characters that rise then. Words that name nothing are refused.
+    /// Adds the glyphs that the arguments choose and `.notdef`, sorted. It fails if they choose none.
     fn fill(
         &mut self,
         alloc: Global,
@@ -164,7 +163,7 @@ impl Choice {
         Ok(self.order()?)
     }
 
-    /// What words name.
+    /// Returns the glyphs that the arguments choose.
     pub fn read(alloc: Global, face: &Face<'_>, words: &ArgMatches<'_>) -> Result<Choice, Failure> {
         let mut choice = Choice {
             glyphs: Vec::new(alloc),
@@ -175,7 +174,7 @@ impl Choice {
     }
 }
 
-/// Adds the characters of a glyph, by a list of all.
+/// Adds the characters of a glyph, from a list of all characters.
 fn put_chars_of(pairs: &mut Vec<Mapping>, all: &[Mapped], glyph: usize) -> Result<(), AllocError> {
     let gid = u16::try_from(glyph).unwrap_or(u16::MAX);
     for mapped in of_glyph(all, gid) {
@@ -187,25 +186,25 @@ fn put_chars_of(pairs: &mut Vec<Mapping>, all: &[Mapped], glyph: usize) -> Resul
     Ok(())
 }
 
-/// A character by its number in hex. None where the word is no such number.
+/// Parses a character in hexadecimal. Returns `None` if the text is no such number.
 fn char_of(word: &str) -> Option<u32> {
     let digits = word.strip_prefix("U+").unwrap_or(word);
     u32::from_str_radix(digits, 16).ok()
 }
 
-/// The first and the last character of a range. None where the word is no range.
+/// Parses a range of characters. Returns `None` if the text has no hyphen.
 fn range_of(word: &str) -> Option<(Option<u32>, Option<u32>)> {
     let (first, last) = word.split_once('-')?;
     Some((char_of(first), char_of(last)))
 }
 
-/// The first and the last glyph of a word: a number, or a range of two.
+/// Parses a glyph number or a range of two.
 fn gids_of(word: &str, glyphs: usize) -> Result<(u32, u32), Failure> {
     let (first, last) = word.split_once('-').unwrap_or((word, word));
     Ok((gid_of(first, glyphs)?, gid_of(last, glyphs)?))
 }
 
-/// A glyph by its number, one of so many.
+/// Parses the number of one of `glyphs` glyphs.
 fn gid_of(word: &str, glyphs: usize) -> Result<u32, Failure> {
     match word.parse::<u32>() {
         Ok(gid) if (gid as usize) < glyphs => Ok(gid),

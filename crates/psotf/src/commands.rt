@@ -1,8 +1,8 @@
-//! The words of the program.
+//! The arguments of the program.
 use clap::{Arg, ArgAction, ArgGroup, Command, value_parser};
 use std::alloc::{AllocError, Global};
 
-/// Calls of the program.
+/// Examples in the help.
 const EXAMPLES: &str = "Examples:
   psotf inspect Font.otf --json
   psotf glyph Font.otf --char A
@@ -17,27 +17,27 @@ const EXAMPLES: &str = "Examples:
   psotf instance Variable.otf --instance Bold -o Bold.otf
   psotf subset Font.otf --unicodes 20-7e,U+20AC --retain-gids -o Small.otf";
 
-/// A word behind a subcommand.
+/// An argument of a subcommand.
 #[derive(Clone, Copy)]
 enum Word {
-    /// A file to read: its name, and what it is.
+    /// An input file: its name and its help.
     File(&'static str, &'static str),
-    /// Of a name, without a value, and what it asks for.
+    /// An option without a value: its name and its help.
     Flag(&'static str, &'static str),
-    /// Of a name, with a value that is called so, and what it asks for.
+    /// An option with a text: its name, the name of the value and the help.
     Text(&'static str, &'static str, &'static str),
-    /// Of a name, with a number, and what it asks for.
+    /// An option with a number: its name and its help.
     Number(&'static str, &'static str),
-    /// Of a name, with a number, the one that is taken where it is left out, and what it asks for.
+    /// An option with a number: its name, its default and its help.
     Given(&'static str, &'static str, &'static str),
-    /// Of a name, with a number of units, and what it asks for.
+    /// An option with a number of units: its name and its help.
     Units(&'static str, &'static str),
-    /// The file to write, which may be left out, or has to be named, and what it is.
+    /// The output file: whether it is required, and the help.
     Out(bool, &'static str),
 }
 
-/// A subcommand: its name, what it does, the names of the words of which one has to be given, under a name of theirs, and its words behind
-/// those of the face and of the place.
+/// A subcommand. Its arguments follow those of the font and of the instance. Exactly one of `one_of`, which is a group
+/// with the name `group`, is required.
 struct Subcommand {
     name: &'static str,
     about: &'static str,
@@ -47,18 +47,18 @@ struct Subcommand {
     words: &'static [Word],
 }
 
-/// Which place of a variable font a subcommand is about.
+/// Whether a subcommand takes an instance of a variable font.
 #[derive(Clone, Copy)]
 enum Place {
-    /// None that words name.
+    /// It does not.
     None,
-    /// One that words may name.
+    /// An instance is optional.
     Any,
-    /// The one that the file is of.
+    /// An instance is required.
     One,
 }
 
-/// The face of a file, which each subcommand is about, and how long the runs of its glyphs may take.
+/// The arguments of all subcommands: the font and the limit.
 const FACE: &[Word] = &[
     Word::File("FILE", "OpenType file or collection"),
     Word::Given("face", "0", "Select a font of a collection, counted from 0"),
@@ -68,7 +68,7 @@ const FACE: &[Word] = &[
     ),
 ];
 
-/// The place of a variable font.
+/// The arguments for an optional instance.
 const PLACE: &[Word] = &[
     Word::Text(
         "variations",
@@ -82,7 +82,7 @@ const PLACE: &[Word] = &[
     ),
 ];
 
-/// The place that a static file is of.
+/// The arguments for a required instance.
 const ONE_PLACE: &[Word] = &[
     Word::Text("variations", "LIST", "Axis values, e.g. wght=650,opsz=12"),
     Word::Text("instance", "NAME", "Select a named instance"),
@@ -216,7 +216,7 @@ const SUBCOMMANDS: &[Subcommand] = &[
     },
 ];
 
-/// A word as an argument.
+/// Converts to an argument of clap.
 fn arg<'a>(alloc: Global, word: &Word) -> Arg<'a> {
     match *word {
         Word::File(name, help) => plain(alloc, name, help).required(true),
@@ -234,24 +234,24 @@ fn arg<'a>(alloc: Global, word: &Word) -> Arg<'a> {
     }
 }
 
-/// An argument of a name, and what it asks for.
+/// Returns an argument with a name and a help text.
 fn plain<'a>(alloc: Global, name: &'a str, help: &'a str) -> Arg<'a> {
     Arg::new(alloc, name).help(help)
 }
 
-/// The same behind two hyphens and its name.
+/// Returns an option with two hyphens.
 fn named<'a>(alloc: Global, name: &'a str, help: &'a str) -> Arg<'a> {
     plain(alloc, name, help).long(name)
 }
 
-/// The same with a number.
+/// Returns an option with a number.
 fn number<'a>(alloc: Global, name: &'a str, help: &'a str) -> Arg<'a> {
     named(alloc, name, help)
         .value_name("N")
         .value_parser(value_parser!(u16))
 }
 
-/// Adds a value to a list, or drops it.
+/// Adds a value to a list. Without memory the value is dropped.
 fn put<T: Drop>(list: &mut Vec<T>, value: T) -> Result<(), AllocError> {
     match list.push(value) {
         Ok(()) => Ok(()),
@@ -259,7 +259,6 @@ fn put<T: Drop>(list: &mut Vec<T>, value: T) -> Result<(), AllocError> {
     }
 }
 
-/// Adds words as arguments.
 fn put_words<'a>(alloc: Global, args: &mut Vec<Arg<'a>>, words: &[Word]) -> Result<(), AllocError> {
     for word in words {
         put(args, arg(alloc, word))?;
@@ -267,7 +266,7 @@ fn put_words<'a>(alloc: Global, args: &mut Vec<Arg<'a>>, words: &[Word]) -> Resu
     Ok(())
 }
 
-/// The words that name a place.
+/// Returns the arguments that select an instance.
 fn words_of(place: Place) -> &'static [Word] {
     match place {
         Place::None => &[],
@@ -276,14 +275,14 @@ fn words_of(place: Place) -> &'static [Word] {
     }
 }
 
-/// Adds the words of a subcommand as arguments.
+/// Adds all arguments of a subcommand.
 fn put_all<'a>(alloc: Global, args: &mut Vec<Arg<'a>>, one: &Subcommand) -> Result<(), AllocError> {
     put_words(alloc, args, FACE)?;
     put_words(alloc, args, words_of(one.place))?;
     put_words(alloc, args, one.words)
 }
 
-/// A subcommand without its words. One of its group has to be given.
+/// Returns a subcommand without its arguments, and with its group.
 fn without_words<'a>(alloc: Global, one: &Subcommand) -> Result<Command<'a>, AllocError> {
     let command = Command::new(alloc, one.name).about(one.about);
     if one.one_of.is_empty() {
@@ -293,14 +292,13 @@ fn without_words<'a>(alloc: Global, one: &Subcommand) -> Result<Command<'a>, All
     command.group(group.args(one.one_of)?)
 }
 
-/// A subcommand as a command.
+/// Converts to a command of clap.
 fn command_of<'a>(alloc: Global, one: &Subcommand) -> Result<Command<'a>, AllocError> {
     let mut args = Vec::new(alloc);
     put_all(alloc, &mut args, one)?;
     without_words(alloc, one)?.args(args)
 }
 
-/// Adds a subcommand as a command.
 fn put_command<'a>(
     alloc: Global,
     commands: &mut Vec<Command<'a>>,
@@ -310,7 +308,7 @@ fn put_command<'a>(
     put(commands, command)
 }
 
-/// The subcommands as commands.
+/// Returns all subcommands.
 fn commands<'a>(alloc: Global) -> Result<Vec<Command<'a>>, AllocError> {
     let mut commands = Vec::new(alloc);
     for one in SUBCOMMANDS {
@@ -319,7 +317,7 @@ fn commands<'a>(alloc: Global) -> Result<Vec<Command<'a>>, AllocError> {
     Ok(commands)
 }
 
-/// The program's command without its subcommands, of which one has to be given.
+/// Returns the program's command without its subcommands.
 fn without_subcommands<'a>(alloc: Global) -> Command<'a> {
     Command::new(alloc, "psotf")
         .version("0.2.0")
@@ -329,7 +327,7 @@ fn without_subcommands<'a>(alloc: Global) -> Command<'a> {
         .arg_required_else_help(true)
 }
 
-/// The program's command.
+/// Returns the program's command.
 pub fn psotf<'a>(alloc: Global) -> Result<Command<'a>, AllocError> {
     let commands = commands(alloc)?;
     without_subcommands(alloc).subcommands(commands)

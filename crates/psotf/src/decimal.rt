@@ -1,11 +1,11 @@
-//! Decimals as texts.
+//! Decimal numbers as text.
 use crate::text::Text;
 use postscript_base::compact1::Operand;
 
-/// The greatest number of zeros, or of digits behind the point, that is written out.
+/// The largest number of zeros, or of digits after the point, that is written without an exponent.
 const MOST: u32 = 30;
 
-/// Adds a whole number with so many zeros behind it.
+/// Adds a whole number and `zeros` zeros.
 fn put_whole(text: &mut Text, number: i64, zeros: u32) {
     text.write_fmt(number);
     for _ in 0..zeros {
@@ -13,7 +13,7 @@ fn put_whole(text: &mut Text, number: i64, zeros: u32) {
     }
 }
 
-/// Adds a decimal: without an exponent, where it is short so.
+/// Adds a decimal number, without an exponent if it is short enough.
 pub fn put(text: &mut Text, value: &Operand) {
     let (mantissa, exponent) = (value.mantissa(), value.exponent());
     let size = exponent.unsigned_abs();
@@ -29,7 +29,7 @@ pub fn put(text: &mut Text, value: &Operand) {
     }
 }
 
-/// Adds a number with so many digits behind the point.
+/// Adds a number with `places` digits after the point.
 fn put_fraction(text: &mut Text, number: u64, places: u32) {
     let mut unit = 1u128;
     for _ in 0..places {
@@ -47,7 +47,7 @@ fn put_fraction(text: &mut Text, number: u64, places: u32) {
     );
 }
 
-/// Adds the digits of a part of a unit.
+/// Adds the digits of a fraction.
 fn put_digits(text: &mut Text, part: u128, unit: u128, places: u32) {
     let mut rest = part;
     for _ in 0..places {
@@ -58,7 +58,7 @@ fn put_digits(text: &mut Text, part: u128, unit: u128, places: u32) {
     }
 }
 
-/// Adds a number of 65536ths, with the digits that it has behind the point: at most sixteen.
+/// Adds a number in 65536ths, with at most sixteen digits after the point. It is exact.
 pub fn put_bits(text: &mut Text, bits: i64) {
     if bits < 0 {
         text.push('-');

@@ -1,4 +1,4 @@
-//! Dictionaries by the names of their operators.
+//! DICTs with the names of their operators.
 use crate::decimal;
 use crate::sheet::Sheet;
 use crate::text::Text;
@@ -6,35 +6,35 @@ use postscript_base::compact1::{Operand, Operations, Operator};
 use postscript_view::FontView;
 use std::alloc::Global;
 
-/// The operators of the dictionary of a font (Technical Note 5176, Table 9).
+/// The operators of a Top DICT (Technical Note 5176, Table 9).
 const TOP: [u16; 25] = [
     0x00, 0x01, 0x02, 0x03, 0x04, 0x05, 0x0d, 0x0e, 0x0f, 0x10, 0x11, 0x12, 0x0c00, 0x0c01, 0x0c02,
     0x0c03, 0x0c04, 0x0c05, 0x0c06, 0x0c07, 0x0c08, 0x0c14, 0x0c15, 0x0c16, 0x0c17,
 ];
 
-/// Those that the dictionary of a CID-keyed font may have (Tables 9 and 10).
+/// The operators of the Top DICT of a CID-keyed font (Tables 9 and 10).
 const CID_TOP: [u16; 34] = [
     0x00, 0x01, 0x02, 0x03, 0x04, 0x05, 0x0d, 0x0e, 0x0f, 0x10, 0x11, 0x12, 0x0c00, 0x0c01, 0x0c02,
     0x0c03, 0x0c04, 0x0c05, 0x0c06, 0x0c07, 0x0c08, 0x0c14, 0x0c15, 0x0c16, 0x0c17, 0x0c1e, 0x0c1f,
     0x0c20, 0x0c21, 0x0c22, 0x0c23, 0x0c24, 0x0c25, 0x0c26,
 ];
 
-/// The operators of private dictionaries (Table 23).
+/// The operators of a Private DICT (Table 23).
 const PRIVATE: [u16; 18] = [
     0x06, 0x07, 0x08, 0x09, 0x0a, 0x0b, 0x13, 0x14, 0x15, 0x0c09, 0x0c0a, 0x0c0b, 0x0c0c, 0x0c0d,
     0x0c0e, 0x0c11, 0x0c12, 0x0c13,
 ];
 
-/// Which dictionary one is.
+/// The kind of a DICT.
 #[derive(Clone, Copy)]
 pub enum Kind {
     Top,
-    /// That of a CID-keyed font, or one of its font dictionaries.
+    /// The Top DICT of a CID-keyed font, or a Font DICT.
     CidTop,
     Private,
 }
 
-/// The operators that a dictionary may have.
+/// Returns the operators that a DICT may have.
 fn codes_of(kind: Kind) -> &'static [u16] {
     match kind {
         Kind::Top => TOP.as_slice(),
@@ -43,7 +43,7 @@ fn codes_of(kind: Kind) -> &'static [u16] {
     }
 }
 
-/// Whether an operand is a SID: its operator, and its index (Technical Note 5176, Tables 9 and 10).
+/// Returns whether the operand with an index is a SID (Technical Note 5176, Tables 9 and 10).
 fn is_identifier(operator: Operator, i: usize) -> bool {
     match operator {
         Operator::Version | Operator::Notice | Operator::Copyright | Operator::FullName => true,
@@ -54,7 +54,7 @@ fn is_identifier(operator: Operator, i: usize) -> bool {
     }
 }
 
-/// The string of a font that an operand is the SID of. `None` if it is no SID, or has no string.
+/// Returns the string whose SID is the operand. Returns `None` if the operand is no SID, or if it has no string.
 fn string_of<'l>(
     font: &FontView<'l>,
     operator: Operator,
@@ -79,7 +79,7 @@ fn put(sheet: &mut Sheet, font: &FontView<'_>, operator: Operator, operands: &[O
     sheet.end_array();
 }
 
-/// Writes the operators of a DICT that have operands, in the DICT or by default.
+/// Writes the operators that have operands, in the DICT or by default.
 pub fn write(sheet: &mut Sheet, font: &FontView<'_>, dictionary: &Operations, kind: Kind) {
     sheet.begin_object();
     for code in codes_of(kind) {

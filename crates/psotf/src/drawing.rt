@@ -1,4 +1,4 @@
-//! Drawings of glyphs.
+//! Drawing of glyphs within the budget.
 use crate::face::Face;
 use crate::failure::Refusal;
 use crate::limit::Budget;
@@ -8,19 +8,19 @@ use postscript_type2::{Operand, Program};
 use postscript_view::{Advance, Glyph};
 use std::alloc::Global;
 
-/// How many units it takes to write a segment.
+/// The cost of writing a segment, in units.
 pub const SEGMENT: u64 = 8;
 
-/// How many units it takes to write an operator or an operand.
+/// The cost of writing an operator or an operand, in units.
 pub const OPERAND: u64 = 4;
 
-/// What a unit of a run may come to where its segments are written: a unit draws one of them at most.
+/// The most that a unit of a run costs if segments are written. A unit draws at most one.
 pub const PATH: u64 = 1 + SEGMENT;
 
-/// The same where its operations are written too: a unit has one operator or operand at most.
+/// The most that a unit of a run costs if operations are written too. A unit has at most one operator or operand.
 pub const OBJECT: u64 = PATH + OPERAND;
 
-/// Why a glyph is refused that was given a share.
+/// Returns the error of a glyph that was run within a share.
 fn refusal_of(error: Undrawn, glyph: &Glyph<'_, '_>, share: u64, budget: &mut Budget) -> Refusal {
     match error {
         Undrawn::Font(fault) => {
@@ -33,7 +33,8 @@ fn refusal_of(error: Undrawn, glyph: &Glyph<'_, '_>, share: u64, budget: &mut Bu
     }
 }
 
-/// Draws a program into a list, of an accented glyph the components too, while its share lasts; and its width.
+/// Draws a program into a list, with the components of a `seac` glyph, within its share. Returns the width minus
+/// nominalWidthX.
 fn draw_into(
     alloc: Global,
     face: &Face<'_>,
@@ -50,7 +51,7 @@ fn draw_into(
     Ok(width)
 }
 
-/// A glyph and its outline, with the components of an accented one.
+/// Returns a glyph and its outline, with the components of a `seac` glyph.
 pub fn draw<'f, 'l>(
     alloc: Global,
     face: &'f Face<'l>,
@@ -85,8 +86,8 @@ pub fn draw<'f, 'l>(
     }
 }
 
-/// The width of a glyph by its program in 65536ths of a unit: told there, and added to the nominal one, or else the default one.
-/// None where the private dictionary tells no whole number of 32 bits.
+/// Returns the width of a glyph by its charstring, in 65536ths of a unit. Returns `None` if nominalWidthX or
+/// defaultWidthX is no 32-bit integer.
 pub fn width_of(glyph: &Glyph<'_, '_>, outline: &Outline) -> Option<i64> {
     let advance = match outline.width_difference {
         Some(difference) => Advance::Nominal(glyph.part.nominal_width()?, difference),
@@ -95,7 +96,7 @@ pub fn width_of(glyph: &Glyph<'_, '_>, outline: &Outline) -> Option<i64> {
     advance.in_bits()
 }
 
-/// How many glyphs a face has that have a program too.
+/// Returns the number of glyphs that have a charstring.
 pub fn count(face: &Face<'_>) -> u16 {
     let programs = face.font.char_strings.len().min(65535) as u16;
     face.glyphs.min(programs)

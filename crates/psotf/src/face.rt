@@ -1,4 +1,4 @@
-//! Faces of files.
+//! Fonts of files.
 use crate::failure::Failure;
 use crate::refused::{Spot, spot_of};
 use crate::weight::is_too_much;
@@ -7,7 +7,7 @@ use postscript_sfnt::{Advances, CharacterMap, FontFile, Name, Names, faces, glyp
 use postscript_view::{CharSetView, FontView};
 use std::alloc::Global;
 
-/// What each face has beside its outlines.
+/// The parts of a font apart from its outlines.
 #[derive(Clone, Copy)]
 pub struct Common<'l> {
     pub units: u16,
@@ -17,11 +17,11 @@ pub struct Common<'l> {
     pub names: Option<Names<'l>>,
 }
 
-/// A face of a file with a table `CFF `.
+/// A font of a file, with a `CFF ` table.
 #[derive(Drop)]
 pub struct Face<'l> {
     pub file: FontFile<'l>,
-    /// How many bytes the file has.
+    /// The size of the file in bytes.
     pub size: usize,
     pub faces: usize,
     pub units: u16,
@@ -29,13 +29,13 @@ pub struct Face<'l> {
     pub advances: Advances<'l>,
     pub map: Option<CharacterMap<'l>>,
     pub names: Option<Names<'l>>,
-    /// The bytes of the table `CFF `.
+    /// The bytes of the `CFF ` table.
     pub cff: &'l [u8],
     pub font: FontView<'l>,
     pub set: Option<CharSetView<'l>>,
 }
 
-/// The family and the style that names tell.
+/// Returns the family and the style in the `name` table.
 pub fn called<'l>(names: &Option<Names<'l>>) -> (Option<Name<'l>>, Option<Name<'l>>) {
     match names {
         Some(names) => (names.family(), names.style()),
@@ -43,7 +43,7 @@ pub fn called<'l>(names: &Option<Names<'l>>) -> (Option<Name<'l>>, Option<Name<'
     }
 }
 
-/// A table that is needed.
+/// Returns a required table.
 pub fn needed<'l>(
     file: &FontFile<'l>,
     tag: [u8; 4],
@@ -55,7 +55,7 @@ pub fn needed<'l>(
     }
 }
 
-/// The advances of a face.
+/// Returns the advances of a font.
 fn advances_of<'l>(file: &FontFile<'l>) -> Result<Advances<'l>, Failure> {
     let hhea = needed(file, [b'h', b'h', b'e', b'a'], "hhea")?;
     let hmtx = needed(file, [b'h', b'm', b't', b'x'], "hmtx")?;
@@ -65,7 +65,7 @@ fn advances_of<'l>(file: &FontFile<'l>) -> Result<Advances<'l>, Failure> {
     }
 }
 
-/// The font of a table `CFF `; where it is refused, in which part and by which rule.
+/// Reads the font of a `CFF ` table. An error names the part and the rule.
 fn opened<'l>(alloc: Global, cff: &'l [u8]) -> Result<FontView<'l>, Failure> {
     if is_too_much(alloc, cff) {
         return Err(Failure::dictionaries());
@@ -76,13 +76,13 @@ fn opened<'l>(alloc: Global, cff: &'l [u8]) -> Result<FontView<'l>, Failure> {
     }
 }
 
-/// Where and why a table `CFF ` is refused. None where it is not.
+/// Returns the part and the error of an invalid `CFF ` table. Returns `None` if it is valid.
 pub fn refusal_of(alloc: Global, cff: &[u8]) -> Option<(Spot, Error)> {
     let error = FontView::read(alloc, cff).err()?;
     Some((spot_of(alloc, cff), error))
 }
 
-/// What a file is that holds no face for this program, if it is one of these.
+/// Returns the kind of a file that this program cannot read, if it is a known one.
 fn other_kind(bytes: &[u8]) -> Option<&'static str> {
     if bytes.starts_with(b"wOFF") {
         Some("a compressed WOFF file")
@@ -95,7 +95,7 @@ fn other_kind(bytes: &[u8]) -> Option<&'static str> {
     }
 }
 
-/// What a face is that has no table `CFF `, if it is one of these.
+/// Returns the kind of a font without a `CFF ` table, if it is a known one.
 fn other_outlines(file: &FontFile<'_>) -> Option<&'static str> {
     if file.table(*b"glyf").is_some() {
         return Some("a TrueType font, with its outlines in a glyf table");
@@ -103,7 +103,7 @@ fn other_outlines(file: &FontFile<'_>) -> Option<&'static str> {
     None
 }
 
-/// The bytes of the table `CFF ` of a face.
+/// Returns the bytes of the `CFF ` table.
 fn cff_of<'l>(file: &FontFile<'l>) -> Result<&'l [u8], Failure> {
     match needed(file, *b"CFF ", "CFF") {
         Ok(table) => Ok(table),
@@ -115,7 +115,7 @@ fn cff_of<'l>(file: &FontFile<'l>) -> Result<&'l [u8], Failure> {
 }
 
 impl<'l> Common<'l> {
-    /// What a face of a file has.
+    /// Reads the parts of a font of a file.
     pub fn open(file: &FontFile<'l>) -> Result<Common<'l>, Failure> {
         let head = needed(file, *b"head", "head")?;
         let maxp = needed(file, *b"maxp", "maxp")?;
@@ -144,7 +144,7 @@ impl<'l> Common<'l> {
     }
 }
 
-/// The face of this number of a file, whatever outlines it has.
+/// Returns a font of a file by its number, with any kind of outlines.
 pub fn file_of(bytes: &[u8], number: u16) -> Result<FontFile<'_>, Failure> {
     if let Some(kind) = other_kind(bytes) {
         return Err(Failure::other_kind(kind));
@@ -153,7 +153,7 @@ pub fn file_of(bytes: &[u8], number: u16) -> Result<FontFile<'_>, Failure> {
 }
 
 impl<'l> Face<'l> {
-    /// The face of a file.
+    /// Reads a font of a file.
     pub fn open(alloc: Global, bytes: &'l [u8], file: FontFile<'l>) -> Result<Face<'l>, Failure> {
         let cff = cff_of(&file)?;
         let Common {
@@ -181,7 +181,7 @@ impl<'l> Face<'l> {
         })
     }
 
-    /// The name of a glyph. None where the font is CID-keyed, or tells none.
+    /// Returns the name of a glyph. Returns `None` if the font is CID-keyed, or if the glyph has no name.
     pub fn name(&self, gid: u16) -> Option<&[u8]> {
         match &self.set {
             Some(set) => self.font.name(set, usize::from(gid)),
@@ -189,7 +189,7 @@ impl<'l> Face<'l> {
         }
     }
 
-    /// The CID of a glyph. None where the font is not CID-keyed, or tells none.
+    /// Returns the CID of a glyph. Returns `None` if the font is not CID-keyed, or if the glyph has no CID.
     pub fn cid(&self, gid: u16) -> Option<u16> {
         match &self.set {
             Some(set) => self.font.cid(set, usize::from(gid)),
@@ -197,7 +197,7 @@ impl<'l> Face<'l> {
         }
     }
 
-    /// The first glyph of a name. None where the font is CID-keyed too.
+    /// Returns the first glyph with a name. Returns `None` also if the font is CID-keyed.
     pub fn glyph_of_name(&self, name: &[u8]) -> Option<usize> {
         match &self.set {
             Some(set) => self.font.glyph_of_name(set, name),

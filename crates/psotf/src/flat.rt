@@ -1,4 +1,4 @@
-//! Fonts without subroutines.
+//! The command `flat`: fonts with desubroutinized (no calls) charstrings.
 use crate::asking::ask_all;
 use crate::face::Face;
 use crate::failure::Failure;
@@ -11,16 +11,16 @@ use postscript_write::flat_font;
 use std::alloc::{AllocError, Global};
 use std::io::Write;
 
-/// The tag of the table that is written anew.
+/// The tag of the table that is written.
 const CFF: u32 = 0x43464620;
 
-/// How often the run of a glyph is gone through: it is asked, measured and written, and its bytes are passed over.
+/// How often a glyph is run: it is checked, measured and written, and its bytes are copied.
 pub const RUNS: u64 = 4;
 
-/// The tag of the signature of the file, which does not hold any more.
+/// The tag of the digital signature, which is invalid for the new file.
 const DSIG: u32 = 0x44534947;
 
-/// Whether there is a table of the tag.
+/// Returns whether there is a table with the tag.
 fn has(tables: &[Table<'_>], tag: u32) -> bool {
     for table in tables {
         if table.tag == tag {
@@ -30,7 +30,7 @@ fn has(tables: &[Table<'_>], tag: u32) -> bool {
     false
 }
 
-/// Adds the tables of a face but for its signature, of each tag the first.
+/// Adds the tables of a font except its signature. Only the first table of each tag is added.
 fn put_others<'t>(tables: &mut Vec<Table<'t>>, file: &FontFile<'t>) -> Result<(), AllocError> {
     for i in 0..file.tables() {
         let tag = file.tag(i).unwrap_or(DSIG);
@@ -43,7 +43,7 @@ fn put_others<'t>(tables: &mut Vec<Table<'t>>, file: &FontFile<'t>) -> Result<()
     Ok(())
 }
 
-/// Whether tables overlap, so that those of the face have more bytes together than its file.
+/// Returns whether the tables have more bytes than the file, because they overlap.
 fn overlap(tables: &[Table<'_>], size: usize) -> bool {
     let mut sum = 0usize;
     for table in tables {
@@ -54,7 +54,7 @@ fn overlap(tables: &[Table<'_>], size: usize) -> bool {
     sum > size
 }
 
-/// The file of a face with another table `CFF `. It is refused where tables overlap.
+/// Returns the file of a font with another `CFF ` table. It fails if tables overlap.
 fn file_with(alloc: Global, face: &Face<'_>, font: &[u8]) -> Result<Vec<u8>, Failure> {
     let table = Table {
         tag: CFF,
@@ -68,12 +68,12 @@ fn file_with(alloc: Global, face: &Face<'_>, font: &[u8]) -> Result<Vec<u8>, Fai
     saving::file(alloc, &mut tables)
 }
 
-/// The table `CFF ` of a face, written without subroutines.
+/// Returns the `CFF ` table without subroutines.
 fn font_of(alloc: Global, face: &Face<'_>) -> Result<Vec<u8>, Failure> {
     Ok(flat_font(alloc, face.cff)?)
 }
 
-/// Writes a file of the face whose char strings call no subroutine, where the run of each glyph keeps to the limit.
+/// Writes the font with charstrings that call no subroutines. It fails if a glyph costs more than the limit.
 pub fn write<W: Write>(
     rt: &HostRuntime,
     face: &Face<'_>,

@@ -1,4 +1,4 @@
-//! What a glyph of a table `CFF ` is.
+//! A glyph of a `CFF ` table, as a JSON object.
 use crate::characters::{Mapped, of_glyph};
 use crate::drawing::{OPERAND, draw, width_of};
 use crate::face::Face;
@@ -11,7 +11,7 @@ use postscript_type2::{Operand, Operator, Program};
 use postscript_view::Glyph;
 use std::alloc::Global;
 
-/// Writes the name of a glyph, or in a CID-keyed font its CID.
+/// Writes the name of a glyph, and its CID if the font is CID-keyed.
 fn name(sheet: &mut Sheet, face: &Face<'_>, gid: u16) {
     if face.font.is_cid_keyed() {
         sheet.key("cid");
@@ -33,14 +33,14 @@ pub fn chars(sheet: &mut Sheet, chars: &[Mapped]) {
     sheet.end_array();
 }
 
-/// Writes the bounds of an outline, and its segments.
+/// Writes the bounds and the segments of an outline.
 pub fn shape(sheet: &mut Sheet, outline: &Outline) {
     sheet.bounds("bounds", outline.bounds());
     sheet.bounds("tight_bounds", outline.tight_bounds());
     sheet.segments("segments", outline.segments.as_slice());
 }
 
-/// Writes what a glyph draws.
+/// Writes the width and the outline of a glyph.
 fn drawn(sheet: &mut Sheet, glyph: &Glyph<'_, '_>, outline: &Outline) {
     sheet.key("width");
     match width_of(glyph, outline) {
@@ -50,7 +50,7 @@ fn drawn(sheet: &mut Sheet, glyph: &Glyph<'_, '_>, outline: &Outline) {
     shape(sheet, outline);
 }
 
-/// Writes of a glyph that is refused why it is, and nulls in the place of what it draws.
+/// Writes the error of a glyph, and null for all parts of its drawing.
 fn refused(sheet: &mut Sheet, refusal: &Refusal) {
     for key in ["width", "bounds", "tight_bounds", "segments", "operations"] {
         sheet.key(key);
@@ -83,7 +83,7 @@ fn operations(
     Ok(())
 }
 
-/// Writes what a glyph draws and its operations, or why it is refused; and tells whether it is drawn.
+/// Writes the outline and the operations of a glyph, or its error. Returns whether it is drawn.
 fn drawing(
     alloc: Global,
     sheet: &mut Sheet,
@@ -104,7 +104,7 @@ fn drawing(
     }
 }
 
-/// Writes a glyph as an object, and tells whether it is drawn.
+/// Writes a glyph as an object. Returns whether it is drawn.
 pub fn object(
     alloc: Global,
     sheet: &mut Sheet,

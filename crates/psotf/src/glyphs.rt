@@ -1,4 +1,4 @@
-//! Glyphs that words name, as lines and as objects.
+//! The command `glyph`: glyphs as lines or as JSON objects.
 use crate::characters::{Mapped, by_glyph};
 use crate::drawing::{count, draw};
 use crate::face::Face;
@@ -15,30 +15,30 @@ use std::alloc::Global;
 use std::io::Write;
 use std::ops::Range;
 
-/// The glyphs of a face: those of its table `CFF `, or of a variable font those at a place.
+/// The glyphs of a font: of its `CFF ` table, or of a variable font at a location.
 pub trait Glyphs {
-    /// How many there are that have a charstring too.
+    /// Returns the number of glyphs that have a charstring.
     fn count(&self) -> u16;
 
-    /// The glyphs of characters.
+    /// Returns the character map.
     fn map(&self) -> &Option<CharacterMap<'_>>;
 
-    /// How many units there are to the em.
+    /// Returns the units per em.
     fn units(&self) -> u16;
 
-    /// The glyph of a name.
+    /// Returns the glyph with a name.
     fn of_name(&self, name: &str) -> Result<u16, Failure>;
 
-    /// Adds the name of a glyph and a space, where glyphs have names.
+    /// Adds the name of a glyph and a space, if the font has glyph names.
     fn put_name(&self, alloc: Global, line: &mut Text, gid: u16);
 
-    /// The advance of a glyph.
+    /// Returns the advance of a glyph.
     fn advance(&self, gid: u16) -> i64;
 
-    /// The outline of a glyph, while its share lasts.
+    /// Returns the outline of a glyph, if the cost is within its share.
     fn outline(&self, alloc: Global, gid: u16, budget: &mut Budget) -> Result<Outline, Refusal>;
 
-    /// Writes a glyph as an object, and tells whether it is drawn.
+    /// Writes a glyph as an object. Returns whether it is drawn.
     fn object(
         &self,
         alloc: Global,
@@ -97,7 +97,8 @@ impl<'l> Glyphs for Face<'l> {
     }
 }
 
-/// Adds a glyph as a line: its number, its name or CID where it has one, its advance and its path; and tells whether it is drawn.
+/// Adds a glyph as a line: its number, its name or CID if it has one, its advance and its path. Returns whether it is
+/// drawn.
 fn put_line<G: Glyphs>(
     alloc: Global,
     line: &mut Text,
@@ -125,7 +126,7 @@ fn put_line<G: Glyphs>(
     }
 }
 
-/// Writes glyphs, each on a line, and tells how many are refused.
+/// Prints glyphs, one on each line. Returns the number of glyphs with errors.
 fn lines<G: Glyphs, W: Write>(
     alloc: Global,
     glyphs: &G,
@@ -146,7 +147,7 @@ fn lines<G: Glyphs, W: Write>(
     Ok(refused)
 }
 
-/// Writes glyphs, each as an object on a line, and tells how many are refused.
+/// Prints glyphs as objects, one on each line. Returns the number of glyphs with errors.
 fn objects<G: Glyphs, W: Write>(
     alloc: Global,
     glyphs: &G,
@@ -168,7 +169,7 @@ fn objects<G: Glyphs, W: Write>(
     Ok(refused)
 }
 
-/// The character that words name.
+/// Returns the character in the arguments.
 fn char_of(words: &ArgMatches<'_>) -> Result<u32, Failure> {
     let mut chars = words.get_str("char").unwrap_or("").chars();
     match (chars.next(), chars.next()) {
@@ -177,7 +178,7 @@ fn char_of(words: &ArgMatches<'_>) -> Result<u32, Failure> {
     }
 }
 
-/// The glyph that words name.
+/// Returns the glyph that the arguments select.
 fn asked<G: Glyphs>(glyphs: &G, words: &ArgMatches<'_>) -> Result<u16, Failure> {
     if let Some(gid) = words.get_one::<u16>("gid") {
         return Ok(gid);
@@ -195,7 +196,7 @@ fn asked<G: Glyphs>(glyphs: &G, words: &ArgMatches<'_>) -> Result<u16, Failure> 
     }
 }
 
-/// The numbers of the glyphs that words name.
+/// Returns the range of glyphs that the arguments select.
 fn named<G: Glyphs>(glyphs: &G, words: &ArgMatches<'_>) -> Result<Range<u16>, Failure> {
     let count = glyphs.count();
     if words.get_flag("all") {
@@ -208,7 +209,7 @@ fn named<G: Glyphs>(glyphs: &G, words: &ArgMatches<'_>) -> Result<Range<u16>, Fa
     Ok(gid..gid.saturating_add(1))
 }
 
-/// Writes glyphs, and tells how many are refused.
+/// Prints glyphs. Returns the number of glyphs with errors.
 fn told<G: Glyphs, W: Write>(
     rt: &HostRuntime,
     glyphs: &G,
@@ -227,7 +228,7 @@ fn told<G: Glyphs, W: Write>(
     refused
 }
 
-/// Writes the glyphs that words name.
+/// Prints the glyphs that the arguments select.
 pub fn write<G: Glyphs, W: Write>(
     rt: &HostRuntime,
     glyphs: &G,

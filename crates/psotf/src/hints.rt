@@ -1,4 +1,4 @@
-//! Glyphs with hints.
+//! The number of glyphs with hints.
 use crate::drawing::count;
 use crate::face::Face;
 use crate::failure::{Failure, Refusal};
@@ -10,7 +10,7 @@ use postscript_type2::{Operator, Program, Within};
 use postscript_view::Glyph;
 use std::alloc::Global;
 
-/// Whether an operator declares stems or names some by a mask (Technical Note 5177, section 4.3).
+/// Returns whether an operator declares stems or is a mask (Technical Note 5177, section 4.3).
 fn is_hint(operator: Operator) -> bool {
     match operator {
         Operator::HStem | Operator::VStem | Operator::HStemHM | Operator::VStemHM => true,
@@ -19,22 +19,22 @@ fn is_hint(operator: Operator) -> bool {
     }
 }
 
-/// What a run comes to within its share.
+/// The result of a run within its share.
 #[derive(Clone, Copy)]
 enum Answer {
-    /// A hint.
+    /// It met a hint.
     Hint,
-    /// Its end, with no hint.
+    /// It ended without a hint.
     End,
-    /// A refusal, with no hint before.
+    /// It failed before a hint.
     Refused,
-    /// Neither: the share is used up.
+    /// It used up its share.
     Stopped,
-    /// Neither: there is no memory.
+    /// It ran out of memory.
     NoMemory,
 }
 
-/// What a run comes to with its next operation. None where it goes on.
+/// Runs the next operation. Returns `None` if the run goes on.
 fn step(program: &mut Program<'_>, share: &mut u64) -> Option<Answer> {
     match program.step_within(share) {
         Ok(Within::Operation(operator, _)) if is_hint(operator) => Some(Answer::Hint),
@@ -46,7 +46,7 @@ fn step(program: &mut Program<'_>, share: &mut u64) -> Option<Answer> {
     }
 }
 
-/// Whether the run of a glyph has a hint, as far as its share lasts.
+/// Runs a glyph until its first hint.
 fn answer_of(alloc: Global, glyph: &Glyph<'_, '_>, share: &mut u64) -> Answer {
     let mut program = glyph.program(alloc);
     let mut answer = None;
@@ -59,7 +59,7 @@ fn answer_of(alloc: Global, glyph: &Glyph<'_, '_>, share: &mut u64) -> Answer {
     answer.unwrap_or(Answer::Stopped)
 }
 
-/// Whether a glyph has a hint; or why it is not known. One that is refused is judged by the operations before its fault.
+/// Returns whether a glyph has a hint, or why this is unknown. If a run fails, the operations before the error count.
 fn has_hint(
     alloc: Global,
     glyph: &Glyph<'_, '_>,
@@ -81,8 +81,8 @@ fn has_hint(
     }
 }
 
-/// Whether a glyph of this number has a hint. One whose run takes longer than the limit is judged by the operations up to there, and
-/// told of.
+/// Returns whether a glyph has a hint. If the glyph costs more than the limit, this is reported, and the operations up
+/// to the limit count.
 fn sees_hint(
     alloc: Global,
     gid: u16,
@@ -99,8 +99,8 @@ fn sees_hint(
     }
 }
 
-/// How many glyphs of a face have a hint. Those whose runs take longer than the limit are judged by the operations up to there, and
-/// told of.
+/// Returns the number of glyphs with a hint. Glyphs that cost more than the limit are reported, and their operations up
+/// to the limit count.
 pub fn hinted(
     rt: &HostRuntime,
     face: &Face<'_>,

@@ -1,4 +1,4 @@
-//! What a face holds.
+//! The command `inspect`.
 use crate::characters::count;
 use crate::dictionaries::{self, Kind};
 use crate::face::{Face, called};
@@ -15,7 +15,7 @@ use postscript_view::Identifiers;
 use std::alloc::Global;
 use std::io::Write;
 
-/// The version as the font tells it (name 5).
+/// Returns the version string (name 5).
 fn version<'l>(face: &Face<'l>) -> Option<Name<'l>> {
     match &face.names {
         Some(names) => names.get(5),
@@ -23,7 +23,7 @@ fn version<'l>(face: &Face<'l>) -> Option<Name<'l>> {
     }
 }
 
-/// The encoding: predefined, or the font's own.
+/// Returns the name of a predefined encoding, or `custom`.
 fn encoding(face: &Face<'_>) -> &'static str {
     match face.font.dictionary.get_single(Operator::Encoding) {
         Some(offset) => match offset.to_i32() {
@@ -35,7 +35,7 @@ fn encoding(face: &Face<'_>) -> &'static str {
     }
 }
 
-/// The char set: predefined, or the font's own.
+/// Returns the name of a predefined charset, or `custom`. Returns `None` if the charset is invalid.
 fn char_set(face: &Face<'_>) -> Option<&'static str> {
     match &face.set {
         Some(set) => Some(name_of(&set.identifiers)),
@@ -43,7 +43,7 @@ fn char_set(face: &Face<'_>) -> Option<&'static str> {
     }
 }
 
-/// The name of a predefined char set.
+/// Returns the name of a predefined charset, or `custom`.
 fn name_of(identifiers: &Identifiers<'_>) -> &'static str {
     match identifiers {
         Identifiers::ISOAdobe => "ISOAdobe",
@@ -53,7 +53,7 @@ fn name_of(identifiers: &Identifiers<'_>) -> &'static str {
     }
 }
 
-/// Which dictionary the font's is.
+/// Returns the kind of the Top DICT.
 fn top(face: &Face<'_>) -> Kind {
     if face.font.is_cid_keyed() {
         Kind::CidTop
@@ -62,7 +62,7 @@ fn top(face: &Face<'_>) -> Kind {
     }
 }
 
-/// Writes the private dictionaries, and how many local subroutines each has.
+/// Writes the Private DICTs, and the number of local subroutines of each.
 fn parts(sheet: &mut Sheet, face: &Face<'_>) {
     sheet.begin_list("local_subroutines");
     for part in &face.font.parts {
@@ -77,7 +77,7 @@ fn parts(sheet: &mut Sheet, face: &Face<'_>) {
     }
 }
 
-/// Writes the private dictionaries as a list.
+/// Writes the Private DICTs as a list.
 fn privates(sheet: &mut Sheet, face: &Face<'_>) {
     sheet.begin_list("privates");
     for part in &face.font.parts {
@@ -86,7 +86,7 @@ fn privates(sheet: &mut Sheet, face: &Face<'_>) {
     sheet.end_array();
 }
 
-/// How many font dictionaries a CID-keyed font has; 0 of another.
+/// Returns the number of Font DICTs of a CID-keyed font, and 0 for any other font.
 fn dictionary_count(face: &Face<'_>) -> u64 {
     if face.font.is_cid_keyed() {
         face.font.parts.len() as u64
@@ -95,7 +95,7 @@ fn dictionary_count(face: &Face<'_>) -> u64 {
     }
 }
 
-/// Writes numbers of what the table `CFF ` holds.
+/// Writes the counts of the `CFF ` table.
 fn counts(sheet: &mut Sheet, face: &Face<'_>, hinted: u64) {
     sheet.number("fds", dictionary_count(face));
     sheet.number("glyphs", face.font.char_strings.len() as u64);
@@ -105,7 +105,7 @@ fn counts(sheet: &mut Sheet, face: &Face<'_>, hinted: u64) {
     sheet.number("global_subroutines", globals as u64);
 }
 
-/// Writes what the font is called, and by what its glyphs are.
+/// Writes the font name, the encoding and the charset.
 fn keys(sheet: &mut Sheet, face: &Face<'_>) {
     sheet.key("name");
     sheet.bytes_or_null(face.font.names.get(0));
@@ -118,7 +118,7 @@ fn keys(sheet: &mut Sheet, face: &Face<'_>) {
     }
 }
 
-/// Writes what the table `CFF ` holds.
+/// Writes the contents of the `CFF ` table.
 fn font(alloc: Global, sheet: &mut Sheet, face: &Face<'_>, hinted: u64) {
     sheet.begin_member("cff");
     keys(sheet, face);
@@ -130,7 +130,7 @@ fn font(alloc: Global, sheet: &mut Sheet, face: &Face<'_>, hinted: u64) {
     sheet.end_object();
 }
 
-/// Writes the names and the numbers.
+/// Writes names and counts of the font.
 fn head(alloc: Global, sheet: &mut Sheet, face: &Face<'_>) {
     let (family, style) = called(&face.names);
     sheet.name("family", family);
@@ -143,7 +143,7 @@ fn head(alloc: Global, sheet: &mut Sheet, face: &Face<'_>) {
     sheet.number("characters", characters);
 }
 
-/// Writes all that is told, as an object on a sheet.
+/// Writes the font as a JSON object.
 pub fn put(alloc: Global, sheet: &mut Sheet, face: &Face<'_>, hinted: u64) {
     sheet.begin_object();
     head(alloc, sheet, face);
@@ -151,7 +151,7 @@ pub fn put(alloc: Global, sheet: &mut Sheet, face: &Face<'_>, hinted: u64) {
     sheet.end_object();
 }
 
-/// Writes an object of all that is told.
+/// Prints the font as a JSON object.
 fn object<W: Write>(
     alloc: Global,
     face: &Face<'_>,
@@ -163,7 +163,7 @@ fn object<W: Write>(
     sheet.end(out)
 }
 
-/// Adds lines of the names.
+/// Adds the lines of the names.
 fn name_lines(alloc: Global, lines: &mut Text, face: &Face<'_>) {
     let (family, style) = called(&face.names);
     lines.put_named("family", family);
@@ -174,7 +174,7 @@ fn name_lines(alloc: Global, lines: &mut Text, face: &Face<'_>) {
     lines.push('\n');
 }
 
-/// Adds lines of the numbers.
+/// Adds the lines of the counts.
 fn count_lines(lines: &mut Text, face: &Face<'_>, hinted: u64, characters: u64) {
     lines.put_count("faces", face.faces as u64);
     lines.put_count("units per em", u64::from(face.units));
@@ -183,7 +183,7 @@ fn count_lines(lines: &mut Text, face: &Face<'_>, hinted: u64, characters: u64) 
     lines.put_count("characters", characters);
 }
 
-/// Adds lines of what the table `CFF ` holds once.
+/// Adds the lines of the `CFF ` table that occur once.
 fn font_lines(alloc: Global, lines: &mut Text, face: &Face<'_>) {
     if face.font.is_cid_keyed() {
         let fds = face.font.parts.len();
@@ -197,7 +197,7 @@ fn font_lines(alloc: Global, lines: &mut Text, face: &Face<'_>) {
     dictionaries::list(alloc, lines, font, "top", &font.dictionary, kind);
 }
 
-/// Adds lines of each private dictionary and its subroutines.
+/// Adds the lines of each Private DICT and its subroutines.
 fn part_lines(alloc: Global, lines: &mut Text, face: &Face<'_>) {
     for part in &face.font.parts {
         lines.put_count("local subroutines", part.subroutines.len() as u64);
@@ -212,7 +212,7 @@ fn part_lines(alloc: Global, lines: &mut Text, face: &Face<'_>) {
     }
 }
 
-/// Writes lines of all that is told.
+/// Prints the font as lines.
 fn lines<W: Write>(
     alloc: Global,
     face: &Face<'_>,
@@ -229,7 +229,8 @@ fn lines<W: Write>(
     lines.end_in(out)
 }
 
-/// Writes what a face holds. It is refused behind that where the runs of glyphs take longer than the limit, with how many do.
+/// Prints the contents of a font. Afterwards it fails if glyphs cost more than the limit, with the number of these
+/// glyphs.
 pub fn write<W: Write>(
     rt: &HostRuntime,
     face: &Face<'_>,

@@ -1,4 +1,4 @@
-//! Files of one place of a variable font, with outlines in the table CFF.
+//! The command `instance`: static fonts with outlines in a `CFF ` table.
 mod drawn;
 mod gaps;
 mod glyph_names;
@@ -22,10 +22,10 @@ use std::alloc::Global;
 use std::io::Write;
 use style::Style;
 
-/// How often the run of a glyph is gone through: it is drawn, measured, said and written, and its bytes are read back.
+/// How often a glyph is run: it is drawn, measured, encoded and written, and its bytes are read back.
 pub const RUNS: u64 = 5;
 
-/// The first glyph that the table has no room for, and why.
+/// Returns the error of the first glyph that cannot be written.
 fn unwritten(
     alloc: Global,
     face: &VariableFace<'_>,
@@ -47,7 +47,7 @@ fn unwritten(
     None
 }
 
-/// Why the table is not written: by which glyph, where one is refused.
+/// Returns the error of a table that is not written, with the glyph if it is about one.
 fn refusal_of(
     alloc: Global,
     face: &VariableFace<'_>,
@@ -66,7 +66,7 @@ fn refusal_of(
     }
 }
 
-/// The table `CFF ` of a place, with names of glyphs where they are kept.
+/// Returns the `CFF ` table of an instance, with glyph names if they are kept.
 fn font_of(
     alloc: Global,
     face: &VariableFace<'_>,
@@ -91,7 +91,7 @@ fn font_of(
     }
 }
 
-/// Adds all tables that are made for a place of a style.
+/// Adds all tables that are made for an instance.
 fn put_all(
     made: &mut Made,
     alloc: Global,
@@ -108,14 +108,14 @@ fn put_all(
     made.end()
 }
 
-/// The file of tables that were made, and of those of the face that stay as they are.
+/// Returns the file of the made tables and the copied ones.
 fn file_with(alloc: Global, face: &VariableFace<'_>, made: &Made) -> Result<Vec<u8>, Failure> {
     let mut tables = made.tables(alloc)?;
     kept::put(&mut tables, face)?;
     saving::file(alloc, &mut tables)
 }
 
-/// A file of a place, the tables that were made for it, and why names of glyphs are lost, where they are.
+/// A static font, the tables that were made for it, and why its glyph names are dropped, if they are.
 #[derive(Drop)]
 struct StaticFile {
     file: Vec<u8>,
@@ -123,7 +123,7 @@ struct StaticFile {
     lost: Option<&'static str>,
 }
 
-/// The file of a place whose glyphs are measured, of a style.
+/// Returns the static font of an instance with measured glyphs and a style.
 fn styled(
     alloc: Global,
     face: &VariableFace<'_>,
@@ -142,8 +142,8 @@ fn styled(
     })
 }
 
-/// A file of the place that words name, where the run of each glyph keeps to the limit; with each point at the nearest whole units, where
-/// this is asked for.
+/// Returns the static font of the instance in the arguments, with rounded points if `is_rounded` is true. It fails if a
+/// glyph costs more than the limit.
 fn made(
     rt: &HostRuntime,
     face: &VariableFace<'_>,
@@ -157,7 +157,7 @@ fn made(
     styled(rt.alloc(), face, &chosen, &drawn, &style)
 }
 
-/// Tells what is left out, in a line each: names of glyphs, and tables.
+/// Reports dropped glyph names and dropped tables, one line for each.
 fn tell(rt: &HostRuntime, face: &VariableFace<'_>, made: &StaticFile) -> Result<(), Failure> {
     if let Some(why) = made.lost {
         telling::tell(
@@ -168,7 +168,8 @@ fn tell(rt: &HostRuntime, face: &VariableFace<'_>, made: &StaticFile) -> Result<
     kept::tell(rt, face, &made.made)
 }
 
-/// A file of the place that words name, of which another is made. It tells what is left out, where it is to.
+/// Returns the static font of the instance in the arguments, as input of another command. If `tells` is true, it
+/// reports what is dropped.
 pub fn file_at(
     rt: &HostRuntime,
     face: &VariableFace<'_>,
@@ -183,7 +184,7 @@ pub fn file_at(
     Ok(made.file)
 }
 
-/// Writes a file of the place that words name. It tells what is left out, unless it is to be quiet.
+/// Writes the static font of the instance in the arguments. Without `--quiet` it reports what is dropped.
 pub fn write<W: Write>(
     rt: &HostRuntime,
     face: &VariableFace<'_>,

@@ -1,20 +1,20 @@
-//! Labels of cells: lines of letters that are all of one width.
+//! Labels of cells, in a monospaced font.
 use crate::text::Text;
 
 /// The most letters of a line.
 const LETTERS: usize = 17;
 
-/// Lines of a cell, one below the other.
+/// The lines of a cell, from top to bottom.
 #[derive(Drop)]
 pub struct Labels<'p> {
     pub picture: &'p mut Text,
-    /// How high a line is.
+    /// The height of a line.
     pub size: u64,
-    /// How far below the top of the cell the next line stands.
+    /// The distance of the next line from the top of the cell.
     pub y: u64,
 }
 
-/// Adds a character as XML has it: what marks it up is spelled, and what no text may hold is a question mark.
+/// Adds a character of XML text. It escapes `<` and `&`, and replaces characters outside ASCII by `?`.
 fn put_char(picture: &mut Text, char: char) {
     match char {
         '<' => picture.push_str("&lt;"),
@@ -24,7 +24,7 @@ fn put_char(picture: &mut Text, char: char) {
     }
 }
 
-/// Adds a text as XML has it.
+/// Adds a text as XML.
 fn put_text(picture: &mut Text, text: &str) {
     for char in text.chars() {
         put_char(picture, char);
@@ -32,7 +32,6 @@ fn put_text(picture: &mut Text, text: &str) {
 }
 
 impl<'p> Labels<'p> {
-    /// A line begins.
     fn begin(&mut self) {
         self.picture.push_str("<text y=\"");
         self.picture.put_number(self.y);
@@ -40,19 +39,18 @@ impl<'p> Labels<'p> {
         self.y = self.y.saturating_add(self.size);
     }
 
-    /// A line ends.
     fn end(&mut self) {
         self.picture.push_str("</text>");
     }
 
-    /// Adds a number in a line.
+    /// Adds a line with a number.
     pub fn number(&mut self, number: u64) {
         self.begin();
         self.picture.put_number(number);
         self.end();
     }
 
-    /// Adds a text in one line, which is cut where it has too many letters.
+    /// Adds a line with a text, truncated if it is too long.
     pub fn cut(&mut self, text: &str) {
         self.begin();
         for (i, char) in text.chars().enumerate() {
@@ -63,7 +61,7 @@ impl<'p> Labels<'p> {
         self.end();
     }
 
-    /// Adds a text in as many lines as its words take.
+    /// Adds a text, wrapped at spaces.
     pub fn wrapped(&mut self, text: &str) {
         self.begin();
         let mut len = 0usize;

@@ -1,4 +1,4 @@
-//! What a subset leaves out.
+//! The tables that a subset drops.
 use crate::failure::Failure;
 use crate::telling;
 use crate::text::Text;
@@ -10,10 +10,10 @@ const KEPT: [[u8; 4]; 9] = [
     *b"CFF ", *b"OS/2", *b"cmap", *b"head", *b"hhea", *b"hmtx", *b"maxp", *b"name", *b"post",
 ];
 
-/// The tags of tables of kerning and ligatures.
+/// The tags of the tables with kerning and ligatures.
 const LAYOUT: [[u8; 4]; 3] = [*b"GPOS", *b"GSUB", *b"kern"];
 
-/// Adds a tag behind a space; a byte that is no letter, digit or sign of ASCII is a question mark.
+/// Adds a space and a tag. Bytes that are not printable ASCII are replaced by `?`.
 pub fn put_tag(text: &mut Text, tag: &[u8; 4]) {
     text.push(' ');
     for byte in tag {
@@ -25,7 +25,7 @@ pub fn put_tag(text: &mut Text, tag: &[u8; 4]) {
     }
 }
 
-/// The tags of the tables that are left out, each behind a space.
+/// Returns the tags of the dropped tables, with a space before each.
 fn tags(alloc: Global, file: &FontFile<'_>) -> Result<String, AllocError> {
     let mut text = Text::new(alloc);
     for i in 0..file.tables() {
@@ -37,7 +37,7 @@ fn tags(alloc: Global, file: &FontFile<'_>) -> Result<String, AllocError> {
     text.end()
 }
 
-/// Whether a file has a table of kerning or ligatures.
+/// Returns whether a file has a table with kerning or ligatures.
 fn has_layout(file: &FontFile<'_>) -> bool {
     for tag in &LAYOUT {
         if file.table(*tag).is_some() {
@@ -47,7 +47,7 @@ fn has_layout(file: &FontFile<'_>) -> bool {
     false
 }
 
-/// Tells on standard error, in one line, which tables are left out, and what is lost with them.
+/// Reports on standard error, in one line, the dropped tables and their features.
 pub fn tell(rt: &HostRuntime, file: &FontFile<'_>) -> Result<(), Failure> {
     let tags = tags(rt.alloc(), file)?;
     if tags.is_empty() {

@@ -3,14 +3,13 @@ use crate::failure::Failure;
 use postscript_sfnt_write::Table;
 use std::alloc::{AllocError, Global};
 
-/// A table that was made.
 #[derive(Drop)]
 struct MadeTable {
     tag: u32,
     bytes: Vec<u8>,
 }
 
-/// Tables that are made. Where one fails they keep why, and tell it at their end.
+/// Tables that are made. After a failure they keep the first error, and return it at their end.
 #[derive(Drop)]
 pub struct Made {
     tables: Vec<MadeTable>,
@@ -18,7 +17,6 @@ pub struct Made {
 }
 
 impl Made {
-    /// None.
     pub fn new(alloc: Global) -> Made {
         Made {
             tables: Vec::new(alloc),
@@ -33,7 +31,6 @@ impl Made {
         }
     }
 
-    /// Adds a table that was made.
     fn add(&mut self, tag: [u8; 4], bytes: Vec<u8>) {
         let tag = u32::from_be_bytes(tag);
         if self.tables.push(MadeTable { tag, bytes }).is_err() {
@@ -41,7 +38,7 @@ impl Made {
         }
     }
 
-    /// Adds a table, or keeps why it failed.
+    /// Adds a table, or keeps its error.
     pub fn put<E: Into<Failure>>(&mut self, tag: [u8; 4], table: Result<Vec<u8>, E>) {
         match table {
             Ok(bytes) => self.add(tag, bytes),
@@ -49,7 +46,7 @@ impl Made {
         }
     }
 
-    /// The same of one that need not be there.
+    /// Adds an optional table, or keeps its error.
     pub fn put_if(&mut self, tag: [u8; 4], table: Result<Option<Vec<u8>>, AllocError>) {
         match table {
             Ok(Some(bytes)) => self.add(tag, bytes),
@@ -58,7 +55,7 @@ impl Made {
         }
     }
 
-    /// Whether there is a table of a tag.
+    /// Returns whether there is a table with a tag.
     pub fn has(&self, tag: [u8; 4]) -> bool {
         let tag = u32::from_be_bytes(tag);
         for table in &self.tables {
@@ -69,7 +66,7 @@ impl Made {
         false
     }
 
-    /// The tables, to be written.
+    /// Returns the tables to write.
     pub fn tables(&self, alloc: Global) -> Result<Vec<Table<'_>>, AllocError> {
         let mut tables = Vec::new(alloc);
         for table in &self.tables {
@@ -81,7 +78,7 @@ impl Made {
         Ok(tables)
     }
 
-    /// Why the first one failed that did.
+    /// Returns the first failure, if there is one.
     pub fn end(&mut self) -> Result<(), Failure> {
         match self.failure.take() {
             Some(failure) => Err(failure),

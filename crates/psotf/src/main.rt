@@ -1,5 +1,5 @@
-//! Fonts in OpenType files: what they hold, glyphs and their outlines, texts as pictures, fonts without subroutines, and
-//! fonts of some glyphs.
+//! A command-line program for OpenType fonts. It inspects and draws glyphs, and writes fonts without subroutines, fonts
+//! with only some glyphs, and static instances.
 #![tactic(auto)]
 
 ghost use Rattle.std.specs.Prelude.{◌<◌};
@@ -53,7 +53,7 @@ use std::process::ExitCode;
 use std::{env, io};
 use variable::VariableFace;
 
-/// How much a unit of a run may come to in a subcommand.
+/// Returns how many units of the budget one unit of a run may cost in a subcommand.
 fn weight_of(name: &str, words: &ArgMatches<'_>) -> u64
     ensures { 0 < result }
 {
@@ -68,10 +68,11 @@ fn weight_of(name: &str, words: &ArgMatches<'_>) -> u64
     }
 }
 
-/// The most bytes that room is asked for at once.
+/// The largest capacity that is reserved at once.
 const MOST: u64 = 1 << 30;
 
-/// Room for the bytes of a file, with one byte more, at which the end is met, as far as the system tells how many they are.
+/// Returns the capacity to reserve for a file: its size and one byte more for the read at the end, or 1 if the size is
+/// unknown.
 fn room_for(file: &File) -> usize {
     match file.metadata() {
         Ok(metadata) => (metadata.len().min(MOST) as usize).saturating_add(1),
@@ -79,7 +80,7 @@ fn room_for(file: &File) -> usize {
     }
 }
 
-/// The bytes of a file. Room for them is asked for once: room that grows as they are read takes up to three times as much for a while.
+/// Reads a file. It reserves memory once, since a buffer that grows takes up to three times as much.
 fn bytes_of(rt: &HostRuntime, path: &str) -> Result<Vec<u8>, Failure> {
     let mut file = File::open(rt, path)?;
     let mut bytes = Vec::with_capacity(rt.alloc(), room_for(&file))?;
@@ -87,7 +88,7 @@ fn bytes_of(rt: &HostRuntime, path: &str) -> Result<Vec<u8>, Failure> {
     Ok(bytes)
 }
 
-/// The face that the words of a subcommand name, and what is asked of it.
+/// Opens the font that the arguments select, and runs the subcommand.
 fn answer<W: Write>(
     rt: &HostRuntime,
     name: &str,
@@ -108,7 +109,8 @@ fn answer<W: Write>(
     told
 }
 
-/// Writes what is asked of a face of a variable font. What is about a table `CFF ` is about that of the file of the place.
+/// Runs a subcommand for a variable font. Subcommands that need a `CFF ` table run on the static font of the chosen
+/// instance.
 fn of_variable<W: Write>(
     rt: &HostRuntime,
     face: &VariableFace<'_>,
@@ -127,7 +129,7 @@ fn of_variable<W: Write>(
     of_face(rt, bytes.as_slice(), file, name, words, budget, out)
 }
 
-/// The same of a face of any other font, which has no places.
+/// Runs a subcommand for any other font, which has no instances.
 fn of_static<W: Write>(
     rt: &HostRuntime,
     bytes: &[u8],
@@ -141,7 +143,7 @@ fn of_static<W: Write>(
     of_face(rt, bytes, file, name, words, budget, out)
 }
 
-/// Writes what is asked of a face with a table `CFF `. Where that table is refused, a page is made that tells why.
+/// Runs a subcommand for a CFF font. If its table is invalid, `report` writes a page that shows the error.
 fn of_face<W: Write>(
     rt: &HostRuntime,
     bytes: &[u8],
@@ -162,7 +164,7 @@ fn of_face<W: Write>(
     }
 }
 
-/// Writes what is asked of a face.
+/// Runs a subcommand for a valid CFF font.
 fn write<W: Write>(
     rt: &HostRuntime,
     face: &Face<'_>,
@@ -182,7 +184,8 @@ fn write<W: Write>(
     }
 }
 
-/// Answers a command, and tells how it ended: 0, 1 where it failed, or 2 for wrong words. A closed pipe is no failure.
+/// Runs a subcommand, prints its failure, and returns the exit status: 0, 1 for a failure, or 2 for wrong arguments. A
+/// closed pipe is no failure.
 fn start(rt: &HostRuntime, name: &str, words: &ArgMatches<'_>) -> io::Result<ExitCode> {
     let mut out = BufWriter::new(rt.alloc(), io::writer(rt))?;
     match answer(rt, name, words, &mut out) {
@@ -198,17 +201,17 @@ fn start(rt: &HostRuntime, name: &str, words: &ArgMatches<'_>) -> io::Result<Exi
     }
 }
 
-/// Whether a word names a file rather than a subcommand.
+/// Returns whether an argument names a file rather than a subcommand.
 fn names_file(word: &str) -> bool {
     !word.starts_with('-') && (word.contains('.') || word.contains('/'))
 }
 
-/// The words of the program.
+/// Returns the arguments of the program.
 fn words_of(rt: &HostRuntime) -> anyhow::Result<Vec<String>> {
     Ok(env::args(rt)?.collect(rt.alloc())?)
 }
 
-/// Adds to a file that stands alone that it is to be inspected.
+/// Inserts `inspect` if the only argument is a file.
 fn complete(rt: &HostRuntime, words: &mut Vec<String>) -> anyhow::Result<()> {
     if words.len() == 2 && names_file(words[1].as_str()) {
         words.insert(1, String::from_str(rt.alloc(), "inspect")?)?;
@@ -216,7 +219,7 @@ fn complete(rt: &HostRuntime, words: &mut Vec<String>) -> anyhow::Result<()> {
     Ok(())
 }
 
-/// Writes what the words come to in place of a subcommand: help, or what is wrong with them. A closed pipe is no failure.
+/// Prints help, or the error of wrong arguments. A closed pipe is no failure.
 fn told_by(rt: &HostRuntime, error: &clap::Error) -> io::Result<ExitCode> {
     match error.print(rt) {
         Ok(()) => Ok(ExitCode::from(error.exit_code() as u8)),
@@ -227,7 +230,7 @@ fn told_by(rt: &HostRuntime, error: &clap::Error) -> io::Result<ExitCode> {
     }
 }
 
-/// Answers the subcommand that words name.
+/// Runs the subcommand of parsed arguments.
 fn answer_to(rt: &HostRuntime, matches: &ArgMatches<'_>) -> io::Result<ExitCode> {
     match matches.subcommand() {
         Some((name, words)) => start(rt, name, words),
@@ -235,7 +238,7 @@ fn answer_to(rt: &HostRuntime, matches: &ArgMatches<'_>) -> io::Result<ExitCode>
     }
 }
 
-/// Answers words.
+/// Parses the arguments and runs the subcommand.
 fn answered(rt: &HostRuntime, words: &[String]) -> io::Result<ExitCode> {
     match psotf(rt.alloc())?.try_get_matches_from(words) {
         Ok(matches) => answer_to(rt, &matches),

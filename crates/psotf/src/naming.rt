@@ -1,19 +1,19 @@
-//! The table `name` of a subset (ISO/IEC 14496-22, 5.2.7).
+//! The `name` table of a subset (ISO/IEC 14496-22, 5.2.7).
 use postscript_base::index::number::number_within;
 use postscript_sfnt::{Name, Names};
 use std::alloc::{AllocError, Global};
 
-/// The texts that systems and browsers read: family, style, unique and full name, version, PostScript name, the typographic and the
-/// WWS family and style, and the prefix of variations.
+/// The names that systems and browsers read: family, style, unique and full name, version, PostScript name, the
+/// typographic and the WWS family and style, and the variations prefix.
 const READ: [usize; 11] = [1, 2, 3, 4, 5, 6, 16, 17, 21, 22, 25];
 
-/// Copyright, trademark, and the licence and its address.
+/// Copyright, trademark, licence and licence URL.
 const LICENCE: [usize; 4] = [0, 7, 13, 14];
 
-/// The most records of a table that is gone through.
+/// The most records of a table that is processed.
 pub const MOST: usize = 1000;
 
-/// The language of the United States, as Windows numbers it.
+/// The Windows language number of US English.
 const ENGLISH: usize = 0x409;
 
 /// A record of the table, and its text.
@@ -23,17 +23,17 @@ pub struct Record<'l> {
     pub encoding: usize,
     pub language: usize,
     pub identifier: usize,
-    /// Where its text stands, which is written once.
+    /// The offset of the text in the original. Texts with equal offsets are written once.
     pub start: usize,
     pub text: &'l [u8],
 }
 
-/// A number as two bytes have it, where they have room.
+/// Converts to two bytes. Greater numbers become 65535.
 fn word_of(number: usize) -> u16 {
     u16::try_from(number).unwrap_or(u16::MAX)
 }
 
-/// A field of two bytes of a record.
+/// Returns a two-byte field of a record.
 fn field(table: &[u8], i: usize, field: usize) -> usize {
     let place = i
         .saturating_mul(12)
@@ -42,7 +42,7 @@ fn field(table: &[u8], i: usize, field: usize) -> usize {
     number_within(table, place, 2).unwrap_or(0)
 }
 
-/// A record. None where its text is cut.
+/// Returns a record. Returns `None` if its text is truncated.
 pub fn record_at(table: &[u8], i: usize) -> Option<Record<'_>> {
     let start = number_within(table, 4, 2)
         .unwrap_or(0)
@@ -58,7 +58,7 @@ pub fn record_at(table: &[u8], i: usize) -> Option<Record<'_>> {
     })
 }
 
-/// Whether two texts are of the same characters.
+/// Returns whether two names have the same characters.
 fn says_the_same(one: Name<'_>, other: Name<'_>) -> bool {
     let mut others = other.chars();
     for char in one.chars() {
@@ -69,7 +69,7 @@ fn says_the_same(one: Name<'_>, other: Name<'_>) -> bool {
     others.next().is_none()
 }
 
-/// Whether Windows tells the text of an identifier in the English of the United States.
+/// Returns whether there is a Windows record in US English for a name ID.
 fn is_of_windows(table: &[u8], count: usize, identifier: usize) -> bool {
     for i in 0..count {
         if field(table, i, 0) == 3
@@ -83,8 +83,7 @@ fn is_of_windows(table: &[u8], count: usize, identifier: usize) -> bool {
     false
 }
 
-/// Whether the text that is read of an identifier says the same as a record of Unicode or of Macintosh in Roman, and is told by
-/// another one.
+/// Returns whether a Unicode record, or a Mac Roman record, only repeats the text of a better one.
 fn is_told_twice(names: &Names<'_>, table: &[u8], count: usize, record: &Record<'_>) -> bool {
     let Some(best) = names.get(word_of(record.identifier)) else {
         return false;
@@ -105,12 +104,11 @@ pub struct Kept {
     count: usize,
     records: Vec<u8>,
     texts: Vec<u8>,
-    /// Where each text that is kept stood, and where it stands.
+    /// The old offset, the length and the new offset of each text.
     places: Vec<(usize, usize, usize)>,
 }
 
 impl Kept {
-    /// None.
     pub fn new(alloc: Global) -> Kept {
         Kept {
             count: 0,
@@ -120,7 +118,7 @@ impl Kept {
         }
     }
 
-    /// Where a text stands that was kept before, or comes to stand.
+    /// Returns the new offset of a text, and adds the text if it is new.
     fn place_of(&mut self, record: &Record<'_>) -> Result<usize, AllocError> {
         let len = record.text.len();
         for (start, size, place) in &self.places {
@@ -134,7 +132,6 @@ impl Kept {
         Ok(place)
     }
 
-    /// Adds a record.
     pub fn put(&mut self, record: &Record<'_>) -> Result<(), AllocError> {
         let place = self.place_of(record)?;
         for number in [
@@ -152,7 +149,7 @@ impl Kept {
         Ok(())
     }
 
-    /// Adds the table, whose texts begin at a place.
+    /// Adds the table. Its texts begin at the offset `begin`.
     fn put_into(&self, table: &mut Vec<u8>, begin: usize) -> Result<(), AllocError> {
         for number in [0, self.count, begin] {
             table.extend_from_slice(&word_of(number).to_be_bytes())?;
@@ -161,7 +158,7 @@ impl Kept {
         table.extend_from_slice(&self.texts)
     }
 
-    /// The table. None where places have no room in two bytes.
+    /// Returns the table. Returns `None` if an offset exceeds two bytes.
     pub fn table(&self, alloc: Global) -> Result<Option<Vec<u8>>, AllocError> {
         let begin = self.records.len().saturating_add(6);
         if begin > 65535 || self.texts.len() > 65535 {
@@ -173,8 +170,8 @@ impl Kept {
     }
 }
 
-/// Whether a subset keeps a record: one of a text that is read, where asked for of the licence too, in a language that is told by a
-/// number.
+/// Returns whether a subset keeps a record: a name that is read, or one of the licence if `licence` is true, in a
+/// language with a number.
 fn is_kept(record: &Record<'_>, licence: bool) -> bool {
     if record.language >= 0x8000 {
         return false;
@@ -182,8 +179,8 @@ fn is_kept(record: &Record<'_>, licence: bool) -> bool {
     READ.contains(&record.identifier) || (licence && LICENCE.contains(&record.identifier))
 }
 
-/// The table of the records that a subset keeps, in their order, of each text one encoding where others say the same. None where the
-/// table is not of that form, or of very many records.
+/// Returns the table with the records that a subset keeps, in their order. Records that only repeat a better one are
+/// dropped. Returns `None` if the table has another format or too many records.
 pub fn trimmed(alloc: Global, table: &[u8], licence: bool) -> Result<Option<Vec<u8>>, AllocError> {
     let count = number_within(table, 2, 2).unwrap_or(0);
     let (Some(names), true) = (Names::read(table), count <= MOST) else {

@@ -1,21 +1,21 @@
-//! How far a work over glyphs is.
+//! Progress messages.
 use std::io::IsTerminal;
 use std::time::Instant;
 
-/// How far a work over glyphs is, told on standard error once a second, where that is a terminal.
+/// The progress of a loop over glyphs. It is shown once a second on standard error, if that is a terminal.
 #[derive(Clone, Copy)]
 pub struct Progress<'r> {
     rt: &'r HostRuntime,
-    /// Behind the last glyph.
+    /// The number after the last glyph.
     to: u16,
-    /// Since when. None where nothing is told.
+    /// The start. `None` if nothing is shown.
     since: Option<Instant>,
-    /// The second that was told of last.
+    /// The last second with a message.
     told: u64,
 }
 
 impl<'r> Progress<'r> {
-    /// A work that begins now.
+    /// Begins to measure.
     pub fn new(rt: &'r HostRuntime, to: u16) -> Progress<'r> {
         let since = if rt.stderr().is_terminal() {
             Instant::now(rt).ok()
@@ -30,7 +30,7 @@ impl<'r> Progress<'r> {
         }
     }
 
-    /// A work whose answers show how far it is where standard output is a terminal too.
+    /// The same, but shows nothing if standard output is a terminal too, since the output shows the progress.
     pub fn of_answers(rt: &'r HostRuntime, to: u16) -> Progress<'r> {
         let mut progress = Progress::new(rt, to);
         if rt.stdout().is_terminal() {
@@ -39,7 +39,7 @@ impl<'r> Progress<'r> {
         progress
     }
 
-    /// The work has come to a glyph.
+    /// Shows the current glyph, at most once a second.
     pub fn at(&mut self, gid: u16) {
         let Some(since) = self.since else {
             return;
@@ -55,7 +55,7 @@ impl<'r> Progress<'r> {
         }
     }
 
-    /// The work is done: nothing of what was told is left on the line.
+    /// Clears the line.
     pub fn end(self) {
         if self.told > 0 {
             let _ = eprint!(self.rt; "\x1b[K");

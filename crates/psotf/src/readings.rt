@@ -1,4 +1,4 @@
-//! What the readings of a whole font answer to a table `CFF `.
+//! The results of the strict and the lenient reader for a `CFF ` table.
 use crate::refused::{Spot, rule_of, spot_by};
 use crate::sheet::Sheet;
 use crate::text::Text;
@@ -8,10 +8,10 @@ use postscript_view::FontView;
 use std::alloc::Global;
 use std::io::Cursor;
 
-/// How many bytes both readings may pass over: each passes over the table once at most for each of its dictionaries.
+/// The most bytes that both readers may read. Each reads the table at most once for each Top DICT.
 const PASSED: u64 = 1_000_000_000;
 
-/// How many dictionaries a table has, where it has too many for its readings to pass over it for each.
+/// Returns the number of Top DICTs, if it is too large for the readers.
 fn too_many(cff: &[u8]) -> Option<u64> {
     let fonts = FontView::fonts(cff).unwrap_or(0) as u64;
     if fonts > 1 && fonts.saturating_mul(cff.len() as u64) > PASSED {
@@ -21,14 +21,14 @@ fn too_many(cff: &[u8]) -> Option<u64> {
     }
 }
 
-/// Why and where a reading refuses a table.
+/// The error of a reader, and its part.
 #[derive(Drop)]
 struct Refused {
     error: Error,
     spot: Spot,
 }
 
-/// Why the strict reading refuses a table, or the lenient one, where it does. Nothing of the font is kept.
+/// Returns the error of the strict or the lenient reader, if there is one. The font is not kept.
 fn refusal_by(alloc: Global, cff: &[u8], is_strict: bool) -> Option<Refused> {
     let mut tape = Cursor::new(cff);
     let checked = if is_strict {
@@ -41,8 +41,8 @@ fn refusal_by(alloc: Global, cff: &[u8], is_strict: bool) -> Option<Refused> {
     Some(Refused { error, spot })
 }
 
-/// Why the strict reading and the lenient one refuse a table, where they do. What the strict reading takes the lenient one takes too,
-/// which asks for less, and it is not asked then.
+/// Returns the errors of the strict and the lenient reader. The lenient reader accepts each table that the strict
+/// reader accepts, and is not run for it.
 fn both(alloc: Global, cff: &[u8]) -> (Option<Refused>, Option<Refused>) {
     match refusal_by(alloc, cff, true) {
         None => (None, None),
@@ -50,7 +50,7 @@ fn both(alloc: Global, cff: &[u8]) -> (Option<Refused>, Option<Refused>) {
     }
 }
 
-/// Writes why a table is refused: the number of the refusal, what it says, the part, its place or null, and the rule.
+/// Writes an error: its number, its message, the part, the offset or null, and the rule.
 pub fn put_refusal(sheet: &mut Sheet, error: &Error, spot: &Spot) {
     sheet.begin_object();
     sheet.number("code", u64::from(error.code()));
@@ -62,7 +62,7 @@ pub fn put_refusal(sheet: &mut Sheet, error: &Error, spot: &Spot) {
     sheet.end_object();
 }
 
-/// Writes why a reading refuses a table, or null.
+/// Writes the error of a reader, or null.
 fn put_reading(sheet: &mut Sheet, key: &str, refused: &Option<Refused>) {
     sheet.key(key);
     match refused {
@@ -71,7 +71,7 @@ fn put_reading(sheet: &mut Sheet, key: &str, refused: &Option<Refused>) {
     }
 }
 
-/// Writes why each reading of the whole font refuses a table; or how many dictionaries there are, where the readings are not asked.
+/// Writes the error of each reader, or the number of Top DICTs if the readers are not run.
 pub fn put(alloc: Global, sheet: &mut Sheet, cff: &[u8]) {
     if let Some(fonts) = too_many(cff) {
         return sheet.number("dictionaries_not_read", fonts);
@@ -81,7 +81,7 @@ pub fn put(alloc: Global, sheet: &mut Sheet, cff: &[u8]) {
     put_reading(sheet, "lenient", &lenient);
 }
 
-/// Adds a line for a reading that refuses a table.
+/// Adds a line for the error of a reader.
 fn put_line(lines: &mut Text, reading: &str, refused: &Option<Refused>) {
     if let Some(Refused { error, spot }) = refused {
         let code = error.code();
@@ -99,7 +99,7 @@ fn put_line(lines: &mut Text, reading: &str, refused: &Option<Refused>) {
     }
 }
 
-/// Adds a line for each reading that refuses a table; or that the readings are not asked.
+/// Adds a line for each reader that rejects the table, or a line which says that the readers are not run.
 pub fn put_lines(alloc: Global, lines: &mut Text, cff: &[u8]) {
     if let Some(fonts) = too_many(cff) {
         lines.push_str("not read strictly or leniently: it has ");

@@ -1,4 +1,4 @@
-//! Where and by which rule a table `CFF ` is refused.
+//! The part of an invalid `CFF ` table that has the error, and the rule that it breaks.
 use crate::weight::dictionary_of;
 use postscript_base::Error;
 use postscript_base::compact1::{Operations, Operator};
@@ -8,8 +8,7 @@ use postscript_view::tables::{header_size, operations_of, slice_at};
 use std::alloc::Global;
 use std::fmt;
 
-/// A part of a table `CFF `, and where it stands: so many bytes behind the beginning of the table. It has no place where only
-/// its dictionary names one.
+/// A part of a `CFF ` table, and its offset in bytes. The offset is `None` if the part is only an operand of a DICT.
 #[derive(Clone, Copy)]
 pub struct Spot {
     pub part: &'static str,
@@ -25,7 +24,6 @@ impl fmt::Display for Spot {
     }
 }
 
-/// A part at a place.
 fn at(part: &'static str, place: u64) -> Spot {
     Spot {
         part,
@@ -33,12 +31,12 @@ fn at(part: &'static str, place: u64) -> Spot {
     }
 }
 
-/// A part that a dictionary should name.
+/// Returns a part that a DICT should name.
 fn named(part: &'static str) -> Spot {
     Spot { part, place: None }
 }
 
-/// The INDEXes that stand behind the header, in their order.
+/// The INDEXes after the header, in their order.
 const BEHIND_THE_HEADER: [&str; 4] = [
     "the Name INDEX",
     "the Top DICT INDEX",
@@ -46,7 +44,7 @@ const BEHIND_THE_HEADER: [&str; 4] = [
     "the Global Subr INDEX",
 ];
 
-/// Where the first font of a table is refused, which is.
+/// Returns the part in which the in-place reader rejects a table.
 pub fn spot_of(alloc: Global, cff: &[u8]) -> Spot {
     let Ok(size) = header_size(cff) else {
         return at("the header", 0);
@@ -61,7 +59,7 @@ pub fn spot_of(alloc: Global, cff: &[u8]) -> Spot {
     in_dictionary(alloc, cff, size)
 }
 
-/// The same, where the INDEXes behind the header stand.
+/// Continues in the Top DICT INDEX. All INDEXes after the header are well formed.
 fn in_dictionary(alloc: Global, cff: &[u8], start: usize) -> Spot {
     let Ok((_names, place)) = IndexView::open(cff, start) else {
         return at("the Name INDEX", start as u64);
@@ -78,7 +76,7 @@ fn in_dictionary(alloc: Global, cff: &[u8], start: usize) -> Spot {
     }
 }
 
-/// The same, where the dictionary is read.
+/// Continues in the parts that the Top DICT names.
 fn in_parts(alloc: Global, cff: &[u8], dictionary: &Operations) -> Spot {
     let Ok(place) = place_at(0, 0, dictionary, Operator::CharStrings) else {
         return named("the operator CharStrings of the Top DICT");
@@ -101,7 +99,7 @@ fn in_parts(alloc: Global, cff: &[u8], dictionary: &Operations) -> Spot {
     }
 }
 
-/// The same, where the bytes of the private dictionary are there.
+/// Continues in the Private DICT, whose bytes are within the table.
 fn in_private(alloc: Global, place: u64, text: &[u8]) -> Spot {
     match operations_of(alloc, text) {
         Ok(_dictionary) => at("the local subroutines of the Private DICT", place),
@@ -109,7 +107,7 @@ fn in_private(alloc: Global, place: u64, text: &[u8]) -> Spot {
     }
 }
 
-/// The part that begins last, of those that begin at a place or before it.
+/// The part that begins last, among those that begin at or before `place`.
 #[derive(Clone, Copy)]
 struct Last {
     place: u64,
@@ -118,8 +116,7 @@ struct Last {
 }
 
 impl Last {
-    /// Another part begins there. A part whose place is below that of the names is none: so char sets and encodings are called that stand
-    /// nowhere.
+    /// Records a part. Offsets below 4 are no parts: predefined charsets and encodings have such numbers.
     fn see(&mut self, part: &'static str, start: u64) {
         if start > 3 && self.start < start && start <= self.place {
             self.part = part;
@@ -127,7 +124,7 @@ impl Last {
         }
     }
 
-    /// The INDEXes behind the header begin, as far as they stand.
+    /// Records the INDEXes after the header, as far as they are well formed.
     fn see_indexes(&mut self, cff: &[u8]) {
         let mut place = header_size(cff).unwrap_or(0);
         for part in &BEHIND_THE_HEADER {
@@ -139,14 +136,14 @@ impl Last {
         }
     }
 
-    /// The part begins that an operator of a dictionary names.
+    /// Records the part that an operator names.
     fn see_one(&mut self, part: &'static str, dictionary: &Operations, operator: Operator) {
         if let Ok(place) = place_at(0, 0, dictionary, operator) {
             self.see(part, place);
         }
     }
 
-    /// The parts begin that a dictionary names.
+    /// Records the parts that a DICT names.
     fn see_named(&mut self, dictionary: &Operations) {
         self.see_one("the charset", dictionary, Operator::CharSet);
         self.see_one("the encoding", dictionary, Operator::Encoding);
@@ -155,7 +152,7 @@ impl Last {
         self.see_one("the Font DICT INDEX", dictionary, Operator::FDArray);
     }
 
-    /// The private dictionary begins that a dictionary names, and its local subroutines.
+    /// Records the Private DICT that a DICT names, and its local subroutines.
     fn see_private(&mut self, alloc: Global, cff: &[u8], dictionary: &Operations) {
         let Ok((size, offset, place)) = bounds(0, dictionary) else {
             return;
@@ -170,13 +167,13 @@ impl Last {
     }
 }
 
-/// Where the local subroutines stand of a private dictionary with these bytes.
+/// Returns the offset of the local subroutines of a Private DICT with these bytes.
 fn subroutines_at(alloc: Global, text: &[u8], offset: u32) -> Option<u64> {
     let dictionary = operations_of(alloc, text).ok()?;
     place_at(0, offset, &dictionary, Operator::Subrs).ok()
 }
 
-/// The part of the first font in which a place lies, as far as its parts are known: the one that begins last.
+/// Returns the known part of the first font that begins last before an offset.
 fn part_at(alloc: Global, cff: &[u8], place: u64) -> &'static str {
     let mut last = Last {
         place,
@@ -191,7 +188,7 @@ fn part_at(alloc: Global, cff: &[u8], place: u64) -> &'static str {
     last.part
 }
 
-/// The dictionary that an error tells an operator of, or what an operator of it says.
+/// Returns the DICT that an error is about, if it is about an operator or its operands.
 fn dictionary_at(error: &Error) -> Option<&'static str> {
     match error {
         Error::MissingOperation(Operator::Subrs) | Error::MalformedOperation(Operator::Subrs) => {
@@ -205,8 +202,8 @@ fn dictionary_at(error: &Error) -> Option<&'static str> {
     }
 }
 
-/// Where a reading of the whole table is refused whose tape stands at a place then: in the part that begins last before it, or in
-/// a dictionary, where the error tells of an operator.
+/// Returns the part in which a reader of the whole table failed. `place` is the position of the reader. It is a DICT if
+/// the error is about an operator, and otherwise the part that begins last before `place`.
 pub fn spot_by(alloc: Global, cff: &[u8], error: &Error, place: u64) -> Spot {
     match dictionary_at(error) {
         Some(part) => named(part),
@@ -214,7 +211,7 @@ pub fn spot_by(alloc: Global, cff: &[u8], error: &Error, place: u64) -> Spot {
     }
 }
 
-/// The rule that a refusal is by, in words, with its section of Adobe's Technical Notes.
+/// Returns the rule that an error breaks, with the section of Adobe's Technical Notes.
 pub fn rule_of(code: u8) -> &'static str {
     match code {
         1 =>

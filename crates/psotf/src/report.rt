@@ -1,4 +1,4 @@
-//! Pages of all that a face holds.
+//! The command `report`: HTML pages about a font.
 mod head;
 mod operations;
 mod outlines;
@@ -32,10 +32,11 @@ use style::style;
 use sum::put_sum;
 pub use unread::write_refused;
 
-/// What a unit of a run may come to: it is drawn and told, looked at for hints, asked for its cost, and measured twice without calls.
+/// The most that a unit of a run costs. A glyph is drawn and written, searched for hints, checked, and measured twice
+/// without calls.
 pub const RUNS: u64 = OBJECT + 4;
 
-/// Adds glyphs to a page, a row on a line each, and the end of the block of JSON.
+/// Adds the rows of glyphs to a page, one on each line, and the end of the block of JSON.
 fn put_glyphs(
     rt: &HostRuntime,
     face: &Face<'_>,
@@ -60,7 +61,7 @@ fn put_glyphs(
     Ok(page.extend_from_slice(b"\n]}\n")?)
 }
 
-/// What all pages have.
+/// The data that all pages share.
 #[derive(Clone, Copy)]
 struct Common<'c, 'w, 'l> {
     face: &'c Face<'l>,
@@ -70,7 +71,7 @@ struct Common<'c, 'w, 'l> {
     hinted: u64,
 }
 
-/// Adds the block of JSON to the page that begins with a glyph (docs/REPORT.md).
+/// Adds the block of JSON of a page (docs/report-format.md).
 fn put_data(
     rt: &HostRuntime,
     common: &Common<'_, '_, '_>,
@@ -95,7 +96,6 @@ fn put_data(
     put_glyphs(rt, common.face, common.mapped, gids, budget, stopped, page)
 }
 
-/// Adds texts, one behind another.
 fn put_texts(page: &mut Vec<u8>, texts: &[&str]) -> Result<(), AllocError> {
     for text in texts {
         page.extend_from_slice(text.as_bytes())?;
@@ -103,7 +103,7 @@ fn put_texts(page: &mut Vec<u8>, texts: &[&str]) -> Result<(), AllocError> {
     Ok(())
 }
 
-/// Adds what stands before the head of the block of JSON.
+/// Adds the page up to the block of JSON.
 fn begin(alloc: Global, page: &mut Vec<u8>) -> Result<(), AllocError> {
     put_texts(page, &[BEFORE_SCRIPT_SUM])?;
     put_sum(alloc, page, &script())?;
@@ -112,14 +112,14 @@ fn begin(alloc: Global, page: &mut Vec<u8>) -> Result<(), AllocError> {
     put_texts(page, &[BEFORE_STYLE, style(), BEFORE_DATA, "{\"head\":"])
 }
 
-/// Adds what stands behind the block of JSON.
+/// Adds the page after the block of JSON.
 fn end(page: &mut Vec<u8>) -> Result<(), AllocError> {
     put_texts(page, &[BEFORE_SCRIPT])?;
     put_texts(page, &script())?;
     put_texts(page, &[END])
 }
 
-/// The page that begins with a glyph.
+/// Returns the page that begins with a glyph.
 fn page_of(
     rt: &HostRuntime,
     common: &Common<'_, '_, '_>,
@@ -147,7 +147,6 @@ fn write_page(
     save(rt, path.as_str(), page.as_slice())
 }
 
-/// Writes all pages.
 fn write_pages(
     rt: &HostRuntime,
     common: &Common<'_, '_, '_>,
@@ -162,7 +161,7 @@ fn write_pages(
     Ok(())
 }
 
-/// Where words say that the first page is written to.
+/// Returns the path of the first page.
 fn path_of<'w>(words: &'w ArgMatches<'_>) -> &'w str {
     match words.get_str("out") {
         Some(path) => path,
@@ -170,7 +169,7 @@ fn path_of<'w>(words: &'w ArgMatches<'_>) -> &'w str {
     }
 }
 
-/// The glyphs that words name, on pages.
+/// Returns the pages of the glyphs that the arguments select.
 fn pages_of<'w>(face: &Face<'_>, words: &'w ArgMatches<'_>) -> Pages<'w> {
     let first = words.get_one::<u16>("from").unwrap_or(0);
     let most = words.get_one::<u16>("count").unwrap_or(65535);
@@ -181,10 +180,10 @@ fn pages_of<'w>(face: &Face<'_>, words: &'w ArgMatches<'_>) -> Pages<'w> {
     }
 }
 
-/// How many local subroutines a page lists at most. Font dictionaries that share them have each of them listed.
+/// The most local subroutines that a page lists. Subroutines shared by several Font DICTs are listed for each of them.
 const MOST_LISTED: usize = 1_000_000;
 
-/// Whether the font dictionaries have more local subroutines together than a page lists.
+/// Returns whether the Font DICTs have more local subroutines than a page lists.
 fn lists_too_many(face: &Face<'_>) -> bool {
     let mut sum = 0usize;
     for part in &face.font.parts {
@@ -193,9 +192,8 @@ fn lists_too_many(face: &Face<'_>) -> bool {
     sum > MOST_LISTED
 }
 
-/// Writes pages that show a face, and load nothing: one, or more where the glyphs are too many for one. It is refused before that
-/// where the font dictionaries share too many subroutines, and behind it where the runs of glyphs take longer than the limit, with how
-/// many do.
+/// Writes pages about a font, which load nothing. Many glyphs take several pages. It fails first if the font has too
+/// many local subroutines, and afterwards if glyphs cost more than the limit, with their number.
 pub fn write(
     rt: &HostRuntime,
     face: &Face<'_>,

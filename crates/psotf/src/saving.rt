@@ -1,4 +1,4 @@
-//! Files that are there whole or not at all.
+//! Output files that are complete or untouched.
 use crate::failure::Failure;
 use crate::telling;
 use clap::ArgMatches;
@@ -8,19 +8,19 @@ use std::fs::File;
 use std::io::Write;
 use std::{fs, io};
 
-/// The bytes of a file of tables, in the order of their tags.
+/// Returns the bytes of a font file, with its tables sorted by tag.
 pub fn file(alloc: Global, tables: &mut Vec<Table<'_>>) -> Result<Vec<u8>, Failure> {
     tables.sort_by_key(|table: &Table<'_>| table.tag)?;
     Ok(file_of(alloc, tables.as_slice())?)
 }
 
-/// Writes bytes to a file that is new.
+/// Writes bytes to a new file.
 fn write_beside(rt: &HostRuntime, path: &str, bytes: &[u8]) -> io::Result<()> {
     let mut file = File::create(rt, path)?;
     file.write_all(bytes)
 }
 
-/// Writes a file beside its place and moves it there.
+/// Writes `path.part` and renames it to `path`.
 pub fn save(rt: &HostRuntime, path: &str, bytes: &[u8]) -> Result<(), Failure> {
     let beside = format!(in rt.alloc(); "{path}.part")?;
     let written = match write_beside(rt, beside.as_str(), bytes) {
@@ -36,7 +36,7 @@ pub fn save(rt: &HostRuntime, path: &str, bytes: &[u8]) -> Result<(), Failure> {
     }
 }
 
-/// Writes bytes where words say.
+/// Writes bytes to the file in the arguments, or to standard output.
 pub fn put<W: Write>(
     rt: &HostRuntime,
     words: &ArgMatches<'_>,

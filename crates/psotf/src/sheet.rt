@@ -12,7 +12,7 @@ use std::fmt::Display;
 use std::io::Write;
 use std::mem;
 
-/// A line of JSON that is written token by token. Where memory fails it keeps that, takes no more tokens, and tells it at its end.
+/// A line of JSON, written token by token. After a failed allocation it takes no more tokens, and fails at its end.
 #[derive(Drop)]
 pub struct Sheet {
     alloc: Global,
@@ -22,7 +22,7 @@ pub struct Sheet {
 }
 
 impl Sheet {
-    /// A line on which nothing stands.
+    /// Returns an empty line.
     pub fn new(alloc: Global) -> Sheet {
         Sheet {
             alloc,
@@ -32,70 +32,61 @@ impl Sheet {
         }
     }
 
-    /// An object begins.
     pub fn begin_object(&mut self) {
         if !self.failed {
             self.failed = self.json.begin_object().is_err();
         }
     }
 
-    /// An object ends.
     pub fn end_object(&mut self) {
         if !self.failed {
             self.failed = self.json.end_object().is_err();
         }
     }
 
-    /// A list begins.
     pub fn begin_array(&mut self) {
         if !self.failed {
             self.failed = self.json.begin_array().is_err();
         }
     }
 
-    /// A list ends.
     pub fn end_array(&mut self) {
         if !self.failed {
             self.failed = self.json.end_array().is_err();
         }
     }
 
-    /// The key of a member.
+    /// Writes the key of a member.
     pub fn key(&mut self, key: &str) {
         if !self.failed {
             self.failed = self.json.key(key).is_err();
         }
     }
 
-    /// A whole number.
     pub fn u64(&mut self, n: u64) {
         if !self.failed {
             self.failed = self.json.u64(n).is_err();
         }
     }
 
-    /// Another whole number.
     pub fn i64(&mut self, n: i64) {
         if !self.failed {
             self.failed = self.json.i64(n).is_err();
         }
     }
 
-    /// A text.
     pub fn string(&mut self, text: &str) {
         if !self.failed {
             self.failed = self.json.string(text).is_err();
         }
     }
 
-    /// Nothing, in the place of a value.
     pub fn null(&mut self) {
         if !self.failed {
             self.failed = self.json.null().is_err();
         }
     }
 
-    /// A whole number, or null.
     pub fn u64_or_null(&mut self, n: Option<u64>) {
         match n {
             Some(n) => self.u64(n),
@@ -103,19 +94,19 @@ impl Sheet {
         }
     }
 
-    /// A member with a number.
+    /// Writes a member with a number.
     pub fn number(&mut self, key: &str, n: u64) {
         self.key(key);
         self.u64(n);
     }
 
-    /// A member with a text.
+    /// Writes a member with a string.
     pub fn text(&mut self, key: &str, text: &str) {
         self.key(key);
         self.string(text);
     }
 
-    /// A member that is true or false.
+    /// Writes a member with a Boolean value.
     pub fn flag(&mut self, key: &str, is_so: bool) {
         self.key(key);
         if !self.failed {
@@ -123,25 +114,25 @@ impl Sheet {
         }
     }
 
-    /// A member with a value as text.
+    /// Writes a member with a value as a string.
     pub fn tell<T: Display>(&mut self, key: &str, value: &T) {
         self.key(key);
         self.shown(value);
     }
 
-    /// The key of a member, and the beginning of its list.
+    /// Writes a key, and begins a list.
     pub fn begin_list(&mut self, key: &str) {
         self.key(key);
         self.begin_array();
     }
 
-    /// The key of a member, and the beginning of its object.
+    /// Writes a key, and begins an object.
     pub fn begin_member(&mut self, key: &str) {
         self.key(key);
         self.begin_object();
     }
 
-    /// A list of numbers.
+    /// Writes a list of numbers.
     pub fn numbers(&mut self, numbers: &[u64]) {
         self.begin_array();
         for number in numbers {
@@ -150,7 +141,7 @@ impl Sheet {
         self.end_array();
     }
 
-    /// A list of a text and two numbers.
+    /// Writes a list of a string and two numbers.
     pub fn named(&mut self, name: &str, first: u64, second: u64) {
         self.begin_array();
         self.string(name);
@@ -159,27 +150,27 @@ impl Sheet {
         self.end_array();
     }
 
-    /// A text that was put together.
+    /// Writes a text that was built elsewhere.
     pub fn put(&mut self, text: &Text) {
         self.string(text.as_str());
         self.failed |= text.has_failed();
     }
 
-    /// What was put together here.
+    /// Writes the text that was built in `self.text`.
     fn put_own(&mut self) {
         if !self.failed {
             self.failed = self.json.string(self.text.as_str()).is_err();
         }
     }
 
-    /// A value as text.
+    /// Writes a value as a string.
     pub fn shown<T: Display>(&mut self, value: &T) {
         self.text.clear();
         self.text.write_fmt(value);
         self.put_own();
     }
 
-    /// Writes the number in `text`, which is a text if JSON has no such number.
+    /// Writes the number that was built in `self.text`, or the text as a string if it is no JSON number.
     fn put_number(&mut self) {
         if self.failed {
             return;
@@ -192,14 +183,14 @@ impl Sheet {
         };
     }
 
-    /// Writes 65536ths of a unit as an exact decimal.
+    /// Writes a number in 65536ths as an exact decimal.
     pub fn bits(&mut self, bits: i64) {
         self.text.clear();
         decimal::put_bits(&mut self.text, bits);
         self.put_number();
     }
 
-    /// Bytes as text.
+    /// Writes bytes as a string.
     pub fn bytes(&mut self, bytes: &[u8]) {
         self.text.clear();
         self.text
@@ -207,7 +198,7 @@ impl Sheet {
         self.put_own();
     }
 
-    /// Bytes as text, or null.
+    /// Writes bytes as a string, or null.
     pub fn bytes_or_null(&mut self, bytes: Option<&[u8]>) {
         match bytes {
             Some(bytes) => self.bytes(bytes),
@@ -215,21 +206,21 @@ impl Sheet {
         }
     }
 
-    /// Bytes as hex digits.
+    /// Writes bytes in hexadecimal.
     pub fn hex(&mut self, bytes: &[u8]) {
         self.text.clear();
         self.text.put_hex(bytes);
         self.put_own();
     }
 
-    /// A character, as a text.
+    /// Writes a character as `U+` and its number.
     pub fn character(&mut self, char: u32) {
         self.text.clear();
         self.text.put_character(char);
         self.put_own();
     }
 
-    /// Writes the string of a SID, without control characters.
+    /// Writes bytes as a string without control characters.
     pub fn printable(&mut self, bytes: &[u8]) {
         self.text.clear();
         self.text.put_printable(self.alloc, bytes);
@@ -243,7 +234,7 @@ impl Sheet {
         self.put_number();
     }
 
-    /// Writes an operation as a list: the operator's name, and its operands.
+    /// Writes an operation as a list of the operator's name and its operands.
     pub fn operation(&mut self, name: &str, operands: &[Operand]) {
         self.begin_array();
         self.string(name);
@@ -253,7 +244,7 @@ impl Sheet {
         self.end_array();
     }
 
-    /// A member with a name of the font, or null.
+    /// Writes a member with a name of the font, or null.
     pub fn name(&mut self, key: &str, name: Option<Name<'_>>) {
         self.key(key);
         if name.is_none() {
@@ -264,13 +255,13 @@ impl Sheet {
         self.put_own();
     }
 
-    /// Writes the two coordinates of a point.
+    /// Writes the coordinates of a point.
     fn point(&mut self, at: Point) {
         self.bits(i64::from(at.x));
         self.bits(i64::from(at.y));
     }
 
-    /// A member with the corners of bounds, as a list of four texts, or null.
+    /// Writes a member with bounds, as a list of four numbers, or null.
     pub fn bounds(&mut self, key: &str, bounds: Option<Bounds>) {
         self.key(key);
         let Some(Bounds { low, high }) = bounds else {
@@ -282,7 +273,7 @@ impl Sheet {
         self.end_array();
     }
 
-    /// A letter, and points.
+    /// Writes a list of a letter and coordinates.
     fn points(&mut self, letter: &str, points: &[Point]) {
         self.begin_array();
         self.string(letter);
@@ -292,7 +283,7 @@ impl Sheet {
         self.end_array();
     }
 
-    /// A segment: its letter, and its coordinates.
+    /// Writes a segment as a list of its letter and its coordinates.
     fn segment(&mut self, segment: Segment) {
         match segment {
             Segment::MoveTo(at) => self.points("M", &[at]),
@@ -302,7 +293,7 @@ impl Sheet {
         }
     }
 
-    /// A member with a list of segments.
+    /// Writes a member with a list of segments.
     pub fn segments(&mut self, key: &str, segments: &[Segment]) {
         self.begin_list(key);
         for segment in segments {
@@ -311,17 +302,17 @@ impl Sheet {
         self.end_array();
     }
 
-    /// A number that took memory to find; or 0, and the line keeps that it failed.
+    /// Returns a number that took memory to find. After a failed allocation it is 0, and the line fails.
     pub fn found(&mut self, number: Result<u64, AllocError>) -> u64 {
         self.text.found(number)
     }
 
-    /// Memory failed that the line takes.
+    /// Marks the line as failed.
     pub fn fail(&mut self) {
         self.failed = true;
     }
 
-    /// The bytes of the line, which is empty then.
+    /// Takes the bytes of the line, and leaves an empty line.
     fn take(&mut self) -> Result<Vec<u8>, AllocError> {
         if self.failed || self.text.has_failed() {
             return Err(AllocError);
@@ -330,15 +321,15 @@ impl Sheet {
         Ok(mem::replace(&mut self.json, empty).into_inner())
     }
 
-    /// An empty line on the memory of another one.
+    /// Begins an empty line in the memory of another.
     fn begin_on(&mut self, line: Vec<u8>) {
         let mut bytes = line;
         bytes.clear();
         self.json = Writer::new(bytes);
     }
 
-    /// Adds the line to a page, and begins another one on the same memory. A `<` would end the block that it stands in, and is spelled
-    /// by its number.
+    /// Adds the line to a page, and begins another in the same memory. It escapes `<`, which could end the block of
+    /// JSON.
     pub fn end_in(&mut self, page: &mut Vec<u8>) -> Result<(), AllocError> {
         let bytes = self.take()?;
         for byte in &bytes {
@@ -352,7 +343,7 @@ impl Sheet {
         Ok(())
     }
 
-    /// Writes the line, and begins another one on the same memory.
+    /// Prints the line, and begins another in the same memory.
     pub fn end<W: Write>(&mut self, out: &mut W) -> Result<(), Failure> {
         let mut bytes = self.take()?;
         bytes.push(b'\n')?;

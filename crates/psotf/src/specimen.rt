@@ -1,4 +1,4 @@
-//! Sheets of glyphs as pictures.
+//! The command `sheet`: all glyphs in one picture.
 use crate::drawing::{count, draw};
 use crate::face::Face;
 use crate::failure::{Failure, Refusal};
@@ -15,18 +15,18 @@ use std::alloc::{AllocError, Global};
 use std::io::Write;
 use std::ops::Range;
 
-/// How many cells stand in a row.
+/// The number of cells in a row.
 const COLUMNS: u64 = 16;
 
-/// How wide and high a cell is where a picture has its own size, in pixels.
+/// The width and height of a cell in pixels.
 const PIXELS: u64 = 128;
 
-/// The size of labels in so many units to the em: 12 pixels, of which a cell of two ems has 128.
+/// Returns the size of labels in font units: 12 pixels. A cell of two ems has 128 pixels.
 fn label_size(units: u64) -> u64 {
     units.saturating_mul(3) / 16
 }
 
-/// The name of a glyph, or its CID.
+/// Returns the name of a glyph, or its CID.
 fn name_of(alloc: Global, face: &Face<'_>, gid: u16) -> Result<String, AllocError> {
     match face.cid(gid) {
         Some(cid) => format!(in alloc; "cid{cid:05}"),
@@ -34,13 +34,13 @@ fn name_of(alloc: Global, face: &Face<'_>, gid: u16) -> Result<String, AllocErro
     }
 }
 
-/// Adds a number behind a text.
+/// Adds a text and a number.
 fn put_behind(picture: &mut Text, text: &str, number: u64) {
     picture.push_str(text);
     picture.put_number(number);
 }
 
-/// Adds the outline of a glyph in a cell of so many units to the em.
+/// Adds the outline of a glyph in its cell.
 fn put_outline(picture: &mut Text, units: u64, outline: &Outline) {
     let (left, base) = (units / 4, units.saturating_add(units / 2));
     put_behind(picture, "<path transform=\"translate(", left);
@@ -59,7 +59,7 @@ fn put_names(alloc: Global, face: &Face<'_>, gid: u16, labels: &mut Labels<'_>) 
     }
 }
 
-/// Adds why a glyph is refused.
+/// Adds the error of a glyph.
 fn put_refusal(alloc: Global, refusal: &Refusal, labels: &mut Labels<'_>) {
     match format!(in alloc; "{refusal}") {
         Ok(why) => labels.wrapped(why.as_str()),
@@ -67,7 +67,7 @@ fn put_refusal(alloc: Global, refusal: &Refusal, labels: &mut Labels<'_>) {
     }
 }
 
-/// Draws a glyph below its labels; or tells why it is refused in the place of its outline.
+/// Draws a glyph below its labels, or adds its error instead.
 fn put_glyph(
     alloc: Global,
     face: &Face<'_>,
@@ -87,7 +87,7 @@ fn put_glyph(
     }
 }
 
-/// Draws a glyph in the cell of this number, with its number and its name above it; or in the place of its outline why it is refused.
+/// Draws a cell: the number and the name of a glyph, and its outline or its error.
 fn put_cell(
     alloc: Global,
     face: &Face<'_>,
@@ -114,7 +114,7 @@ fn put_cell(
     refusal
 }
 
-/// Adds a cell for each of some glyphs. Those whose runs take longer than the limit are told of.
+/// Adds the cells of glyphs. Glyphs that cost more than the limit are reported.
 fn put_cells(
     rt: &HostRuntime,
     face: &Face<'_>,
@@ -140,7 +140,7 @@ fn put_cells(
     Ok(())
 }
 
-/// Adds how a picture of so many cells begins.
+/// Adds the opening tag of a picture with `cells` cells.
 fn put_opening(face: &Face<'_>, cells: u64, picture: &mut Text) {
     let units = u64::from(face.units);
     let rows = cells.saturating_add(COLUMNS - 1) / COLUMNS;
@@ -158,7 +158,7 @@ fn put_opening(face: &Face<'_>, cells: u64, picture: &mut Text) {
     picture.push_str("\">\n");
 }
 
-/// A picture of glyphs.
+/// Returns the picture of glyphs.
 fn picture_of(
     rt: &HostRuntime,
     face: &Face<'_>,
@@ -174,8 +174,8 @@ fn picture_of(
     Ok(picture.end()?)
 }
 
-/// Writes a picture of the glyphs that words name; those that are refused have the reason in their cells. It is refused behind that
-/// where the runs of some take longer than the limit, with how many do.
+/// Writes the picture of the chosen glyphs, with errors in their cells. Afterwards it fails if glyphs cost more than
+/// the limit, with their number.
 pub fn write<W: Write>(
     rt: &HostRuntime,
     face: &Face<'_>,

@@ -1,18 +1,17 @@
-//! Glyphs whose runs take longer than the limit.
+//! Glyphs that cost more than the limit.
 use crate::failure::{Failure, Refusal};
 use crate::telling::tell;
 
-/// The glyphs of a command whose runs take longer than the limit: they are told on standard error, and counted.
+/// The glyphs of a command that cost more than the limit. They are reported on standard error and counted.
 #[derive(Clone, Copy)]
 pub struct Stopped<'r> {
     rt: &'r HostRuntime,
     count: u64,
-    /// Whether it is told that nothing is left for all others.
+    /// Whether it is reported that the command's budget is used up.
     is_over: bool,
 }
 
 impl<'r> Stopped<'r> {
-    /// None so far.
     pub fn new(rt: &'r HostRuntime) -> Stopped<'r> {
         Stopped {
             rt,
@@ -21,10 +20,10 @@ impl<'r> Stopped<'r> {
         }
     }
 
-    /// One more. Each has a line, but those for which nothing is left share one.
-    pub fn add(&mut self, gid: u16, refusal: &Refusal) -> Result<(), Failure> {
+    /// Adds a glyph and reports it. All glyphs after the command's budget is used up share one line.
+    pub fn add(&mut self, gid: u16, error: &Refusal) -> Result<(), Failure> {
         self.count = self.count.saturating_add(1);
-        let others = match refusal {
+        let others = match error {
             Refusal::UsedUp(_) if self.is_over => return Ok(()),
             Refusal::UsedUp(_) => {
                 self.is_over = true;
@@ -32,10 +31,10 @@ impl<'r> Stopped<'r> {
             }
             _ => "",
         };
-        tell(self.rt, format_args!("glyph {gid}{others}: {refusal}"))
+        tell(self.rt, format_args!("glyph {gid}{others}: {error}"))
     }
 
-    /// Refused where there are some, with how many.
+    /// Fails with the number of glyphs, if there are any.
     pub fn end(self) -> Result<(), Failure> {
         match self.count {
             0 => Ok(()),

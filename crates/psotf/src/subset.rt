@@ -1,4 +1,4 @@
-//! Files of some glyphs of a face.
+//! The command `subset`: fonts with only some glyphs.
 use crate::along::Kept;
 use crate::choice::Choice;
 use crate::face::Face;
@@ -17,17 +17,17 @@ use postscript_write::{kept_glyphs, subset, subset_keeping};
 use std::alloc::{AllocError, Global};
 use std::io::Write;
 
-/// How often the run of a glyph is gone through: it is asked, looked at twice for what it is drawn with, measured and written, and
-/// its bytes are passed over.
+/// How often a glyph is run: it is checked, searched twice for components, measured and written, and its bytes are
+/// copied.
 pub const RUNS: u64 = 6;
 
-/// The new number of a glyph: how many of those that are kept stand before it.
+/// Returns the new number of a glyph: the number of kept glyphs before it.
 fn number_of(glyphs: &[usize], glyph: u16) -> u16 {
     let before = glyphs.partition_point(|kept| *kept < usize::from(glyph));
     u16::try_from(before).unwrap_or(0)
 }
 
-/// Characters, with the new numbers of their glyphs.
+/// Returns characters with the new numbers of their glyphs.
 fn numbered(alloc: Global, chars: &[Mapping], kept: &[usize]) -> Result<Vec<Mapping>, AllocError> {
     let mut pairs = Vec::new(alloc);
     for pair in chars {
@@ -39,7 +39,7 @@ fn numbered(alloc: Global, chars: &[Mapping], kept: &[usize]) -> Result<Vec<Mapp
     Ok(pairs)
 }
 
-/// The left side bearing of a glyph, of a table `hmtx` with so many advances.
+/// Returns the left side bearing of a glyph, from an `hmtx` table with `advances` advances.
 fn bearing(hmtx: &[u8], advances: usize, glyph: usize) -> i16 {
     let place = if glyph < advances {
         glyph.saturating_mul(4).saturating_add(2)
@@ -51,7 +51,7 @@ fn bearing(hmtx: &[u8], advances: usize, glyph: usize) -> i16 {
         .cast_signed()
 }
 
-/// The metrics of some glyphs, by a table `hmtx` of so many advances.
+/// Returns the metrics of glyphs, from an `hmtx` table with `advances` advances.
 fn metrics_of(
     alloc: Global,
     face: &Face<'_>,
@@ -70,19 +70,19 @@ fn metrics_of(
     Ok(metrics)
 }
 
-/// A table of a face, empty where it has none.
+/// Returns a table of a font, or no bytes if there is none.
 fn table<'l>(face: &Face<'l>, tag: [u8; 4]) -> &'l [u8] {
     face.file.table(tag).unwrap_or(&[])
 }
 
-/// The table `hmtx` of some glyphs, with an advance for each.
+/// Returns the `hmtx` table of some glyphs, with an advance for each.
 fn metrics(alloc: Global, face: &Face<'_>, glyphs: &[usize]) -> Result<Vec<u8>, Failure> {
     let advances = number_within(table(face, *b"hhea"), 34, 2).unwrap_or(0);
     let metrics = metrics_of(alloc, face, table(face, *b"hmtx"), advances, glyphs)?;
     Ok(hmtx(alloc, &metrics)?)
 }
 
-/// The same of all glyphs, of which there are so many.
+/// Returns the `hmtx` table of all `glyphs` glyphs.
 fn all_metrics(alloc: Global, face: &Face<'_>, glyphs: usize) -> Result<Vec<u8>, Failure> {
     let mut all = Vec::new(alloc);
     for gid in 0..glyphs {
@@ -91,16 +91,16 @@ fn all_metrics(alloc: Global, face: &Face<'_>, glyphs: usize) -> Result<Vec<u8>,
     metrics(alloc, face, &all)
 }
 
-/// The table `cmap` of characters, with the new numbers of their glyphs.
+/// Returns the `cmap` table of characters, with the new numbers of their glyphs.
 fn map_of(alloc: Global, chars: &[Mapping], kept: &[usize]) -> Result<Vec<u8>, Failure> {
     let pairs = numbered(alloc, chars, kept)?;
     Ok(cmap(alloc, &pairs)?)
 }
 
-/// The tables that stay as they are.
+/// The tables that are copied.
 const SAME: [[u8; 4]; 2] = [*b"OS/2", *b"head"];
 
-/// Adds the tables that tell how many glyphs there are, and `post`.
+/// Adds the tables that contain the number of glyphs, and `post`.
 fn put_counts(made: &mut Made, alloc: Global, face: &Face<'_>, glyphs: usize) {
     let count = u16::try_from(glyphs).unwrap_or(0);
     let post = match table(face, *b"post") {
@@ -113,12 +113,12 @@ fn put_counts(made: &mut Made, alloc: Global, face: &Face<'_>, glyphs: usize) {
     made.put(*b"post", without_names(alloc, post));
 }
 
-/// The glyphs of which a font is made: those that are named, and those that they are drawn with.
+/// Returns the glyphs to keep: those that are chosen, and their components.
 fn kept_of(alloc: Global, face: &Face<'_>, glyphs: &[usize]) -> Result<Vec<usize>, Failure> {
     Ok(kept_glyphs(alloc, face.cff, glyphs)?)
 }
 
-/// Adds the tables of the glyphs that are kept with new numbers, in their order.
+/// Adds the tables of the kept glyphs, with new numbers.
 fn put_renumbered(
     made: &mut Made,
     alloc: Global,
@@ -132,7 +132,7 @@ fn put_renumbered(
     put_counts(made, alloc, face, kept.len());
 }
 
-/// Adds the tables of all glyphs with their numbers, where those that are not kept are empty.
+/// Adds the tables of all glyphs with their old numbers. Glyphs that are not kept are empty.
 fn put_keeping(made: &mut Made, alloc: Global, face: &Face<'_>, choice: &Choice) {
     let glyphs = face.font.char_strings.len();
     made.put(*b"CFF ", subset_keeping(alloc, face.cff, &choice.glyphs));
@@ -141,7 +141,7 @@ fn put_keeping(made: &mut Made, alloc: Global, face: &Face<'_>, choice: &Choice)
     put_counts(made, alloc, face, glyphs);
 }
 
-/// The table `name` with what a subset keeps of it, as it is where it is of another form; or none where the face has none.
+/// Returns the trimmed `name` table, or a copy if it has another format. Returns `None` if the font has none.
 fn names_of(
     alloc: Global,
     face: &Face<'_>,
@@ -156,7 +156,7 @@ fn names_of(
     }
 }
 
-/// Adds the tables that are made for a choice.
+/// Adds the tables that are made for the chosen glyphs.
 fn put_made(
     made: &mut Made,
     alloc: Global,
@@ -174,7 +174,7 @@ fn put_made(
     made.end()
 }
 
-/// Adds the tables that stay as they are.
+/// Adds the tables that are copied.
 fn put_same<'t>(tables: &mut Vec<Table<'t>>, file: &FontFile<'t>) -> Result<(), AllocError> {
     for tag in &SAME {
         if let Some(bytes) = file.table(*tag) {
@@ -185,14 +185,14 @@ fn put_same<'t>(tables: &mut Vec<Table<'t>>, file: &FontFile<'t>) -> Result<(), 
     Ok(())
 }
 
-/// The file of tables that were made, and of those that stay as they are.
+/// Returns the file of the made and the copied tables.
 fn file_with(alloc: Global, face: &Face<'_>, made: &Made) -> Result<Vec<u8>, Failure> {
     let mut tables = made.tables(alloc)?;
     put_same(&mut tables, &face.file)?;
     saving::file(alloc, &mut tables)
 }
 
-/// The file of a choice.
+/// Returns the file of the chosen glyphs.
 fn file_of_choice(
     alloc: Global,
     face: &Face<'_>,
@@ -204,13 +204,13 @@ fn file_of_choice(
     file_with(alloc, face, &made)
 }
 
-/// Tells of the glyphs that come along, and of the tables that are left out.
+/// Reports the added glyphs and the dropped tables.
 fn tell(rt: &HostRuntime, face: &Face<'_>, kept: &Kept) -> Result<(), Failure> {
     kept.tell(rt)?;
     leaving::tell(rt, &face.file)
 }
 
-/// Writes a file of a choice and of the glyphs that it is drawn with.
+/// Writes the file of the chosen glyphs and their components.
 fn write_choice<W: Write>(
     rt: &HostRuntime,
     face: &Face<'_>,
@@ -228,8 +228,8 @@ fn write_choice<W: Write>(
     saving::put(rt, words, &file, out)
 }
 
-/// Writes a file of the glyphs that words name and of those that these are drawn with, where the run of each keeps to the limit. It
-/// tells of the latter, and of the tables that are left out, unless it is to be quiet.
+/// Writes the file of the chosen glyphs and their components. It fails if one of them costs more than the limit.
+/// Without `--quiet` it reports added glyphs and dropped tables.
 pub fn write<W: Write>(
     rt: &HostRuntime,
     face: &Face<'_>,

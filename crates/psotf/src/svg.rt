@@ -1,4 +1,4 @@
-//! Lines of text as pictures.
+//! The command `svg`: a glyph or a line of text as a picture.
 use crate::characters::missing;
 use crate::failure::Failure;
 use crate::glyphs::Glyphs;
@@ -13,10 +13,10 @@ use std::alloc::{AllocError, Global};
 use std::fmt::Display;
 use std::io::Write;
 
-/// The namespace of the elements of pictures.
+/// The namespace of SVG elements.
 pub const SVG: &str = "http://www.w3.org/2000/svg";
 
-/// Adds the path of a glyph so far to the right.
+/// Adds the path of a glyph at the position `x`.
 pub fn put_path<N: Display + Drop>(picture: &mut Text, x: N, outline: &Outline) {
     picture.push_str("<path transform=\"translate(");
     picture.write_fmt(x);
@@ -25,7 +25,7 @@ pub fn put_path<N: Display + Drop>(picture: &mut Text, x: N, outline: &Outline) 
     picture.push_str("\"/>\n");
 }
 
-/// Adds the path of a glyph so far to the right, and tells its advance.
+/// Adds the path of a glyph at the position `x`. Returns its advance.
 fn put<G: Glyphs>(
     alloc: Global,
     glyphs: &G,
@@ -46,7 +46,7 @@ fn put<G: Glyphs>(
     }
 }
 
-/// Adds the paths of a text, and tells its width.
+/// Adds the paths of a text. Returns its width.
 fn put_text<G: Glyphs>(
     alloc: Global,
     glyphs: &G,
@@ -68,8 +68,8 @@ fn put_text<G: Glyphs>(
     Ok(x)
 }
 
-/// Refuses a text of which a character has no glyph, unless words say that those are drawn as `.notdef`: these are told on standard error
-/// then.
+/// Fails if a text has characters without a glyph. With `--missing draw` they are reported on standard error and drawn
+/// as `.notdef`.
 fn see_missing(
     rt: &HostRuntime,
     map: &Option<CharacterMap<'_>>,
@@ -87,7 +87,7 @@ fn see_missing(
     Ok(())
 }
 
-/// Adds the path of the glyph or the paths of the text that words name, and tells the width.
+/// Adds the path of the chosen glyph, or the paths of the text. Returns the width.
 fn put_named<G: Glyphs>(
     rt: &HostRuntime,
     glyphs: &G,
@@ -103,7 +103,7 @@ fn put_named<G: Glyphs>(
     put_text(rt.alloc(), glyphs, text, budget, picture)
 }
 
-/// A picture so wide of paths that stand on a line, in so many units to the em.
+/// Returns a picture of paths on a line, with `units` units per em.
 pub fn picture_of<N: Display>(
     alloc: Global,
     units: u16,
@@ -118,7 +118,7 @@ pub fn picture_of<N: Display>(
     )
 }
 
-/// Writes a picture of the glyph or the text that words name.
+/// Writes a picture of the chosen glyph or text.
 pub fn write<G: Glyphs, W: Write>(
     rt: &HostRuntime,
     glyphs: &G,

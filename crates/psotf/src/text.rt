@@ -1,4 +1,4 @@
-//! Texts that are put together.
+//! Texts that are built piece by piece.
 use crate::failure::Failure;
 use crate::telling;
 use postscript_sfnt::Name;
@@ -6,7 +6,7 @@ use std::alloc::{AllocError, Global};
 use std::fmt::Display;
 use std::io::Write;
 
-/// A text that is put together piece by piece. Where memory fails it keeps that, takes nothing more, and tells it at its end.
+/// A text that is built piece by piece. After a failed allocation it takes nothing more, and fails at its end.
 #[derive(Drop)]
 pub struct Text {
     text: String,
@@ -14,7 +14,7 @@ pub struct Text {
 }
 
 impl Text {
-    /// A text in which nothing stands.
+    /// Returns an empty text.
     pub fn new(alloc: Global) -> Text {
         Text {
             text: String::new(alloc),
@@ -22,19 +22,17 @@ impl Text {
         }
     }
 
-    /// Takes out all that stands in it. That memory failed is kept.
+    /// Removes all characters. A failure stays.
     pub fn clear(&mut self) {
         self.text.clear();
     }
 
-    /// Adds a character.
     pub fn push(&mut self, char: char) {
         if !self.failed {
             self.failed = self.text.push(char).is_err();
         }
     }
 
-    /// Adds a text.
     pub fn push_str(&mut self, text: &str) {
         if !self.failed {
             self.failed = self.text.push_str(text).is_err();
@@ -48,12 +46,11 @@ impl Text {
         }
     }
 
-    /// Adds a whole number.
     pub fn put_number(&mut self, number: u64) {
         self.write_fmt(number);
     }
 
-    /// Adds a line of a number behind its label.
+    /// Adds a line with a label and a number.
     pub fn put_count(&mut self, label: &str, count: u64) {
         self.push_str(label);
         self.push_str(": ");
@@ -61,7 +58,7 @@ impl Text {
         self.push('\n');
     }
 
-    /// Adds a line of a word behind its label.
+    /// Adds a line with a label and a word.
     pub fn put_word(&mut self, label: &str, word: &str) {
         self.push_str(label);
         self.push_str(": ");
@@ -78,7 +75,7 @@ impl Text {
         }
     }
 
-    /// Adds a line of a name behind its label.
+    /// Adds a line with a label and a name.
     pub fn put_named(&mut self, label: &str, name: Option<Name<'_>>) {
         self.push_str(label);
         self.push_str(": ");
@@ -86,19 +83,19 @@ impl Text {
         self.push('\n');
     }
 
-    /// Adds a character as U+ and its number.
+    /// Adds a character as `U+` and its number.
     pub fn put_character(&mut self, char: u32) {
         write!(self, "U+{char:04X}");
     }
 
-    /// Adds bytes as hex digits.
+    /// Adds bytes in hexadecimal.
     pub fn put_hex(&mut self, bytes: &[u8]) {
         for byte in bytes {
             write!(self, "{byte:02x}");
         }
     }
 
-    /// Adds what was made of memory, or keeps that it failed.
+    /// Adds a string that was allocated, or keeps that this failed.
     pub fn put_made(&mut self, made: Result<String, AllocError>) {
         match made {
             Ok(made) => self.push_str(made.as_str()),
@@ -106,7 +103,7 @@ impl Text {
         }
     }
 
-    /// Adds bytes as UTF-8. Invalid ones are replaced by U+FFFD, and control characters by `?`.
+    /// Adds bytes as UTF-8. Invalid bytes become U+FFFD, and control characters become `?`.
     pub fn put_printable(&mut self, alloc: Global, bytes: &[u8]) {
         match String::from_utf8_lossy(alloc, bytes) {
             Ok(made) => {
@@ -118,7 +115,7 @@ impl Text {
         }
     }
 
-    /// A number that took memory to find; or 0, and keeps that it failed.
+    /// Returns a number that took memory to find. After a failed allocation it is 0, and the text fails.
     pub fn found(&mut self, number: Result<u64, AllocError>) -> u64 {
         match number {
             Ok(number) => number,
@@ -129,27 +126,24 @@ impl Text {
         }
     }
 
-    /// Memory failed that the text takes.
+    /// Marks the text as failed.
     pub fn fail(&mut self) {
         self.failed = true;
     }
 
-    /// Whether memory failed.
     pub fn has_failed(&self) -> bool {
         self.failed
     }
 
-    /// Whether nothing stands in it.
     pub fn is_empty(&self) -> bool {
         self.text.is_empty()
     }
 
-    /// What stands in it so far.
     pub fn as_str(&self) -> &str {
         self.text.as_str()
     }
 
-    /// The whole text.
+    /// Returns the text.
     pub fn end(self) -> Result<String, AllocError> {
         if self.failed {
             return Err(AllocError);
@@ -157,7 +151,7 @@ impl Text {
         Ok(self.text)
     }
 
-    /// Writes the lines that stand in it, and takes them out. Where memory failed, nothing is written of the line that it failed in.
+    /// Writes the text and clears it. After a failed allocation it writes only the complete lines, and fails.
     pub fn end_in<W: Write>(&mut self, out: &mut W) -> Result<(), Failure> {
         if !self.failed {
             telling::put(out, self.text.as_bytes())?;

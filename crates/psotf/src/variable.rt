@@ -1,4 +1,4 @@
-//! Variable fonts: faces whose outlines stand in the table CFF2.
+//! Variable fonts: fonts with outlines in a `CFF2` table.
 mod fixed;
 mod glyphs;
 mod holds;
@@ -19,21 +19,21 @@ use postscript_variation::{AdvanceVariations, Axes, Maps};
 use std::io::Write;
 use weight::heavy_table;
 
-/// A face of a file with a table `CFF2`.
+/// A font of a file, with a `CFF2` table.
 #[derive(Clone, Copy)]
 pub struct VariableFace<'l> {
     pub file: FontFile<'l>,
     pub common: Common<'l>,
     pub font: Font<'l>,
-    /// What `fvar` tells. A face without it has no axes.
+    /// The axes of `fvar`. Without that table the font has no axes.
     pub axes: Option<Axes<'l>>,
-    /// What `avar` tells.
+    /// The `avar` table.
     pub maps: Option<Maps<'l>>,
-    /// What `HVAR` tells.
+    /// The `HVAR` table.
     pub advances: Option<AdvanceVariations<'l>>,
 }
 
-/// What a table of variations is read as, or that it is refused.
+/// Returns a table of variations that was read, or its error.
 pub fn read_as<T>(name: &'static str, read: postscript_variation::Result<T>) -> Result<T, Failure> {
     match read {
         Ok(read) => Ok(read),
@@ -42,7 +42,8 @@ pub fn read_as<T>(name: &'static str, read: postscript_variation::Result<T>) -> 
 }
 
 impl<'l> VariableFace<'l> {
-    /// The face of a file. None where it has no table `CFF2`, or a table `CFF ` too. Refused too where a table makes too much work.
+    /// Reads a font of a file. Returns `None` if it has no `CFF2` table, or also has a `CFF ` table. It fails if a
+    /// table is invalid or too expensive to process.
     pub fn open(file: &FontFile<'l>) -> Result<Option<VariableFace<'l>>, Failure> {
         let Some(cff2) = file.table(*b"CFF2") else {
             return Ok(None);
@@ -77,14 +78,15 @@ impl<'l> VariableFace<'l> {
     }
 }
 
-/// Whether words name a place, or an axis to go through.
+/// Returns whether the arguments select an instance or an axis.
 fn names_place(words: &ArgMatches<'_>) -> bool {
     words.get_str("variations").is_some()
         || words.get_str("instance").is_some()
         || words.get_str("animate").is_some()
 }
 
-/// Refuses an instance, and words that name a place, where the face is of no variable font.
+/// Fails for `instance`, and for arguments that select an instance or an axis. It is called for fonts that are not
+/// variable.
 pub fn refuse(name: &str, words: &ArgMatches<'_>) -> Result<(), Failure> {
     if name == "instance" {
         return Err(Failure::no_places());
@@ -97,12 +99,12 @@ pub fn refuse(name: &str, words: &ArgMatches<'_>) -> Result<(), Failure> {
     Ok(())
 }
 
-/// Whether a subcommand is about the face of a variable font itself.
+/// Returns whether a subcommand reads a variable font directly.
 pub fn is_asked(name: &str) -> bool {
     matches!(name, "inspect" | "glyph" | "svg" | "instance")
 }
 
-/// Writes what is asked of a face of a variable font itself.
+/// Runs a subcommand that reads a variable font directly.
 pub fn write<W: Write>(
     rt: &HostRuntime,
     face: &VariableFace<'_>,

@@ -1,15 +1,14 @@
-//! How much work a table `CFF ` makes, before it is read.
+//! The amount of work that a `CFF ` table makes, computed before the font is read.
 use postscript_base::compact1::{Operations, Operator};
 use postscript_base::index::IndexView;
 use postscript_compact1::font_set::operands::{bounds, place_at};
 use postscript_view::tables::{header_size, operations_of};
 use std::alloc::Global;
 
-/// How many bytes the font dictionaries and their private dictionaries may have together: each is read for itself, also where they
-/// share bytes.
+/// The most bytes of Font DICTs and their Private DICTs. Each is read separately, even if they overlap.
 const MOST: u64 = 20_000_000;
 
-/// The dictionary of the first font.
+/// Returns the Top DICT of the first font.
 pub fn dictionary_of(alloc: Global, cff: &[u8]) -> Option<Operations> {
     let size = header_size(cff).ok()?;
     let (_names, place) = IndexView::open(cff, size).ok()?;
@@ -17,7 +16,7 @@ pub fn dictionary_of(alloc: Global, cff: &[u8]) -> Option<Operations> {
     operations_of(alloc, dictionaries.get(0)?).ok()
 }
 
-/// Where a part stands that an operator names.
+/// Returns the offset of the part that an operator names.
 fn named(cff: &[u8], dictionary: &Operations, operator: Operator) -> Option<usize> {
     let place = place_at(0, 0, dictionary, operator).ok()?;
     if place > cff.len() as u64 {
@@ -26,7 +25,7 @@ fn named(cff: &[u8], dictionary: &Operations, operator: Operator) -> Option<usiz
     Some(place as usize)
 }
 
-/// The items of an INDEX that an operator names.
+/// Returns the INDEX that an operator names.
 fn items_of<'l>(
     cff: &'l [u8],
     dictionary: &Operations,
@@ -36,7 +35,7 @@ fn items_of<'l>(
     Some(items)
 }
 
-/// The font dictionaries, where the font is CID-keyed.
+/// Returns the Font DICT INDEX, if the font is CID-keyed.
 fn font_dictionaries<'l>(cff: &'l [u8], dictionary: &Operations) -> Option<IndexView<'l>> {
     if dictionary.get(Operator::ROS).is_none() {
         return None;
@@ -44,7 +43,7 @@ fn font_dictionaries<'l>(cff: &'l [u8], dictionary: &Operations) -> Option<Index
     items_of(cff, dictionary, Operator::FDArray)
 }
 
-/// How many bytes the private dictionary has that a font dictionary names.
+/// Returns the size of the Private DICT that a Font DICT names.
 fn private_size(alloc: Global, cff: &[u8], item: &[u8]) -> u64 {
     let Ok(dictionary) = operations_of(alloc, item) else {
         return 0;
@@ -55,7 +54,7 @@ fn private_size(alloc: Global, cff: &[u8], item: &[u8]) -> u64 {
     }
 }
 
-/// Whether the font dictionaries and their private dictionaries have more bytes together than are read here.
+/// Returns whether the Font DICTs and their Private DICTs have too many bytes.
 pub fn is_too_much(alloc: Global, cff: &[u8]) -> bool {
     let Some(dictionary) = dictionary_of(alloc, cff) else {
         return false;

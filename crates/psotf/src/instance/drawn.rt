@@ -1,4 +1,4 @@
-//! The glyphs of a place, drawn within the limit and measured.
+//! The glyphs of an instance, drawn within the limit and measured.
 use crate::failure::{Failure, Refusal};
 use crate::limit::Budget;
 use crate::progress::Progress;
@@ -10,10 +10,10 @@ use postscript_type2::Operand;
 use postscript_variable_drawing::draw_glyph;
 use std::alloc::Global;
 
-/// What part of the limit the run of a glyph may take here: all its operations are held while it is written.
+/// The part of the limit that a glyph may cost here, since all its operations are kept in memory while it is written.
 const HELD: u64 = 10;
 
-/// A rectangle in whole units of the em.
+/// A rectangle in whole font units.
 #[derive(Clone, Copy)]
 pub struct Frame {
     pub left: i64,
@@ -23,7 +23,7 @@ pub struct Frame {
 }
 
 impl Frame {
-    /// That of nothing.
+    /// The empty rectangle at the origin.
     pub const NONE: Frame = Frame {
         left: 0,
         bottom: 0,
@@ -31,7 +31,7 @@ impl Frame {
         top: 0,
     };
 
-    /// The smallest one round bounds in 65536ths.
+    /// Returns the smallest rectangle around bounds in 65536ths.
     fn round(bounds: Bounds) -> Frame {
         Frame {
             left: i64::from(bounds.low.x).div_euclid(65536),
@@ -45,7 +45,7 @@ impl Frame {
         }
     }
 
-    /// The smallest one round both.
+    /// Returns the smallest rectangle around both.
     fn with(self, other: Frame) -> Frame {
         Frame {
             left: self.left.min(other.left),
@@ -56,28 +56,29 @@ impl Frame {
     }
 }
 
-/// What the glyphs of a place measure.
+/// The metrics of the glyphs of an instance.
 #[derive(Drop)]
 pub struct Drawn {
     /// The advance and the left side bearing of each glyph.
     pub metrics: Vec<Metric>,
     /// The advance of each glyph.
     pub widths: Vec<Operand>,
-    /// Round all glyphs. None where none has a contour.
+    /// The rectangle around all glyphs. `None` if no glyph has a contour.
     pub frame: Option<Frame>,
-    /// The least of the right side bearings of glyphs with contours.
+    /// The smallest right side bearing of glyphs with contours.
     pub least_right: i64,
-    /// Whether each point is at the nearest whole units.
+    /// Whether points are rounded to whole units.
     pub is_rounded: bool,
 }
 
-/// The nearest whole units to 65536ths, halves up, in 65536ths; where they are out of the range, the place itself, which is refused later.
+/// Rounds 65536ths to whole units, halves up. A value whose result is out of range is returned unchanged, and is
+/// rejected later.
 fn nearest(bits: i32) -> i32 {
     let up = i64::from(bits) + 32768;
     i32::try_from(up - up.rem_euclid(65536)).unwrap_or(bits)
 }
 
-/// A point at the nearest whole units.
+/// Rounds a point to whole units.
 fn nearest_point(point: Point) -> Point {
     Point {
         x: nearest(point.x),
@@ -85,7 +86,7 @@ fn nearest_point(point: Point) -> Point {
     }
 }
 
-/// A segment whose points are at the nearest whole units.
+/// Rounds the points of a segment to whole units.
 fn nearest_segment(segment: Segment) -> Segment {
     match segment {
         Segment::MoveTo(at) => Segment::MoveTo(nearest_point(at)),
@@ -122,7 +123,7 @@ fn draw_into(
     }
 }
 
-/// Round what a glyph draws, within its share. None where it draws nothing.
+/// Returns the rectangle around a glyph, within its share. Returns `None` if it draws nothing.
 fn frame_of(
     alloc: Global,
     face: &VariableFace<'_>,
@@ -147,7 +148,7 @@ fn frame_of(
     Ok(outline.tight_bounds().map(Frame::round))
 }
 
-/// The advances of a face at a place.
+/// Returns the advances of a font at a location.
 pub fn advances_at<'m>(face: &'m VariableFace<'_>, chosen: &'m Chosen) -> AdvancesAt<'m> {
     AdvancesAt {
         default: face.common.advances,
@@ -156,7 +157,7 @@ pub fn advances_at<'m>(face: &'m VariableFace<'_>, chosen: &'m Chosen) -> Advanc
     }
 }
 
-/// The advances of all glyphs, where charstrings have room for them.
+/// Returns the advances of all glyphs. It fails if a charstring cannot hold one.
 fn widths_of(
     alloc: Global,
     face: &VariableFace<'_>,
@@ -174,7 +175,7 @@ fn widths_of(
     }
 }
 
-/// An advance that is from 0 to 32767, in whole units.
+/// Converts an advance from 0 to 32767 to whole units.
 fn whole(width: Operand) -> u16 {
     match width.to_int() {
         Some(width) => width.cast_unsigned(),
@@ -183,7 +184,6 @@ fn whole(width: Operand) -> u16 {
 }
 
 impl Drawn {
-    /// Adds a glyph.
     fn put(&mut self, width: u16, frame: Option<Frame>) -> Result<(), Failure> {
         let bearing = match frame {
             Some(frame) => frame.left.max(-32768).min(32767) as i16,
@@ -204,7 +204,7 @@ impl Drawn {
         Ok(())
     }
 
-    /// Draws each of so many glyphs, and measures it. The first one is refused that takes more than its share, or whose run is refused.
+    /// Draws and measures `glyphs` glyphs. It fails at the first glyph that has an error or costs more than its share.
     fn put_each(
         &mut self,
         rt: &HostRuntime,
@@ -227,8 +227,8 @@ impl Drawn {
         Ok(())
     }
 
-    /// Draws each glyph at a place, where it is asked for with each point at the nearest whole units, and measures it. The first one is
-    /// refused whose advance a charstring has no room for; then the first one whose run is refused.
+    /// Draws and measures each glyph at a location, with rounded points if `is_rounded` is true. It fails at the first
+    /// glyph whose advance a charstring cannot hold, and then at the first glyph with an error.
     pub fn of(
         rt: &HostRuntime,
         face: &VariableFace<'_>,

@@ -1,27 +1,27 @@
-//! Bytes that are taken out of a table, and the offsets that lead over them.
+//! Removal of bytes from a table, and adjustment of the offsets across them.
 use super::values::{set_word, word};
 use std::alloc::{AllocError, Global};
 
-/// What is done with a byte of a table.
+/// The treatment of a byte of a table.
 #[derive(Clone, Copy)]
 enum Byte {
     Kept,
     Gone,
-    /// An offset of two bytes begins here, and counts from this place.
+    /// A two-byte offset begins here. It counts from this base.
     Offset(u32),
-    /// An offset of four bytes.
+    /// A four-byte offset.
     LongOffset(u32),
 }
 
-/// What is done with the bytes of a table.
+/// The treatment of all bytes of a table.
 #[derive(Drop)]
 pub struct Gaps {
     bytes: Vec<Byte>,
-    /// Whether each offset of the table is known.
+    /// Whether all offsets of the table are known.
     is_known: bool,
 }
 
-/// Where the bytes come to stand, and the one behind them.
+/// Returns the new offset of each byte, and of the end.
 fn places_of(alloc: Global, bytes: &[Byte]) -> Result<Vec<u32>, AllocError> {
     let mut places = Vec::new(alloc);
     let mut place = 0u32;
@@ -36,7 +36,7 @@ fn places_of(alloc: Global, bytes: &[Byte]) -> Result<Vec<u32>, AllocError> {
     Ok(places)
 }
 
-/// An offset that counts from a place, when bytes come to stand elsewhere. One that leads out of the table stays, and so does 0.
+/// Returns an offset from a base, adjusted to the new offsets. An offset out of the table is unchanged, and so is 0.
 fn moved(places: &[u32], base: u32, offset: u32) -> u32 {
     let target = base.saturating_add(offset) as usize;
     match (places.get(base as usize), places.get(target)) {
@@ -46,7 +46,7 @@ fn moved(places: &[u32], base: u32, offset: u32) -> u32 {
 }
 
 impl Gaps {
-    /// None, in a table of so many bytes.
+    /// Removes nothing from a table with `size` bytes.
     pub fn new(alloc: Global, size: usize) -> Result<Gaps, AllocError> {
         let mut bytes = Vec::new(alloc);
         bytes.resize(size, Byte::Kept)?;
@@ -56,19 +56,19 @@ impl Gaps {
         })
     }
 
-    /// Says what is done with a byte.
+    /// Sets the treatment of a byte.
     fn set(&mut self, place: usize, what: Byte) {
         if let Some(byte) = self.bytes.get_mut(place) {
             *byte = what;
         }
     }
 
-    /// An offset of two bytes stands at a place.
+    /// Records a two-byte offset at `place`.
     pub fn offset(&mut self, base: usize, place: usize) {
         self.set(place, Byte::Offset(u32::try_from(base).unwrap_or(u32::MAX)));
     }
 
-    /// An offset of four bytes stands at a place.
+    /// Records a four-byte offset at `place`.
     pub fn long_offset(&mut self, base: usize, place: usize) {
         self.set(
             place,
@@ -76,19 +76,19 @@ impl Gaps {
         );
     }
 
-    /// Bytes are taken out.
+    /// Removes `size` bytes.
     pub fn take_out(&mut self, place: usize, size: usize) {
         for i in 0..size {
             self.set(place.saturating_add(i), Byte::Gone);
         }
     }
 
-    /// A part of the table has offsets that are not known, so that nothing is taken out.
+    /// Keeps all bytes, since a part of the table has unknown offsets.
     pub fn keep_all(&mut self) {
         self.is_known = false;
     }
 
-    /// Writes the offsets as they are when the bytes come to stand at these places.
+    /// Writes the adjusted offsets.
     fn lead_over(&self, table: &mut Vec<u8>, places: &[u32]) {
         for place in 0..self.bytes.len() {
             match self.bytes[place] {
@@ -108,7 +108,7 @@ impl Gaps {
         }
     }
 
-    /// The table without the bytes that are taken out.
+    /// Returns the table without the removed bytes.
     pub fn close(self, alloc: Global, mut table: Vec<u8>) -> Result<Vec<u8>, AllocError> {
         if !self.is_known {
             return Ok(table);

@@ -1,22 +1,22 @@
-//! The names of glyphs that a file of one place keeps.
+//! The glyph names that a static font keeps.
 use crate::variable::VariableFace;
 use postscript_sfnt::GlyphNames;
 use std::alloc::{AllocError, Global};
 
-/// The most names that a table `CFF ` is given.
+/// The most names of a `CFF ` table.
 const MOST: usize = 64000;
 
 /// The names that are kept, or why none are.
 #[derive(Drop)]
 pub enum Kept<'l> {
     Names(Vec<&'l [u8]>),
-    /// The face tells none.
+    /// The font has no glyph names.
     Untold,
     Lost(&'static str),
 }
 
 impl<'l> Kept<'l> {
-    /// Those that are kept.
+    /// Returns the names that are kept.
     pub fn names(&self) -> Option<&[&'l [u8]]> {
         match self {
             Kept::Names(names) => Some(names.as_slice()),
@@ -24,7 +24,7 @@ impl<'l> Kept<'l> {
         }
     }
 
-    /// Why names are lost, where they are.
+    /// Returns why names are dropped, if they are.
     pub fn lost(&self) -> Option<&'static str> {
         match self {
             Kept::Lost(why) => Some(*why),
@@ -33,7 +33,8 @@ impl<'l> Kept<'l> {
     }
 }
 
-/// Whether a name is one of PostScript (Technical Note 5176, "Name INDEX"): of up to 127 signs of ASCII, without space or delimiters.
+/// Returns whether a name is a PostScript name (Technical Note 5176, "Name INDEX"): up to 127 ASCII characters without
+/// spaces and delimiters.
 fn is_fit(name: &[u8]) -> bool {
     if name.is_empty() || name.len() > 127 {
         return false;
@@ -46,7 +47,7 @@ fn is_fit(name: &[u8]) -> bool {
     true
 }
 
-/// The names of so many glyphs. None where one has none, or one that does not fit.
+/// Returns the names of `glyphs` glyphs. Returns `None` if a glyph has no name, or one that is not allowed.
 fn all<'l>(
     alloc: Global,
     names: &GlyphNames<'l>,
@@ -62,7 +63,7 @@ fn all<'l>(
     Ok(Some(all))
 }
 
-/// Whether two names side by side are the same.
+/// Returns whether two adjacent names are equal.
 fn are_twins(sorted: &[&[u8]]) -> bool {
     for pair in sorted.windows(2) {
         if pair[0] == pair[1] {
@@ -72,14 +73,14 @@ fn are_twins(sorted: &[&[u8]]) -> bool {
     false
 }
 
-/// Whether two names are the same.
+/// Returns whether two names are equal.
 fn has_twins(alloc: Global, names: &[&[u8]]) -> Result<bool, AllocError> {
     let mut sorted: Vec<&[u8]> = Vec::from_slice(alloc, names)?;
     sorted.sort()?;
     Ok(are_twins(sorted.as_slice()))
 }
 
-/// Names that a font has room for, and which differ.
+/// Checks that there are not too many names, that the first is `.notdef`, and that all differ.
 fn fit<'l>(alloc: Global, names: Vec<&'l [u8]>) -> Result<Kept<'l>, AllocError> {
     if names.len() > MOST {
         return Ok(Kept::Lost("there are too many names"));
@@ -93,8 +94,8 @@ fn fit<'l>(alloc: Global, names: Vec<&'l [u8]>) -> Result<Kept<'l>, AllocError> 
     Ok(Kept::Names(names))
 }
 
-/// The names that the table `post` of a face tells of its glyphs. A table `CFF ` with names has one Private DICT, so they are lost
-/// where the face has several Font DICTs.
+/// Returns the glyph names in the `post` table. A `CFF ` table with names has one Private DICT, so the names are
+/// dropped if the font has several Font DICTs.
 pub fn names_of<'l>(alloc: Global, face: &VariableFace<'l>) -> Result<Kept<'l>, AllocError> {
     let Some(post) = face.file.table(*b"post") else {
         return Ok(Kept::Untold);

@@ -1,4 +1,4 @@
-//! Which tables a file of one place keeps of the face.
+//! The tables that a static font copies.
 use super::values::word;
 use crate::failure::Failure;
 use crate::leaving::put_tag;
@@ -11,21 +11,21 @@ use postscript_sfnt::FontFile;
 use postscript_sfnt_write::Table;
 use std::alloc::{AllocError, Global};
 
-/// Where a table stays as it is.
+/// The condition for copying a table.
 #[derive(Clone, Copy)]
 enum Where {
     Always,
-    /// It names no table of variations: its minor version is below this one, or no place of one stands there.
+    /// The table has no offset of a variation store: its minor version is lower, or the offset at this position is 0.
     Still(u16, usize),
-    /// The same, and `GDEF` names no store, which its device tables would vary by.
+    /// The same, and `GDEF` has no variation store for the device tables.
     StillByDevices(u16, usize),
     /// Its major version is 0.
     First,
-    /// There is no table `VVAR`.
+    /// There is no `VVAR` table.
     Upright,
 }
 
-/// The tables that stay as they are, and where.
+/// The tables that are copied, with their conditions.
 const SAME: [([u8; 4], Where); 15] = [
     (*b"BASE", Where::Still(1, 8)),
     (*b"COLR", Where::First),
@@ -44,12 +44,12 @@ const SAME: [([u8; 4], Where); 15] = [
     (*b"vmtx", Where::Upright),
 ];
 
-/// The tags of tables that tell how a font varies, and of the signature of the file.
+/// The tags of the tables about variations, and of the digital signature.
 const GONE: [[u8; 4]; 9] = [
     *b"CFF2", *b"DSIG", *b"HVAR", *b"MVAR", *b"STAT", *b"VVAR", *b"avar", *b"cvar", *b"fvar",
 ];
 
-/// Tags of tables, and what is lost with each.
+/// Tags of tables, and the features that are lost with them.
 const LOST: [([u8; 4], &str); 5] = [
     (*b"GPOS", "kerning and mark positions"),
     (*b"GSUB", "ligatures and other substitutions"),
@@ -58,12 +58,12 @@ const LOST: [([u8; 4], &str); 5] = [
     (*b"COLR", "colours"),
 ];
 
-/// Whether a table names no table of variations at a place, which stands from a minor version on.
+/// Returns whether a table has no variation store: its offset is at `place`, from a minor version on.
 fn is_still(table: &[u8], minor: u16, place: usize) -> bool {
     word(table, 2) < minor || number_within(table, place, 4).unwrap_or(1) == 0
 }
 
-/// Whether `GDEF` names no store of variations.
+/// Returns whether `GDEF` has no variation store.
 fn has_no_store(file: &FontFile<'_>) -> bool {
     match file.table(*b"GDEF") {
         Some(table) => is_still(table, 3, 14),
@@ -71,7 +71,7 @@ fn has_no_store(file: &FontFile<'_>) -> bool {
     }
 }
 
-/// A table of a tag that stays as it is.
+/// Returns a table if it is copied.
 fn kept<'l>(file: &FontFile<'l>, tag: [u8; 4], condition: Where) -> Option<&'l [u8]> {
     let table = file.table(tag)?;
     let stays = match condition {
@@ -86,7 +86,7 @@ fn kept<'l>(file: &FontFile<'l>, tag: [u8; 4], condition: Where) -> Option<&'l [
     if stays { Some(table) } else { None }
 }
 
-/// Adds the tables that stay as they are.
+/// Adds the tables that are copied.
 pub fn put<'l>(tables: &mut Vec<Table<'l>>, face: &VariableFace<'l>) -> Result<(), AllocError> {
     for (tag, condition) in &SAME {
         if let Some(bytes) = kept(&face.file, *tag, *condition) {
@@ -97,7 +97,7 @@ pub fn put<'l>(tables: &mut Vec<Table<'l>>, face: &VariableFace<'l>) -> Result<(
     Ok(())
 }
 
-/// Whether a table of a tag stays as it is.
+/// Returns whether a table is copied.
 fn stays(file: &FontFile<'_>, tag: [u8; 4]) -> bool {
     for (same, condition) in &SAME {
         if *same == tag {
@@ -107,12 +107,12 @@ fn stays(file: &FontFile<'_>, tag: [u8; 4]) -> bool {
     false
 }
 
-/// Whether a table of a tag is left out, and is to be told of.
+/// Returns whether a table is dropped and reported.
 fn is_left_out(file: &FontFile<'_>, made: &Made, tag: [u8; 4]) -> bool {
     !GONE.contains(&tag) && !made.has(tag) && !stays(file, tag)
 }
 
-/// The tags of the tables that are left out, each behind a space.
+/// Returns the tags of the dropped tables, with a space before each.
 fn tags(alloc: Global, file: &FontFile<'_>, made: &Made) -> Result<String, AllocError> {
     let mut text = Text::new(alloc);
     for i in 0..file.tables() {
@@ -124,7 +124,7 @@ fn tags(alloc: Global, file: &FontFile<'_>, made: &Made) -> Result<String, Alloc
     text.end()
 }
 
-/// What is lost with the tables that are left out.
+/// Returns the features that are lost with the dropped tables.
 fn lost(alloc: Global, file: &FontFile<'_>, made: &Made) -> Result<String, AllocError> {
     let mut text = Text::new(alloc);
     for (tag, what) in &LOST {
@@ -140,7 +140,7 @@ fn lost(alloc: Global, file: &FontFile<'_>, made: &Made) -> Result<String, Alloc
     text.end()
 }
 
-/// Tells on standard error, in one line, which tables are left out, and what is lost with them.
+/// Reports on standard error, in one line, the dropped tables and the lost features.
 pub fn tell(rt: &HostRuntime, face: &VariableFace<'_>, made: &Made) -> Result<(), Failure> {
     let tags = tags(rt.alloc(), &face.file, made)?;
     if tags.is_empty() {

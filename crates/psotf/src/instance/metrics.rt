@@ -1,4 +1,4 @@
-//! The tables that are made of those of the face, for a place.
+//! The tables of an instance that are made from those of the variable font.
 use super::drawn::{Drawn, Frame};
 use super::records::names_of;
 use super::style::Style;
@@ -12,13 +12,13 @@ use postscript_sfnt_write::{
 use postscript_variation::MetricVariations;
 use std::alloc::{AllocError, Global};
 
-/// A table `maxp` of version 0.5, of no glyphs.
+/// A `maxp` table of version 0.5, for no glyphs.
 const MAXP: [u8; 6] = [0, 0, 0x50, 0, 0, 0];
 
-/// From which widths on, in quarters of a percent, the next width class is nearer.
+/// The lowest widths of the width classes from 2 on, in quarters of a percent.
 const WIDTHS: [i64; 8] = [225, 275, 325, 375, 425, 475, 550, 700];
 
-/// Where the place stands along the axis of a tag, in 65536ths. None where the face has no such axis.
+/// Returns the value of the axis with a tag, in 65536ths. Returns `None` if the font has no such axis.
 fn value_along(face: &VariableFace<'_>, chosen: &Chosen, tag: [u8; 4]) -> Option<i64> {
     let axes = face.axes.as_ref()?;
     for i in 0..axes.len() {
@@ -31,7 +31,7 @@ fn value_along(face: &VariableFace<'_>, chosen: &Chosen, tag: [u8; 4]) -> Option
     None
 }
 
-/// The width class of a width in 65536ths of a percent.
+/// Returns the width class of a width in 65536ths of a percent.
 fn width_class(width: i64) -> u16 {
     let mut class = 1u16;
     for least in &WIDTHS {
@@ -42,7 +42,7 @@ fn width_class(width: i64) -> u16 {
     class
 }
 
-/// The average of the advances that are not 0, to the nearest unit; 0 where all are.
+/// Returns the average of the advances that are not 0, rounded to the nearest unit. Returns 0 if all are 0.
 fn average(metrics: &[Metric]) -> i64 {
     let mut sum = 0i64;
     let mut count = 0i64;
@@ -57,7 +57,7 @@ fn average(metrics: &[Metric]) -> i64 {
         .unwrap_or(0)
 }
 
-/// The greatest advance.
+/// Returns the greatest advance.
 fn widest(metrics: &[Metric]) -> u16 {
     let mut widest = 0u16;
     for metric in metrics {
@@ -66,7 +66,7 @@ fn widest(metrics: &[Metric]) -> u16 {
     widest
 }
 
-/// What the tables of a place are made of.
+/// The sources of the tables of an instance.
 #[derive(Clone, Copy)]
 struct Maker<'m, 'l> {
     alloc: Global,
@@ -78,12 +78,12 @@ struct Maker<'m, 'l> {
 }
 
 impl<'m, 'l> Maker<'m, 'l> {
-    /// A table of the face, empty where it has none.
+    /// Returns a table of the variable font, or no bytes if there is none.
     fn old(&self, tag: [u8; 4]) -> &'l [u8] {
         self.face.file.table(tag).unwrap_or(&[])
     }
 
-    /// A copy of a table, with what its numbers vary by.
+    /// Returns a copy of a table with its varied numbers.
     fn varied(&self, table: &[u8], entries: &[Entry]) -> Result<Vec<u8>, AllocError> {
         let mut new = Vec::from_slice(self.alloc, table)?;
         vary(
@@ -95,7 +95,7 @@ impl<'m, 'l> Maker<'m, 'l> {
         Ok(new)
     }
 
-    /// The table `head`: the box round all glyphs, and whether the style is bold or italic.
+    /// Returns the `head` table, with the bounding box and the bold and italic bits.
     fn head(&self) -> Result<Vec<u8>, AllocError> {
         let mut head = self.varied(self.old(*b"head"), &[])?;
         let frame = self.drawn.frame.unwrap_or(Frame::NONE);
@@ -108,12 +108,12 @@ impl<'m, 'l> Maker<'m, 'l> {
         Ok(head)
     }
 
-    /// How many glyphs there are.
+    /// Returns the number of glyphs.
     fn count(&self) -> u16 {
         u16::try_from(self.drawn.metrics.len()).unwrap_or(u16::MAX)
     }
 
-    /// The table `hhea`, with the extremes of the metrics of glyphs.
+    /// Returns the `hhea` table, with the extremes of the metrics.
     fn hhea(&self) -> Result<Vec<u8>, Failure> {
         let mut hhea = self.varied(self.old(*b"hhea"), &HHEA)?;
         let frame = self.drawn.frame.unwrap_or(Frame::NONE);
@@ -124,7 +124,7 @@ impl<'m, 'l> Maker<'m, 'l> {
         Ok(with_number_of_metrics(self.alloc, &hhea, self.count())?)
     }
 
-    /// The table `OS/2`: the weight, the width, and whether the style is bold, italic or regular.
+    /// Returns the `OS/2` table, with the weight, the width, and the bold, italic and regular bits.
     fn os2(&self, old: &[u8]) -> Result<Vec<u8>, AllocError> {
         let mut table = self.varied(old, &OS2)?;
         if let Some(weight) = value_along(self.face, self.chosen, *b"wght") {
@@ -142,7 +142,7 @@ impl<'m, 'l> Maker<'m, 'l> {
         Ok(table)
     }
 
-    /// The table `post` without names of glyphs: the slant, and the line below.
+    /// Returns the `post` table without glyph names, with the slant and the underline.
     fn post(&self) -> Result<Vec<u8>, Failure> {
         let old = match self.old(*b"post") {
             old if old.len() >= 32 => old,
@@ -157,7 +157,7 @@ impl<'m, 'l> Maker<'m, 'l> {
         Ok(without_names(self.alloc, &post)?)
     }
 
-    /// Adds the tables that each face has.
+    /// Adds the tables that every font has.
     fn put_needed(&self, made: &mut Made) {
         made.put(*b"head", self.head());
         made.put(*b"hhea", self.hhea());
@@ -170,7 +170,7 @@ impl<'m, 'l> Maker<'m, 'l> {
         made.put(*b"post", self.post());
     }
 
-    /// Adds those that a face need not have.
+    /// Adds the optional tables.
     fn put_others(&self, made: &mut Made) {
         let file = self.face.file;
         if let Some(table) = file.table(*b"OS/2") {
@@ -182,7 +182,7 @@ impl<'m, 'l> Maker<'m, 'l> {
     }
 }
 
-/// Adds the tables of a place, but for the outlines.
+/// Adds the tables of an instance, except the outlines.
 pub fn put(
     made: &mut Made,
     alloc: Global,

@@ -1,6 +1,6 @@
-//! The tables `GDEF` and `GPOS` of a place (OpenType 1.9). What a number varies by is added to it where it stands; the device table
-//! that tells it is named no more, and taken out. An anchor without device tables has the shorter form. Where a part of `GPOS` is not
-//! known, no byte moves.
+//! The `GDEF` and `GPOS` tables of an instance (OpenType 1.9). The delta of each number is added to the number, and the
+//! offset of its device table becomes 0. The device table is removed. An anchor without device tables takes the shorter
+//! format. If a part of `GPOS` is unknown, no bytes are removed.
 use super::gaps::Gaps;
 use super::values::{set_signed, set_word, word};
 use crate::made::Made;
@@ -9,31 +9,31 @@ use postscript_base::index::number::number_within;
 use postscript_variation::{Store, in_whole};
 use std::alloc::{AllocError, Global};
 
-/// The most steps that are taken in a table.
+/// The most steps for one table.
 const STEPS: u64 = 50_000_000;
 
-/// The format of a device table that tells variations (VariationIndex).
+/// The format of a device table with variations (VariationIndex).
 const VARIATIONS: usize = 0x8000;
 
-/// The bits of a format of values: of a number, and of its device table.
+/// The bits of a value format: of a number, and of its device table.
 const PARTS: [(u16, u16); 4] = [(0x01, 0x10), (0x02, 0x20), (0x04, 0x40), (0x08, 0x80)];
 
-/// A place behind another one.
+/// Returns the sum of two offsets.
 fn behind(place: usize, more: usize) -> usize {
     place.saturating_add(more)
 }
 
-/// A place behind so many numbers of two bytes.
+/// Returns the offset after `count` two-byte numbers.
 fn words(place: usize, count: usize) -> usize {
     place.saturating_add(count.saturating_mul(2))
 }
 
-/// Where the offset of a record stands that has a tag before it, in a list that begins with a count.
+/// Returns the offset of the offset field of a record with a tag, in a list that begins with a count.
 fn record(list: usize, i: usize) -> usize {
     behind(list, i.saturating_mul(6).saturating_add(6))
 }
 
-/// How many bytes the fields of a format take that stand before that of a bit.
+/// Returns the size of the fields of a value format before the field of a bit.
 fn room(format: u16, bit: u16) -> usize {
     let mut room = 0usize;
     let mut other = 1u16;
@@ -46,26 +46,26 @@ fn room(format: u16, bit: u16) -> usize {
     room
 }
 
-/// A table whose numbers come to stand at a place.
+/// A table whose numbers take their values at a location.
 #[derive(Drop)]
 struct Varied<'v> {
     bytes: Vec<u8>,
     gaps: Gaps,
     store: Store<'v>,
     coordinates: &'v [i16],
-    /// How many steps are left.
+    /// The number of steps that are left.
     steps: u64,
-    /// Whether a variation has no number that it could be added to, or there are too many steps.
+    /// Whether a delta has no number to be added to, or there are too many steps.
     is_over: bool,
 }
 
 impl<'v> Varied<'v> {
-    /// A number of two bytes; 0 where the table is cut.
+    /// Returns a two-byte number, or 0 if the table is truncated.
     fn word(&self, place: usize) -> usize {
         number_within(&self.bytes, place, 2).unwrap_or(0)
     }
 
-    /// Where a table stands that is named at a place. None where none is.
+    /// Returns the offset of the table that is named at `place`. Returns `None` if there is none.
     fn named(&mut self, parent: usize, place: usize) -> Option<usize> {
         self.gaps.offset(parent, place);
         match self.word(place) {
@@ -82,7 +82,8 @@ impl<'v> Varied<'v> {
         self.steps = self.steps.saturating_sub(steps);
     }
 
-    /// Where a table stands that is named at a place, which takes a step. None where none is, or there are too many steps.
+    /// Returns the offset of the table that is named at `place`, and takes a step. Returns `None` if there is none, or
+    /// if there are too many steps.
     fn follow(&mut self, parent: usize, place: usize) -> Option<usize> {
         self.take(1);
         if self.is_over {
@@ -91,7 +92,7 @@ impl<'v> Varied<'v> {
         self.named(parent, place)
     }
 
-    /// What the device table at a place adds, to the nearest unit. None where it tells no variations.
+    /// Returns the delta of a device table, rounded to the nearest unit. Returns `None` if it has no variations.
     fn added(&mut self, device: usize) -> Option<i64> {
         if self.word(behind(device, 4)) != VARIATIONS {
             return None;
@@ -111,7 +112,7 @@ impl<'v> Varied<'v> {
         }
     }
 
-    /// Adds to a number what the device table adds that is named at a place.
+    /// Adds the delta of the device table that is named at `place` to a number.
     fn vary(&mut self, parent: usize, number: Option<usize>, place: usize) {
         self.take(1);
         let Some(device) = self.named(parent, place) else {
@@ -133,7 +134,7 @@ impl<'v> Varied<'v> {
         self.gaps.take_out(device, 6);
     }
 
-    /// A value of a format.
+    /// Processes a value record with a format.
     fn value(&mut self, parent: usize, place: usize, format: u16) {
         self.take(1);
         for (bit, device) in &PARTS {
@@ -148,7 +149,7 @@ impl<'v> Varied<'v> {
         }
     }
 
-    /// An anchor: of format 3, and of format 1 where it has no device tables then.
+    /// Processes an anchor of format 3, which becomes format 1 if it has no device tables left.
     fn anchor(&mut self, place: usize) {
         if self.word(place) != 3 {
             return;
@@ -161,7 +162,7 @@ impl<'v> Varied<'v> {
         }
     }
 
-    /// Anchors that are named one behind the other.
+    /// Processes a list of anchors.
     fn anchors(&mut self, parent: usize, place: usize, count: usize) {
         for i in 0..count {
             if self.is_over {
@@ -173,7 +174,7 @@ impl<'v> Varied<'v> {
         }
     }
 
-    /// Values of two formats, one behind the other, each behind so many bytes.
+    /// Processes a list of pairs of value records with two formats. Each pair comes after `skip` bytes.
     fn values(
         &mut self,
         parent: usize,
@@ -195,12 +196,12 @@ impl<'v> Varied<'v> {
         }
     }
 
-    /// The format of values that a table has at a place.
+    /// Returns the value format at an offset.
     fn format(&self, place: usize) -> u16 {
         word(&self.bytes, place)
     }
 
-    /// Single adjustments.
+    /// Processes a single adjustment.
     fn single(&mut self, table: usize) {
         let formats = [self.format(behind(table, 4)), 0];
         match self.word(table) {
@@ -213,7 +214,7 @@ impl<'v> Varied<'v> {
         }
     }
 
-    /// Adjustments of pairs.
+    /// Processes a pair adjustment.
     fn pairs(&mut self, table: usize) {
         let formats = [self.format(behind(table, 4)), self.format(behind(table, 6))];
         match self.word(table) {
@@ -223,7 +224,7 @@ impl<'v> Varied<'v> {
         }
     }
 
-    /// Adjustments of pairs, class by class.
+    /// Processes a pair adjustment by classes.
     fn pair_classes(&mut self, table: usize, formats: [u16; 2]) {
         self.gaps.offset(table, behind(table, 8));
         self.gaps.offset(table, behind(table, 10));
@@ -232,7 +233,7 @@ impl<'v> Varied<'v> {
         self.values(table, behind(table, 16), count, formats, 0);
     }
 
-    /// Adjustments of pairs, glyph by glyph.
+    /// Processes a pair adjustment by glyphs.
     fn pair_sets(&mut self, table: usize, formats: [u16; 2]) {
         for i in 0..self.word(behind(table, 8)) {
             if let Some(set) = self.follow(table, words(behind(table, 10), i)) {
@@ -242,7 +243,7 @@ impl<'v> Varied<'v> {
         }
     }
 
-    /// Marks and their anchors.
+    /// Processes marks and their anchors.
     fn marks(&mut self, table: usize) {
         for i in 0..self.word(table) {
             if let Some(anchor) = self.follow(table, words(behind(table, 4), i.saturating_mul(2))) {
@@ -251,13 +252,13 @@ impl<'v> Varied<'v> {
         }
     }
 
-    /// Bases, or components of a ligature, and their anchors, one for each class of marks.
+    /// Processes bases, or components of a ligature, with an anchor for each mark class.
     fn bases(&mut self, table: usize, classes: usize) {
         let count = classes.saturating_mul(self.word(table));
         self.anchors(table, behind(table, 2), count);
     }
 
-    /// Ligatures and their anchors.
+    /// Processes ligatures and their anchors.
     fn ligatures(&mut self, table: usize, classes: usize) {
         for i in 0..self.word(table) {
             if let Some(ligature) = self.follow(table, words(behind(table, 2), i)) {
@@ -266,7 +267,7 @@ impl<'v> Varied<'v> {
         }
     }
 
-    /// Marks that are attached to glyphs.
+    /// Processes an attachment of marks to glyphs.
     fn attached(&mut self, table: usize, to_ligatures: bool) {
         self.gaps.offset(table, behind(table, 4));
         let classes = self.word(behind(table, 6));
@@ -282,9 +283,9 @@ impl<'v> Varied<'v> {
         }
     }
 
-    /// A subtable of a lookup of a type that is no extension.
+    /// Processes a subtable of a lookup that is not an extension.
     fn adjusted(&mut self, kind: usize, table: usize) {
-        // Coverage
+        // The coverage table.
         self.gaps.offset(table, behind(table, 2));
         match kind {
             1 => self.single(table),
@@ -299,7 +300,7 @@ impl<'v> Varied<'v> {
         }
     }
 
-    /// A subtable of a lookup.
+    /// Processes a subtable of a lookup.
     fn subtable(&mut self, kind: usize, table: usize) {
         if kind != 9 {
             self.adjusted(kind, table);
@@ -311,7 +312,7 @@ impl<'v> Varied<'v> {
         self.adjusted(self.word(behind(table, 2)), behind(table, offset));
     }
 
-    /// A lookup.
+    /// Processes a lookup.
     fn lookup(&mut self, table: usize) {
         let kind = self.word(table);
         for i in 0..self.word(behind(table, 4)) {
@@ -321,7 +322,7 @@ impl<'v> Varied<'v> {
         }
     }
 
-    /// The scripts of a table `GPOS`, and their languages.
+    /// Records the scripts of a `GPOS` table, and their languages.
     fn scripts(&mut self) {
         let Some(list) = self.named(0, 4) else {
             return;
@@ -334,7 +335,7 @@ impl<'v> Varied<'v> {
         }
     }
 
-    /// The languages of a script but its default one.
+    /// Records the languages of a script, except the default one.
     fn languages(&mut self, script: usize) {
         for i in 0..self.word(behind(script, 2)) {
             self.take(1);
@@ -345,7 +346,7 @@ impl<'v> Varied<'v> {
         }
     }
 
-    /// The features of a table `GPOS`.
+    /// Records the features of a `GPOS` table.
     fn features(&mut self) {
         let Some(list) = self.named(0, 6) else {
             return;
@@ -357,7 +358,7 @@ impl<'v> Varied<'v> {
         }
     }
 
-    /// The lookups of a table `GPOS`.
+    /// Processes the lookups of a `GPOS` table.
     fn lookups(&mut self) {
         let Some(list) = self.named(0, 8) else {
             return;
@@ -369,7 +370,7 @@ impl<'v> Varied<'v> {
         }
     }
 
-    /// The carets of a ligature.
+    /// Processes the carets of a ligature.
     fn carets(&mut self, table: usize) {
         for i in 0..self.word(table) {
             if let Some(caret) = self.follow(table, words(behind(table, 2), i)) {
@@ -380,7 +381,7 @@ impl<'v> Varied<'v> {
         }
     }
 
-    /// The last place where a set of marks of a table `GDEF` begins. 0 where there is none.
+    /// Returns the largest offset of a mark glyph set of a `GDEF` table, or 0 if there are none.
     fn last_set(&self) -> usize {
         let sets = self.word(12);
         let mut last = sets;
@@ -394,8 +395,8 @@ impl<'v> Varied<'v> {
         last
     }
 
-    /// Takes the store of a table `GDEF` out, where it stands behind all other tables, and these are lists of classes and sets of
-    /// marks. Else no byte moves.
+    /// Removes the variation store of a `GDEF` table, if it comes after all other tables, and these are class lists and
+    /// mark glyph sets. Otherwise no bytes are removed.
     fn take_store_out(&mut self) {
         let store = number_within(&self.bytes, 14, 4).unwrap_or(0);
         let last = self.word(4).max(self.word(10)).max(self.last_set());
@@ -407,7 +408,7 @@ impl<'v> Varied<'v> {
         }
     }
 
-    /// The ligatures of a table `GDEF`, which names no store any more.
+    /// Processes the ligatures of a `GDEF` table, and removes the offset of its store.
     fn definitions(&mut self) {
         self.take_store_out();
         set_word(&mut self.bytes, 14, 0);
@@ -422,7 +423,7 @@ impl<'v> Varied<'v> {
         }
     }
 
-    /// The table, where all of it came to stand at the place.
+    /// Returns the table, or `None` if it was not processed completely.
     fn end(self, alloc: Global) -> Result<Option<Vec<u8>>, AllocError> {
         if self.is_over {
             return Ok(None);
@@ -431,7 +432,7 @@ impl<'v> Varied<'v> {
     }
 }
 
-/// The store that a table `GDEF` names. None where it names none.
+/// Returns the variation store of a `GDEF` table. Returns `None` if there is none.
 fn store_of(table: &[u8]) -> Option<Store<'_>> {
     if number_within(table, 2, 2).unwrap_or(0) < 3 {
         return None;
@@ -442,7 +443,7 @@ fn store_of(table: &[u8]) -> Option<Store<'_>> {
     }
 }
 
-/// A table that is to come to stand at a place.
+/// Begins to process a table.
 fn begun<'v>(
     alloc: Global,
     table: &[u8],
@@ -459,7 +460,7 @@ fn begun<'v>(
     })
 }
 
-/// The table `GDEF` of a place. None where it cannot be made.
+/// Returns the `GDEF` table of an instance. Returns `None` if it cannot be made.
 fn gdef_of(
     alloc: Global,
     table: &[u8],
@@ -471,7 +472,7 @@ fn gdef_of(
     gdef.end(alloc)
 }
 
-/// The table `GPOS` of a place. None where it cannot be made.
+/// Returns the `GPOS` table of an instance. Returns `None` if it cannot be made.
 fn gpos_of(
     alloc: Global,
     table: &[u8],
@@ -485,8 +486,8 @@ fn gpos_of(
     gpos.end(alloc)
 }
 
-/// Adds those that vary by the store of `GDEF`: none where there is no store, or where one cannot be made; nor `GPOS`, where its features
-/// vary.
+/// Adds the `GDEF` and `GPOS` tables, if `GDEF` has a variation store and they can be made. `GPOS` is not added if its
+/// features vary.
 pub fn put(made: &mut Made, alloc: Global, face: &VariableFace<'_>, chosen: &Chosen) {
     let table = face.file.table(*b"GDEF").unwrap_or(&[]);
     let Some(store) = store_of(table) else {

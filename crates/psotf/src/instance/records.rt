@@ -1,4 +1,4 @@
-//! The table `name` of one place (ISO/IEC 14496-22, 5.2.7).
+//! The `name` table of an instance (ISO/IEC 14496-22, 5.2.7).
 use super::style::Style;
 use crate::failure::Failure;
 use crate::naming::{Kept, MOST, Record, record_at};
@@ -7,21 +7,22 @@ use postscript_base::index::number::number_within;
 use postscript_variation::Axes;
 use std::alloc::{AllocError, Global};
 
-/// The texts that are written anew or do not hold any more: family, style, unique and full name, PostScript name, the typographic
-/// family and style, the names of Macintosh and of CIDs, the WWS family and style, and the prefix of variations.
+/// The IDs of names that are written or become invalid. They are the family, the style, the unique name, the full name
+/// and the PostScript name. They are also the typographic family and style, the names for Macintosh and CIDs, the WWS
+/// names, and the variations prefix.
 const ANEW: [usize; 12] = [1, 2, 3, 4, 6, 16, 17, 18, 20, 21, 22, 25];
 
-/// The first identifier of a text of the font's own.
+/// The first ID of a name that is specific to the font.
 const OWN: usize = 256;
 
-/// A text that is written, in UTF-16, and its identifier.
+/// A text to write, in UTF-16, and its ID.
 #[derive(Drop)]
 struct Text {
     identifier: usize,
     bytes: Vec<u8>,
 }
 
-/// Whether an axis is called by the name of an identifier.
+/// Returns whether an axis has the name with an ID.
 fn names_axis(axes: &Axes<'_>, identifier: usize) -> bool {
     for i in 0..axes.len() {
         if let Some(axis) = axes.get(i) {
@@ -33,7 +34,7 @@ fn names_axis(axes: &Axes<'_>, identifier: usize) -> bool {
     false
 }
 
-/// Whether an instance is.
+/// Returns whether an instance has the name with an ID.
 fn names_instance(axes: &Axes<'_>, identifier: usize) -> bool {
     for i in 0..axes.instances() {
         if let Some(instance) = axes.instance(i) {
@@ -46,8 +47,8 @@ fn names_instance(axes: &Axes<'_>, identifier: usize) -> bool {
     false
 }
 
-/// Whether a record of the face stays: none of a text that is written anew, nor of a name of axes or instances alone, in a language
-/// that is told by a number.
+/// Returns whether a record is kept. Records with names that are written, with names of axes or instances, or with a
+/// language tag are dropped.
 fn stays(face: &VariableFace<'_>, record: &Record<'_>) -> bool {
     if record.language >= 0x8000 || ANEW.contains(&record.identifier) {
         return false;
@@ -61,7 +62,7 @@ fn stays(face: &VariableFace<'_>, record: &Record<'_>) -> bool {
     }
 }
 
-/// The version of a face, as it tells it.
+/// Returns the version number in the `name` table.
 fn version(alloc: Global, face: &VariableFace<'_>) -> Result<String, AllocError> {
     let text = text_of(alloc, name_of(face, 5))?;
     let number = text
@@ -71,12 +72,12 @@ fn version(alloc: Global, face: &VariableFace<'_>) -> Result<String, AllocError>
     String::from_str(alloc, number)
 }
 
-/// The identifiers of the texts of a style that a family links, and of any other style.
+/// The name IDs of a style that a family links.
 const LINKED: [usize; 5] = [1, 2, 3, 4, 6];
 
 const NOT_LINKED: [usize; 7] = [1, 2, 3, 4, 6, 16, 17];
 
-/// The family of a style among the four that a family links.
+/// Returns the family name of a style in a family of four linked styles.
 fn linked_family(alloc: Global, style: &Style) -> Result<String, AllocError> {
     let family = style.family.as_str();
     let weight = style.weight.as_str();
@@ -87,21 +88,19 @@ fn linked_family(alloc: Global, style: &Style) -> Result<String, AllocError> {
     }
 }
 
-/// The unique name of a style.
 fn unique(alloc: Global, face: &VariableFace<'_>, style: &Style) -> Result<String, AllocError> {
     let postscript = style.postscript.as_str();
     let version = version(alloc, face)?;
     format!(in alloc; "{version};{postscript}")
 }
 
-/// The full name of a style.
 fn full(alloc: Global, style: &Style) -> Result<String, AllocError> {
     let family = style.family.as_str();
     let full = style.full(alloc)?;
     format!(in alloc; "{family} {full}")
 }
 
-/// The text of an identifier.
+/// Returns the text of a name ID.
 fn text_by(
     alloc: Global,
     face: &VariableFace<'_>,
@@ -119,7 +118,7 @@ fn text_by(
     }
 }
 
-/// A text in UTF-16, the high byte of each unit first.
+/// Returns a text in UTF-16, big-endian.
 fn utf16(alloc: Global, text: &str) -> Result<Vec<u8>, AllocError> {
     let mut bytes = Vec::new(alloc);
     for unit in text.encode_utf16() {
@@ -128,7 +127,7 @@ fn utf16(alloc: Global, text: &str) -> Result<Vec<u8>, AllocError> {
     Ok(bytes)
 }
 
-/// Adds the text of an identifier.
+/// Adds the text of a name ID.
 fn put_text(
     texts: &mut Vec<Text>,
     alloc: Global,
@@ -160,7 +159,7 @@ fn put_texts(
     Ok(())
 }
 
-/// The order of records in the table.
+/// Returns the sort key of a record.
 fn order(record: &Record<'_>) -> u64 {
     let mut order = 0u64;
     for number in [
@@ -174,7 +173,7 @@ fn order(record: &Record<'_>) -> u64 {
     order
 }
 
-/// Adds the records of the face that stay.
+/// Adds the records that are kept.
 fn put_old<'l>(
     records: &mut Vec<Record<'l>>,
     face: &VariableFace<'_>,
@@ -191,7 +190,7 @@ fn put_old<'l>(
     Ok(())
 }
 
-/// Adds the records of texts, which stand one behind the other from a place on.
+/// Adds the records of new texts. `start` is an offset past the old texts.
 fn put_new<'l>(
     records: &mut Vec<Record<'l>>,
     texts: &'l [Text],
@@ -212,7 +211,6 @@ fn put_new<'l>(
     Ok(())
 }
 
-/// Adds records to those that are kept.
 fn keep(kept: &mut Kept, records: &[Record<'_>]) -> Result<(), AllocError> {
     for record in records {
         kept.put(record)?;
@@ -220,7 +218,7 @@ fn keep(kept: &mut Kept, records: &[Record<'_>]) -> Result<(), AllocError> {
     Ok(())
 }
 
-/// The table of records, in their order.
+/// Returns the table of records, in their order.
 fn table_of(alloc: Global, records: &[Record<'_>]) -> Result<Vec<u8>, Failure> {
     let mut kept = Kept::new(alloc);
     keep(&mut kept, records)?;
@@ -230,7 +228,7 @@ fn table_of(alloc: Global, records: &[Record<'_>]) -> Result<Vec<u8>, Failure> {
     }
 }
 
-/// The table `name` of a style: what is called by it in the English of the United States, for Windows, and what stays of the face.
+/// Returns the `name` table of a style: its names in US English for Windows, and the names that are kept.
 pub fn names_of(alloc: Global, face: &VariableFace<'_>, style: &Style) -> Result<Vec<u8>, Failure> {
     let table = face.file.table(*b"name").unwrap_or(&[]);
     let mut texts = Vec::new(alloc);

@@ -1,4 +1,4 @@
-//! What a place is called (ISO/IEC 14496-22, 5.2.7; Adobe's Technical Note 5902).
+//! The names of an instance (ISO/IEC 14496-22, 5.2.7, and Adobe's Technical Note 5902).
 use super::values::word;
 use crate::decimal::put_bits;
 use crate::text::Text;
@@ -10,18 +10,18 @@ use std::alloc::{AllocError, Global};
 /// The most characters of a PostScript name.
 const MOST: usize = 63;
 
-/// The family and the style of a place.
+/// The family and the style of an instance.
 #[derive(Drop)]
 pub struct Style {
     /// The typographic family.
     pub family: Text,
-    /// The style but for its slope: `Regular`, `Bold` or another one.
+    /// The style without its slope: `Regular`, `Bold` or another one.
     pub weight: Text,
     pub is_italic: bool,
     pub postscript: Text,
 }
 
-/// A style but for its slope, and whether it is italic.
+/// Returns a style without its slope, and whether it is italic.
 fn split(style: &str) -> (&str, bool) {
     let (weight, is_italic) = match style.strip_suffix("Italic") {
         Some(rest) => (rest.trim_end(), true),
@@ -34,7 +34,8 @@ fn split(style: &str) -> (&str, bool) {
     }
 }
 
-/// Adds a letter or digit of ASCII, and where asked for a hyphen, point or line, up to the most of a name.
+/// Adds an ASCII letter or digit, or with `with_signs` also a hyphen, point or underscore. It adds nothing to a name of
+/// the maximum length.
 fn put_letter(name: &mut Text, char: char, with_signs: bool) {
     let is_sign = char == '-' || char == '.' || char == '_';
     let is_plain = char.is_ascii_alphanumeric() || (with_signs && is_sign);
@@ -43,14 +44,14 @@ fn put_letter(name: &mut Text, char: char, with_signs: bool) {
     }
 }
 
-/// Adds those of a text.
+/// Adds such characters of a text.
 fn put_letters(name: &mut Text, text: &str, with_signs: bool) {
     for char in text.chars() {
         put_letter(name, char, with_signs);
     }
 }
 
-/// Adds those of a name of the face, if there is one.
+/// Adds such characters of a name of the font, if there is one.
 fn put_told(name: &mut Text, told: Option<Name<'_>>, with_signs: bool) {
     if let Some(told) = told {
         for char in told.chars() {
@@ -59,7 +60,7 @@ fn put_told(name: &mut Text, told: Option<Name<'_>>, with_signs: bool) {
     }
 }
 
-/// Adds what PostScript names begin with: the prefix of variations (name 25), or else the family.
+/// Adds the prefix of PostScript names: the variations prefix (name 25), or the family.
 fn put_prefix(name: &mut Text, face: &VariableFace<'_>, family: &str) {
     put_told(name, name_of(face, 25), false);
     if name.is_empty() {
@@ -70,7 +71,7 @@ fn put_prefix(name: &mut Text, face: &VariableFace<'_>, family: &str) {
     }
 }
 
-/// Whether a place stands where an instance does.
+/// Returns whether a location is that of an instance.
 fn is_at(axes: &Axes<'_>, chosen: &Chosen, instance: usize) -> bool {
     for i in 0..axes.len() {
         if let Some(axis) = axes.get(i) {
@@ -82,7 +83,7 @@ fn is_at(axes: &Axes<'_>, chosen: &Chosen, instance: usize) -> bool {
     true
 }
 
-/// The instance that is asked for, or else the first one at the place.
+/// Returns the instance in the arguments, or the first one at the location.
 fn instance_at(axes: &Axes<'_>, chosen: &Chosen) -> Option<usize> {
     if chosen.instance.is_some() {
         return chosen.instance;
@@ -95,7 +96,7 @@ fn instance_at(axes: &Axes<'_>, chosen: &Chosen) -> Option<usize> {
     None
 }
 
-/// Adds where a place stands along an axis: as 650wght.
+/// Adds the value of an axis, such as 650wght.
 fn put_value(text: &mut Text, axis: &Axis, value: i32) {
     put_bits(text, i64::from(value));
     for byte in axis.tag.to_be_bytes() {
@@ -105,7 +106,7 @@ fn put_value(text: &mut Text, axis: &Axis, value: i32) {
     }
 }
 
-/// Adds where a place stands along the axes on which it is not at the default, with a character between.
+/// Adds the values of the axes that differ from their defaults, separated by a character.
 fn put_values(text: &mut Text, axes: &Axes<'_>, chosen: &Chosen, between: char) {
     let mut is_first = true;
     for i in 0..axes.len() {
@@ -122,7 +123,7 @@ fn put_values(text: &mut Text, axes: &Axes<'_>, chosen: &Chosen, between: char) 
     }
 }
 
-/// The family of a face.
+/// Returns the family of a font.
 fn family_of(alloc: Global, face: &VariableFace<'_>) -> Text {
     let mut family = Text::new(alloc);
     if let Some(names) = &face.common.names {
@@ -131,7 +132,7 @@ fn family_of(alloc: Global, face: &VariableFace<'_>) -> Text {
     family
 }
 
-/// The style that a face tells of itself.
+/// Returns the style of a font.
 fn own(alloc: Global, face: &VariableFace<'_>) -> Text {
     let mut own = Text::new(alloc);
     if let Some(names) = &face.common.names {
@@ -140,7 +141,7 @@ fn own(alloc: Global, face: &VariableFace<'_>) -> Text {
     own
 }
 
-/// Whether a face tells that it is italic.
+/// Returns whether a font is marked as italic.
 fn is_italic(face: &VariableFace<'_>) -> bool {
     match face.file.table(*b"OS/2") {
         Some(table) => word(table, 62) & 1 == 1,
@@ -149,7 +150,7 @@ fn is_italic(face: &VariableFace<'_>) -> bool {
 }
 
 impl Style {
-    /// Takes a name, and its PostScript name is that of the family and of the name, unless another one is told.
+    /// Takes the style from a name. Without a PostScript name, it makes one from the family and the style.
     fn call(&mut self, face: &VariableFace<'_>, name: &Text) {
         let (weight, is_italic) = split(name.as_str());
         self.weight.push_str(weight);
@@ -164,7 +165,7 @@ impl Style {
         }
     }
 
-    /// Takes the name of an instance, and the PostScript name that the face tells of it.
+    /// Takes the name and the PostScript name of an instance.
     fn call_instance(
         &mut self,
         alloc: Global,
@@ -184,7 +185,7 @@ impl Style {
         self.call(face, &name);
     }
 
-    /// Takes the names of a place at which no instance stands, by its values along the axes.
+    /// Takes names from the axis values, for a location without an instance.
     fn call_between(
         &mut self,
         alloc: Global,
@@ -207,8 +208,8 @@ impl Style {
         }
     }
 
-    /// Takes the names of a place: of the instance that is asked for or that stands there; else by its values along the axes on which
-    /// it is not at the default, as 650wght; or those of the face, where there are none.
+    /// Takes the names of a location. They are those of its instance, if there is one, or are made from the axis values
+    /// that differ from their defaults, such as 650wght. If all have their defaults, they are those of the font.
     fn call_place(&mut self, alloc: Global, face: &VariableFace<'_>, chosen: &Chosen) {
         let Some(axes) = &face.axes else {
             return self.call(face, &own(alloc, face));
@@ -219,7 +220,7 @@ impl Style {
         }
     }
 
-    /// The style of a place.
+    /// Returns the style of a location.
     pub fn of(
         alloc: Global,
         face: &VariableFace<'_>,
@@ -239,22 +240,21 @@ impl Style {
         }
     }
 
-    /// Whether memory failed.
     fn has_failed(&self) -> bool {
         self.family.has_failed() || self.weight.has_failed() || self.postscript.has_failed()
     }
 
-    /// Whether the style is one of the four that a family links: regular, bold, and both italic.
+    /// Returns whether the style is one of the four that a family links: regular, bold, italic and bold italic.
     pub fn is_linked(&self) -> bool {
         self.weight.as_str() == "Regular" || self.is_bold()
     }
 
-    /// Whether the style is bold, as a family links it.
+    /// Returns whether the style is bold.
     fn is_bold(&self) -> bool {
         self.weight.as_str() == "Bold"
     }
 
-    /// Its name among the four that a family links.
+    /// Returns the name among the four styles that a family links.
     pub fn linked(&self) -> &'static str {
         match (self.is_bold(), self.is_italic) {
             (true, true) => "Bold Italic",
@@ -264,7 +264,7 @@ impl Style {
         }
     }
 
-    /// Its whole name, as `Light Italic`.
+    /// Returns the whole style name, such as `Light Italic`.
     pub fn full(&self, alloc: Global) -> Result<String, AllocError> {
         if self.is_linked() {
             return String::from_str(alloc, self.linked());
@@ -276,7 +276,7 @@ impl Style {
         Ok(text)
     }
 
-    /// The bits of a style that is bold, of one that is italic, and of one that is neither.
+    /// Returns the bits for a style that is bold, for one that is italic, and for one that is neither.
     pub fn bits(&self, bold: u16, italic: u16, neither: u16) -> u16 {
         let of_bold = if self.is_bold() { bold } else { 0 };
         let of_italic = if self.is_italic { italic } else { 0 };

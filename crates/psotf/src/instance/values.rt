@@ -1,14 +1,14 @@
-//! Numbers of tables, and what they vary by (OpenType 1.9, "MVAR - Metrics Variations Table").
+//! Numbers of tables, and their variations (OpenType 1.9, "MVAR - Metrics Variations Table").
 use postscript_base::index::number::number_within;
 use postscript_variation::{MetricVariations, in_whole};
 
-/// A number of two bytes that varies: its tag, and where it stands in its table.
+/// A two-byte number that varies: its tag in `MVAR`, and its offset in its table.
 pub type Entry = ([u8; 4], usize);
 
-/// The tags of those without a sign.
+/// The tags of unsigned numbers.
 const UNSIGNED: [[u8; 4]; 2] = [*b"hcla", *b"hcld"];
 
-/// Those of the table `OS/2`.
+/// The numbers of the `OS/2` table.
 pub const OS2: [Entry; 17] = [
     (*b"sbxs", 10),
     (*b"sbys", 12),
@@ -29,10 +29,10 @@ pub const OS2: [Entry; 17] = [
     (*b"cpht", 88),
 ];
 
-/// Those of the table `hhea`.
+/// The numbers of the `hhea` table.
 pub const HHEA: [Entry; 3] = [(*b"hcrs", 18), (*b"hcrn", 20), (*b"hcof", 22)];
 
-/// Those of the table `vhea`.
+/// The numbers of the `vhea` table.
 pub const VHEA: [Entry; 6] = [
     (*b"vasc", 4),
     (*b"vdsc", 6),
@@ -42,15 +42,15 @@ pub const VHEA: [Entry; 6] = [
     (*b"vcof", 22),
 ];
 
-/// Those of the table `post`.
+/// The numbers of the `post` table.
 pub const POST: [Entry; 2] = [(*b"undo", 8), (*b"unds", 10)];
 
-/// A number of two bytes; 0 where the table is cut.
+/// Returns a two-byte number, or 0 if the table is truncated.
 pub fn word(table: &[u8], place: usize) -> u16 {
     u16::try_from(number_within(table, place, 2).unwrap_or(0)).unwrap_or(0)
 }
 
-/// Writes a number of two bytes, where the table has them.
+/// Writes a two-byte number, if it is within the table.
 pub fn set_word(table: &mut Vec<u8>, place: usize, number: u16) {
     let [high, low] = number.to_be_bytes();
     if place.saturating_add(2) > table.len() {
@@ -64,18 +64,18 @@ pub fn set_word(table: &mut Vec<u8>, place: usize, number: u16) {
     }
 }
 
-/// Writes a number with a sign, or the nearest one that two bytes hold.
+/// Writes a signed number, clamped to two bytes.
 pub fn set_signed(table: &mut Vec<u8>, place: usize, number: i64) {
     let number = number.max(-32768).min(32767) as i16;
     set_word(table, place, number.cast_unsigned());
 }
 
-/// Writes a number without a sign, or the nearest one that two bytes hold.
+/// Writes an unsigned number, clamped to two bytes.
 pub fn set_unsigned(table: &mut Vec<u8>, place: usize, number: i64) {
     set_word(table, place, number.max(0).min(65535) as u16);
 }
 
-/// Adds to a number.
+/// Adds a delta to a number.
 fn add(table: &mut Vec<u8>, entry: &Entry, difference: i64) {
     let (tag, place) = *entry;
     let old = word(table, place);
@@ -87,7 +87,7 @@ fn add(table: &mut Vec<u8>, entry: &Entry, difference: i64) {
     }
 }
 
-/// Adds to the numbers of a table what they vary by at normalized coordinates, to the nearest unit.
+/// Adds the deltas at normalized coordinates to the numbers of a table, rounded to the nearest unit.
 pub fn vary(
     table: &mut Vec<u8>,
     entries: &[Entry],

@@ -1,4 +1,4 @@
-//! What a page tells of the file and of the face (docs/REPORT.md).
+//! The data of a page about the file and the font (docs/report-format.md).
 use super::pages::{Pages, put_index};
 use super::parts;
 use crate::dictionaries::{self, Kind};
@@ -10,7 +10,7 @@ use postscript_base::index::IndexView;
 use postscript_sfnt::FontFile;
 use std::alloc::Global;
 
-/// What the items of a glyph's row are.
+/// The columns of a glyph row.
 const COLUMNS: [&str; 14] = [
     "name",
     "chars",
@@ -28,7 +28,6 @@ const COLUMNS: [&str; 14] = [
     "accent",
 ];
 
-/// Writes the names of the columns.
 fn columns(sheet: &mut Sheet) {
     sheet.begin_list("columns");
     for column in &COLUMNS {
@@ -37,7 +36,7 @@ fn columns(sheet: &mut Sheet) {
     sheet.end_array();
 }
 
-/// Writes of each table its tag, its place and its size in bytes.
+/// Writes the tag, the offset and the size of each table.
 pub fn tables(sheet: &mut Sheet, file: &FontFile<'_>) {
     sheet.begin_list("tables");
     for i in 0..file.tables() {
@@ -53,7 +52,7 @@ pub fn tables(sheet: &mut Sheet, file: &FontFile<'_>) {
     sheet.end_array();
 }
 
-/// Writes the font dictionaries of a CID-keyed font.
+/// Writes the Font DICTs of a CID-keyed font.
 fn font_dictionaries(sheet: &mut Sheet, face: &Face<'_>) {
     sheet.begin_list("font_dictionaries");
     for part in &face.font.parts {
@@ -86,7 +85,7 @@ fn list(sheet: &mut Sheet, items: &IndexView<'_>) {
     sheet.end_array();
 }
 
-/// Writes the global subroutines, and the local ones of each part.
+/// Writes the global subroutines, and the local ones of each Private DICT.
 fn subroutines(sheet: &mut Sheet, face: &Face<'_>) {
     sheet.key("global");
     list(sheet, &face.font.global_subroutines);
@@ -97,7 +96,7 @@ fn subroutines(sheet: &mut Sheet, face: &Face<'_>) {
     sheet.end_array();
 }
 
-/// Writes what the block is, how many bytes the file has, which face is shown, and with which glyph the page begins.
+/// Writes the format of the block, the size of the file, the index of the font and the first glyph of the page.
 pub fn begin(sheet: &mut Sheet, size: usize, words: &ArgMatches<'_>, first: u16) {
     sheet.text("format", "psotf report 3");
     sheet.number("bytes", size as u64);
@@ -106,7 +105,7 @@ pub fn begin(sheet: &mut Sheet, size: usize, words: &ArgMatches<'_>, first: u16)
     sheet.number("from", u64::from(first));
 }
 
-/// Writes what is told of the file and of the face, on the page that begins with a glyph.
+/// Writes the data about the file and the font, on the page that begins with `first`.
 pub fn put(
     alloc: Global,
     sheet: &mut Sheet,

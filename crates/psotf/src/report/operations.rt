@@ -1,4 +1,4 @@
-//! Operations, written short (docs/REPORT.md).
+//! Operations in the short form (docs/report-format.md).
 use super::short;
 use crate::drawing::OPERAND;
 use crate::failure::Failure;
@@ -9,8 +9,8 @@ use postscript_type2::{Hints, Operand, Operator, Program, Told};
 use postscript_view::Glyph;
 use std::alloc::Global;
 
-/// The code of an operator that a run answers (Technical Note 5177, Appendix A), 0x0c00 and the second byte where it has two; 0 of
-/// all others.
+/// Returns the code of an operator (Technical Note 5177, Appendix A), or 0 for operators that a run never returns. The
+/// code of a two-byte operator is 0x0c00 plus the second byte.
 fn code_of(operator: Operator) -> i64 {
     match operator {
         Operator::HStem => 1,
@@ -40,7 +40,7 @@ fn code_of(operator: Operator) -> i64 {
     }
 }
 
-/// Whether a mask stands behind an operator.
+/// Returns whether a mask follows an operator.
 fn has_mask(operator: Operator) -> bool {
     match operator {
         Operator::HintMask | Operator::CntrMask => true,
@@ -48,7 +48,7 @@ fn has_mask(operator: Operator) -> bool {
     }
 }
 
-/// Adds how many operands there are, and these.
+/// Adds the number of operands, and the operands.
 fn put_operands(text: &mut Text, operands: &[Operand]) {
     short::put_count(text, operands.len());
     for operand in operands {
@@ -56,7 +56,7 @@ fn put_operands(text: &mut Text, operands: &[Operand]) {
     }
 }
 
-/// Adds how many operands of stems a mask implies, and these, and how many bytes it has, and these.
+/// Adds the stems that a mask implies, and its bytes, each after their number.
 fn put_hints(text: &mut Text, hints: Hints<'_>) {
     put_operands(text, hints.stems);
     short::put_count(text, hints.mask.len());
@@ -65,7 +65,7 @@ fn put_hints(text: &mut Text, hints: Hints<'_>) {
     }
 }
 
-/// Adds the code of an operator, its operands, and what a mask says, if it is one.
+/// Adds the code of an operator and its operands, and for a mask its stems and bytes.
 fn put_operation(text: &mut Text, operator: Operator, operands: &[Operand], hints: Hints<'_>) {
     short::put(text, code_of(operator));
     put_operands(text, operands);
@@ -74,7 +74,7 @@ fn put_operation(text: &mut Text, operator: Operator, operands: &[Operand], hint
     }
 }
 
-/// What it takes to write so many operands, those of stems that a mask implies and its bytes, and their operator.
+/// Returns the cost of writing an operation.
 fn price(operands: usize, hints: Hints<'_>) -> u64 {
     (operands as u64)
         .saturating_add(hints.stems.len() as u64)
@@ -96,7 +96,7 @@ fn put_all(text: &mut Text, program: &mut Program<'_>, budget: &mut Budget) -> R
     Ok(())
 }
 
-/// Writes the operations of a glyph that was drawn as one text.
+/// Writes the operations of a glyph as one string.
 pub fn put(
     alloc: Global,
     sheet: &mut Sheet,

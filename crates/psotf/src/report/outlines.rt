@@ -1,11 +1,12 @@
-//! Outlines, written short (docs/REPORT.md).
+//! Outlines in the short form (docs/report-format.md).
 use super::short;
 use crate::sheet::Sheet;
 use crate::text::Text;
 use postscript_outline::{Bounds, Outline, Point, Segment};
 use std::alloc::Global;
 
-/// An outline as far as it is written: a letter for each segment, and of each point how far it is from the one before.
+/// The part of an outline that is written: a letter for each segment, and the difference of each point from the
+/// previous one.
 #[derive(Drop)]
 struct Pen {
     at: Point,
@@ -14,7 +15,6 @@ struct Pen {
 }
 
 impl Pen {
-    /// Adds a point.
     fn point(&mut self, to: Point) {
         let x = i64::from(to.x).saturating_sub(i64::from(self.at.x));
         let y = i64::from(to.y).saturating_sub(i64::from(self.at.y));
@@ -31,7 +31,6 @@ impl Pen {
         }
     }
 
-    /// Adds a segment.
     fn segment(&mut self, segment: Segment) {
         match segment {
             Segment::MoveTo(at) => self.put('M', &[at]),
@@ -42,7 +41,7 @@ impl Pen {
     }
 }
 
-/// Writes an outline as two texts.
+/// Writes an outline as two strings.
 pub fn put(alloc: Global, sheet: &mut Sheet, outline: &Outline) {
     let mut pen = Pen {
         at: Point::ORIGIN,
@@ -56,7 +55,7 @@ pub fn put(alloc: Global, sheet: &mut Sheet, outline: &Outline) {
     sheet.put(&pen.points);
 }
 
-/// Adds the corners of bounds, if there are some.
+/// Adds the corners of bounds, if there are any.
 fn put_corners(text: &mut Text, bounds: Option<Bounds>) {
     let Some(Bounds { low, high }) = bounds else {
         return;
@@ -66,7 +65,7 @@ fn put_corners(text: &mut Text, bounds: Option<Bounds>) {
     }
 }
 
-/// Writes the bounds of all points and those of the curves as one text.
+/// Writes the bounds of all points and of the curves as one string.
 pub fn put_bounds(alloc: Global, sheet: &mut Sheet, outline: &Outline) {
     let mut text = Text::new(alloc);
     put_corners(&mut text, outline.bounds());

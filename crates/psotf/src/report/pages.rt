@@ -1,4 +1,4 @@
-//! The pages of a report: which glyphs each one has, and what it is called.
+//! The pages of a report: their glyphs and their names.
 use super::short;
 use crate::sheet::Sheet;
 use crate::text::Text;
@@ -6,29 +6,29 @@ use postscript_sfnt::CharacterMap;
 use std::alloc::{AllocError, Global};
 use std::ops::Range;
 
-/// The most glyphs of a page: a browser opens so many within a second or two.
+/// The most glyphs of a page. A browser opens this number within a second or two.
 pub const MOST: u16 = 10_000;
 
 /// The most pages.
 pub const PAGES: u16 = 7;
 
-/// The pages of a report of glyphs that stand one behind the other.
+/// The pages of a report about a range of glyphs.
 #[derive(Clone, Copy)]
 pub struct Pages<'w> {
-    /// Where the first one is written to.
+    /// The path of the first page.
     pub path: &'w str,
     pub first: u16,
-    /// Behind the last glyph.
+    /// The number after the last glyph.
     pub end: u16,
 }
 
 impl<'w> Pages<'w> {
-    /// The glyphs of the page that begins with a glyph.
+    /// Returns the glyphs of the page that begins with `first`.
     pub fn glyphs(&self, first: u16) -> Range<u16> {
         first..self.end.min(first.saturating_add(MOST))
     }
 
-    /// The first glyph of the page of this number, where there are so many pages. There is one at least.
+    /// Returns the first glyph of a page. Returns `None` if there are fewer pages. There is always one.
     pub fn first_of(&self, page: u16) -> Option<u16> {
         let first = self.first.saturating_add(page.saturating_mul(MOST));
         if page == 0 || first < self.end {
@@ -38,7 +38,8 @@ impl<'w> Pages<'w> {
         }
     }
 
-    /// Where the page is written to that begins with a glyph: the first one where the words say, and the others beside it.
+    /// Returns the path of the page that begins with `first`. The first page has the path in the arguments, and the
+    /// others are next to it.
     pub fn path_of(&self, alloc: Global, first: u16) -> Result<String, AllocError> {
         if first == self.first {
             return String::from_str(alloc, self.path);
@@ -50,7 +51,7 @@ impl<'w> Pages<'w> {
         format!(in alloc; "{stem}-{first}{end}")
     }
 
-    /// Writes of a page its name without the folder, its first glyph and the one behind its last.
+    /// Writes the file name of a page, its first glyph and the number after its last.
     fn put_page(&self, alloc: Global, sheet: &mut Sheet, first: u16) {
         let end = self.glyphs(first).end;
         match self.path_of(alloc, first) {
@@ -59,7 +60,7 @@ impl<'w> Pages<'w> {
         }
     }
 
-    /// Writes of each page its name, its first glyph and the one behind its last.
+    /// Writes the file name of each page, its first glyph and the number after its last.
     pub fn put(&self, alloc: Global, sheet: &mut Sheet) {
         sheet.begin_list("pages");
         for page in 0..PAGES {
@@ -71,7 +72,7 @@ impl<'w> Pages<'w> {
     }
 }
 
-/// The name of a file without its folder.
+/// Returns a file name without its folder.
 fn name_of(path: &str) -> &str {
     match path.rsplit_once('/') {
         Some((_, name)) => name,
@@ -79,7 +80,7 @@ fn name_of(path: &str) -> &str {
     }
 }
 
-/// Characters one behind the other, whose glyphs are one behind the other too.
+/// Consecutive characters with consecutive glyphs.
 #[derive(Clone, Copy)]
 struct Run {
     char: u32,
@@ -88,14 +89,14 @@ struct Run {
 }
 
 impl Run {
-    /// Whether a character goes on where the run ends.
+    /// Returns whether a character continues the run.
     fn goes_on(&self, char: u32, glyph: u16) -> bool {
         let count = u64::from(self.count);
         u64::from(char) == u64::from(self.char).saturating_add(count)
             && u64::from(glyph) == u64::from(self.glyph).saturating_add(count)
     }
 
-    /// Adds the run, if there is one: its first character, the glyph of it, and how many there are.
+    /// Adds the run, if it is not empty: its first character, its first glyph and its length.
     fn put(&self, text: &mut Text) {
         if self.count > 0 {
             short::put(text, i64::from(self.char));
@@ -105,7 +106,7 @@ impl Run {
     }
 }
 
-/// Writes which glyph each character has, as one text of runs.
+/// Writes the glyph of each character, as one string of runs.
 pub fn put_index(alloc: Global, sheet: &mut Sheet, map: &Option<CharacterMap<'_>>) {
     let mut text = Text::new(alloc);
     if let Some(map) = map {

@@ -1,4 +1,4 @@
-//! The parts of the table `CFF `, by their places and sizes (Technical Note 5176, Table 1).
+//! The parts of the `CFF ` table, with their offsets and sizes (Technical Note 5176, Table 1).
 use crate::face::Face;
 use crate::sheet::Sheet;
 use postscript_base::compact1::{Operations, Operator};
@@ -6,12 +6,12 @@ use postscript_base::index::IndexView;
 use postscript_base::index::number::number_within;
 use postscript_view::{Codes, Identifiers};
 
-/// Writes a part: its name, its place and its size in bytes.
+/// Writes the name, the offset and the size of a part.
 fn part(sheet: &mut Sheet, name: &str, place: usize, size: usize) {
     sheet.named(name, place as u64, size as u64);
 }
 
-/// Writes the INDEX at a place, and tells the place behind it.
+/// Writes the INDEX at `place`. Returns the offset after it.
 fn index(sheet: &mut Sheet, cff: &[u8], name: &str, place: usize) -> usize {
     let Ok((_, end)) = IndexView::open(cff, place) else {
         return place;
@@ -20,7 +20,7 @@ fn index(sheet: &mut Sheet, cff: &[u8], name: &str, place: usize) -> usize {
     end
 }
 
-/// The operand of an operator that is a place or a size: the last one, or the one so many before it.
+/// Returns an operand that is an offset or a size. `before` counts from the last operand.
 fn operand(dictionary: &Operations, operator: Operator, before: usize) -> Option<usize> {
     let operands = dictionary.get(operator)?;
     let list = operands.as_slice();
@@ -28,7 +28,7 @@ fn operand(dictionary: &Operations, operator: Operator, before: usize) -> Option
     usize::try_from(list.get(i)?.to_i32()?).ok()
 }
 
-/// The INDEXes that stand one behind the other behind the header.
+/// The INDEXes after the header, in their order.
 const BEHIND_THE_HEADER: [&str; 4] = [
     "Name INDEX",
     "Top DICT INDEX",
@@ -36,7 +36,7 @@ const BEHIND_THE_HEADER: [&str; 4] = [
     "Global Subr INDEX",
 ];
 
-/// Writes the parts that stand one behind the other from the beginning on, up to one that does not stand.
+/// Writes the consecutive parts from the header on, as far as they are well formed.
 pub fn first(sheet: &mut Sheet, cff: &[u8]) {
     let header = number_within(cff, 2, 1).unwrap_or(0);
     part(sheet, "header", 0, header);
@@ -50,7 +50,7 @@ pub fn first(sheet: &mut Sheet, cff: &[u8]) {
     }
 }
 
-/// How many glyphs follow the first one of the range at a place, told by two bytes or by one.
+/// Returns the number of glyphs after the first of a range, which has two bytes or one.
 fn following(bytes: &[u8], place: usize, is_wide: bool) -> postscript_base::Result<usize> {
     let behind = place.saturating_add(2);
     if is_wide {
@@ -60,7 +60,7 @@ fn following(bytes: &[u8], place: usize, is_wide: bool) -> postscript_base::Resu
     }
 }
 
-/// How many bytes ranges have that cover so many glyphs, of four bytes or of three.
+/// Returns the size of the ranges for `glyphs` glyphs, of four or three bytes each.
 fn ranges(bytes: &[u8], is_wide: bool, glyphs: usize) -> usize {
     let mut left = glyphs;
     let mut place = 0usize;
@@ -77,7 +77,7 @@ fn ranges(bytes: &[u8], is_wide: bool, glyphs: usize) -> usize {
     place
 }
 
-/// Writes the char set, where it is the font's own.
+/// Writes a custom charset.
 fn char_set(sheet: &mut Sheet, face: &Face<'_>) {
     let (Some(set), Some(place)) = (
         &face.set,
@@ -95,7 +95,7 @@ fn char_set(sheet: &mut Sheet, face: &Face<'_>) {
     part(sheet, "Charsets", place, size.saturating_add(1));
 }
 
-/// Writes the encoding, where it is the font's own.
+/// Writes a custom encoding.
 fn encoding(sheet: &mut Sheet, face: &Face<'_>) {
     let (Ok(encoding), Some(place)) = (
         face.font.encoding(),
@@ -132,7 +132,7 @@ fn select(sheet: &mut Sheet, face: &Face<'_>) {
     part(sheet, "FDSelect", place, size);
 }
 
-/// Writes the private dictionary that a dictionary names, and its local subroutines.
+/// Writes the Private DICT that a DICT names, and its local subroutines.
 fn private(sheet: &mut Sheet, face: &Face<'_>, dictionary: &Operations, own: &Operations) {
     let (Some(size), Some(place)) = (
         operand(dictionary, Operator::Private, 1),
@@ -151,7 +151,7 @@ fn private(sheet: &mut Sheet, face: &Face<'_>, dictionary: &Operations, own: &Op
     }
 }
 
-/// Writes the private dictionaries, and their local subroutines.
+/// Writes the Private DICTs and their local subroutines.
 fn privates(sheet: &mut Sheet, face: &Face<'_>) {
     for one in &face.font.parts {
         match &one.font_dictionary {
@@ -161,14 +161,14 @@ fn privates(sheet: &mut Sheet, face: &Face<'_>) {
     }
 }
 
-/// Writes the INDEX that an operator of the font's dictionary names.
+/// Writes the INDEX that an operator of the Top DICT names.
 fn named(sheet: &mut Sheet, face: &Face<'_>, name: &str, operator: Operator) {
     if let Some(place) = operand(&face.font.dictionary, operator, 0) {
         let _ = index(sheet, face.cff, name, place);
     }
 }
 
-/// Writes each part with its place and its size.
+/// Writes the name, the offset and the size of each part.
 pub fn put(sheet: &mut Sheet, face: &Face<'_>) {
     sheet.begin_list("parts");
     first(sheet, face.cff);

@@ -1,4 +1,4 @@
-//! What a page tells of a glyph: a row, whose columns `head` names (docs/REPORT.md).
+//! The row of a glyph. Its columns are in `head` (docs/report-format.md).
 use super::{operations, outlines, short};
 use crate::characters::{Mapped, of_glyph};
 use crate::drawing::{draw, width_of};
@@ -14,7 +14,7 @@ use postscript_type2::{Charstring, Program, Subroutines};
 use postscript_view::Glyph;
 use std::alloc::Global;
 
-/// Writes the name of a glyph, in a CID-keyed font its CID, or null.
+/// Writes the CID or the name of a glyph, or null.
 fn name(sheet: &mut Sheet, face: &Face<'_>, gid: u16) {
     match face.cid(gid) {
         Some(cid) => sheet.u64(u64::from(cid)),
@@ -31,7 +31,7 @@ fn chars(sheet: &mut Sheet, chars: &[Mapped]) {
     sheet.end_array();
 }
 
-/// Writes which part a glyph has, or null.
+/// Writes the index of a glyph's Private DICT, or null.
 fn part(sheet: &mut Sheet, face: &Face<'_>, gid: u16) {
     match face.font.part_of(usize::from(gid)) {
         Some(part) => sheet.u64(part as u64),
@@ -39,7 +39,7 @@ fn part(sheet: &mut Sheet, face: &Face<'_>, gid: u16) {
     }
 }
 
-/// Writes the width of a glyph by its code, and the operand there that it comes from, if it has one; or null.
+/// Writes the width of a glyph by its charstring, and the width operand if there is one, or null.
 fn width(alloc: Global, sheet: &mut Sheet, glyph: &Glyph<'_, '_>, outline: &Outline) {
     let Some(bits) = width_of(glyph, outline) else {
         return sheet.null();
@@ -52,7 +52,7 @@ fn width(alloc: Global, sheet: &mut Sheet, glyph: &Glyph<'_, '_>, outline: &Outl
     sheet.put(&text);
 }
 
-/// How many units a run takes that comes to its end, and the base and the accent of an accented glyph.
+/// Returns the cost of a run that ends, and the base and the accent of a `seac` glyph.
 fn cost_of(
     program: &mut Program<'_>,
     budget: &mut Budget,
@@ -66,7 +66,8 @@ fn cost_of(
     Ok((cost, accent.unwrap_or(None)))
 }
 
-/// Writes what the run of a glyph costs, and how many bytes its code has without calls; tells the base and the accent.
+/// Writes the cost of a glyph, and the sizes of its flattened and its desubroutinized code. Returns the base and the
+/// accent of a `seac` glyph.
 fn costs(
     alloc: Global,
     sheet: &mut Sheet,
@@ -88,7 +89,7 @@ fn both(sheet: &mut Sheet, accent: &Accent) {
     sheet.numbers(&[u64::from(accent.base), u64::from(accent.accent)]);
 }
 
-/// Writes what a glyph draws, by its run.
+/// Writes the outline and the code of a glyph.
 fn drawn(
     alloc: Global,
     sheet: &mut Sheet,
@@ -108,7 +109,7 @@ fn drawn(
     Ok(())
 }
 
-/// Writes why a glyph is refused.
+/// Writes the error of a glyph.
 fn refused(
     sheet: &mut Sheet,
     gid: u16,
@@ -122,7 +123,7 @@ fn refused(
     Ok(())
 }
 
-/// Writes a glyph as a row: what it draws, or why it is refused. One whose run takes longer than the limit is told of.
+/// Writes a glyph as a row, with its drawing or its error. A glyph that costs more than the limit is reported.
 pub fn put(
     alloc: Global,
     sheet: &mut Sheet,

@@ -15,8 +15,8 @@ use grid::GRID;
 use page::PAGE;
 use walk::WALK;
 
-/// It makes all that is seen, from the block of JSON that stands in the page. Its parts are one script. A function that names these long
-/// texts has them in its proof, so that none other does.
+/// Returns the parts of the script, which builds the page from the block of JSON. Only this function names these long
+/// texts, since each function that names them has them in its proof.
 pub fn script() -> [&'static str; 7] {
     [BLOCK, WALK, FONT, GRID, GLYPH, CALLS, PAGE]
 }

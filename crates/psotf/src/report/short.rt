@@ -1,16 +1,15 @@
-//! Numbers, written short (docs/REPORT.md).
+//! The short form of numbers (docs/report-format.md).
 use crate::text::Text;
 
-/// The digits of numbers: a number ends with one of the first half.
+/// The digits of numbers. The last digit of a number is in the first half.
 const DIGITS: &[u8; 64] = b"ABCDEFGHIJKLMNOPQRSTUVWXYZabcdefghijklmnopqrstuvwxyz0123456789+/";
 
-/// Adds a digit.
 fn put_digit(text: &mut Text, digit: u64) {
     let letter = DIGITS.get(digit as usize).copied().unwrap_or(b'A');
     text.push(letter as char);
 }
 
-/// Adds a whole number: its sign in the lowest bit, and digits of five bits, the lowest first.
+/// Adds a whole number: digits of five bits, lowest first, with the sign in the lowest bit.
 pub fn put(text: &mut Text, number: i64) {
     let mut left = number.unsigned_abs().saturating_mul(2);
     if number < 0 {
@@ -27,7 +26,7 @@ pub fn put(text: &mut Text, number: i64) {
     }
 }
 
-/// Adds a number of 65536ths: as a whole one, or behind a point as many 65536ths.
+/// Adds a number in 65536ths: a whole one in units, or any other after a point.
 pub fn put_bits(text: &mut Text, bits: i64) {
     if bits % 65536 == 0 {
         put(text, bits / 65536);
@@ -37,7 +36,7 @@ pub fn put_bits(text: &mut Text, bits: i64) {
     }
 }
 
-/// Adds how many there are of something.
+/// Adds a count.
 pub fn put_count(text: &mut Text, count: usize) {
     put(text, i64::try_from(count).unwrap_or(0));
 }

@@ -1,6 +1,6 @@
-//! The style of the page.
+//! The style sheet of the page.
 
-/// It follows the system's choice of dark and light, and is made for paper too.
+/// The style sheet. It follows the system's dark or light mode, and supports printing.
 const STYLE: &str = r##"
 :root {
   color-scheme: light dark;
@@ -37,7 +37,7 @@ td.number, th.number { text-align: right; font-variant-numeric: tabular-nums; wh
 code, pre, .code { font: 13px/1.45 ui-monospace, monospace; overflow-wrap: anywhere; }
 .refused { color: var(--hot); }
 
-/* What is written into, pressed and opened. */
+/* Inputs, buttons and details. */
 input, select, button { font: inherit; color: inherit; background: var(--paper); max-width: 100%; }
 input, select, button { border: 1px solid var(--soft); border-radius: 4px; padding: .25rem .5rem; }
 input[type=range], input[type=checkbox] { padding: 0; }
@@ -109,7 +109,7 @@ path.traced { fill: none; stroke: var(--hot); stroke-width: 2.5; vector-effect: 
 }
 "##;
 
-/// The style, of which no other function has the text in its proof.
+/// Returns the style sheet. Only this function has the text in its proof.
 pub fn style() -> &'static str {
     STYLE
 }

@@ -1,4 +1,4 @@
-//! Pages of files whose table `CFF ` is refused.
+//! Pages about files with an invalid `CFF ` table.
 use super::pages::Pages;
 use super::{begin, end, head, parts, path_of};
 use crate::face::refusal_of;
@@ -10,7 +10,7 @@ use clap::ArgMatches;
 use postscript_sfnt::FontFile;
 use std::alloc::{AllocError, Global};
 
-/// Writes what each reading says of a table: the one in place, by which it is refused, and those of the whole font.
+/// Writes the errors of the readers: of the in-place reader, and of those of the whole font.
 fn put_readings(alloc: Global, sheet: &mut Sheet, cff: &[u8]) {
     sheet.begin_member("readings");
     sheet.key("in_place");
@@ -22,7 +22,8 @@ fn put_readings(alloc: Global, sheet: &mut Sheet, cff: &[u8]) {
     sheet.end_object();
 }
 
-/// Writes what is told of a file all the same: its tables, and the first parts of the table `CFF `, as far as they stand.
+/// Writes the data of a file with an invalid table: its tables, and the first parts of the `CFF ` table, as far as they
+/// are well formed.
 fn put_head(
     alloc: Global,
     sheet: &mut Sheet,
@@ -48,7 +49,7 @@ fn put_head(
     sheet.end_object();
 }
 
-/// The page of a head, with no glyphs.
+/// Returns the page of a head, with no glyphs.
 fn page_of(alloc: Global, head: &mut Sheet) -> Result<Vec<u8>, AllocError> {
     let mut page = Vec::new(alloc);
     begin(alloc, &mut page)?;
@@ -58,7 +59,8 @@ fn page_of(alloc: Global, head: &mut Sheet) -> Result<Vec<u8>, AllocError> {
     Ok(page)
 }
 
-/// Writes a page that shows why a table `CFF ` is refused, and what else the file holds. There is none where a command fails otherwise.
+/// Writes a page that shows why a `CFF ` table is invalid, and the tables of the file. It writes nothing for any other
+/// failure.
 pub fn write_refused(
     rt: &HostRuntime,
     file: &FontFile<'_>,

@@ -1,9 +1,9 @@
-//! User coordinates as words.
+//! Parsing of user coordinates.
 
-/// How many digits behind the point are read.
+/// The most digits before or after the point.
 const PLACES: usize = 6;
 
-/// The number that digits spell, of at most six; None for other words.
+/// Parses at most six digits. Returns `None` for any other text.
 fn number_of(digits: &str) -> Option<i64> {
     if digits.is_empty() || digits.len() > PLACES {
         return None;
@@ -16,7 +16,7 @@ fn number_of(digits: &str) -> Option<i64> {
     Some(number)
 }
 
-/// Ten to the power of so many.
+/// Returns ten to the power of `places`.
 fn power_of_ten(places: usize) -> i64 {
     let mut power = 1i64;
     for _ in 0..places {
@@ -25,7 +25,7 @@ fn power_of_ten(places: usize) -> i64 {
     power
 }
 
-/// The fraction behind a point, in 65536ths, to the nearest one.
+/// Parses the digits after a point, and returns 65536ths, rounded to the nearest.
 fn fraction_of(digits: &str) -> Option<i64> {
     if digits.is_empty() {
         return Some(0);
@@ -38,7 +38,8 @@ fn fraction_of(digits: &str) -> Option<i64> {
         .checked_div(unit.saturating_mul(2))
 }
 
-/// The number that a word spells, as 650, -12 or 0.5, in 65536ths. None where it spells none, or one beyond 16 bits.
+/// Parses a number such as 650, -12 or 0.5, and returns it in 65536ths. Returns `None` for any other text, and for a
+/// number of more than 16 bits.
 pub fn fixed_of(word: &str) -> Option<i32> {
     let digits = word.strip_prefix("-").unwrap_or(word);
     let (whole, fraction) = digits.split_once('.').unwrap_or((digits, ""));

@@ -1,4 +1,4 @@
-//! Glyphs of variable fonts, at a place.
+//! Glyphs of variable fonts at a location.
 use super::place::Chosen;
 use super::{VariableFace, moving};
 use crate::characters::{Mapped, of_glyph};
@@ -19,13 +19,13 @@ use postscript_variation::in_whole;
 use std::alloc::Global;
 use std::io::Write;
 
-/// How many glyphs a face has that have a charstring too.
+/// Returns the number of glyphs that have a charstring.
 pub fn count(face: &VariableFace<'_>) -> u16 {
     let charstrings = face.font.char_strings.len().min(65535) as u16;
     face.common.glyphs.min(charstrings)
 }
 
-/// The advance of a glyph at a place: that of `hmtx`, and what `HVAR` adds, to the nearest unit.
+/// Returns the advance of a glyph at a location: that in `hmtx` plus the delta in `HVAR`, rounded to the nearest unit.
 pub fn advance_of(face: &VariableFace<'_>, gid: u16, chosen: &Chosen) -> i64 {
     let advance = i64::from(face.common.advances.of(gid));
     let Some(variations) = &face.advances else {
@@ -37,7 +37,7 @@ pub fn advance_of(face: &VariableFace<'_>, gid: u16, chosen: &Chosen) -> i64 {
     }
 }
 
-/// Why a glyph is refused that was given a share.
+/// Returns the error of a glyph that was run within a share.
 pub fn refusal_of(
     error: Undrawn,
     face: &VariableFace<'_>,
@@ -55,7 +55,7 @@ pub fn refusal_of(
     }
 }
 
-/// The outline of a glyph at a place, while its share lasts.
+/// Returns the outline of a glyph at a location, if the cost is within its share.
 pub fn outline_of(
     alloc: Global,
     face: &VariableFace<'_>,
@@ -85,7 +85,7 @@ pub fn outline_of(
     }
 }
 
-/// Writes what a glyph draws, or why it is refused, and tells whether it is drawn.
+/// Writes the outline of a glyph, or its error. Returns whether it is drawn.
 fn drawn(sheet: &mut Sheet, outline: &Result<Outline, Refusal>) -> bool {
     match outline {
         Ok(outline) => {
@@ -99,7 +99,7 @@ fn drawn(sheet: &mut Sheet, outline: &Result<Outline, Refusal>) -> bool {
     }
 }
 
-/// A face at a place.
+/// A font at a location.
 #[derive(Clone, Copy)]
 struct Placed<'f, 'l> {
     face: &'f VariableFace<'l>,
@@ -152,7 +152,7 @@ impl<'f, 'l> Glyphs for Placed<'f, 'l> {
     }
 }
 
-/// Writes the glyphs that words name, at the place that they name.
+/// Prints the chosen glyphs at the chosen location.
 pub fn write<W: Write>(
     rt: &HostRuntime,
     face: &VariableFace<'_>,
@@ -168,7 +168,7 @@ pub fn write<W: Write>(
     glyphs::write(rt, &placed, words, budget, out)
 }
 
-/// Writes a picture of the glyph or the text that words name, at the place that they name.
+/// Writes a picture of the chosen glyph or text, at the chosen location.
 pub fn write_picture<W: Write>(
     rt: &HostRuntime,
     face: &VariableFace<'_>,

@@ -1,4 +1,4 @@
-//! What a face of a variable font holds.
+//! The command `inspect` for variable fonts.
 use super::VariableFace;
 use super::place::name_of;
 use crate::characters::count;
@@ -11,7 +11,7 @@ use postscript_variation::{Axes, Axis};
 use std::alloc::Global;
 use std::io::Write;
 
-/// What is counted, under its name, with the number of characters.
+/// Returns the counts of a font, with their keys.
 fn counts(face: &VariableFace<'_>, characters: u64) -> [(&'static str, u64); 7] {
     let data = match &face.font.store {
         Some(store) => store.len(),
@@ -50,7 +50,7 @@ fn axis(sheet: &mut Sheet, face: &VariableFace<'_>, axis: &Axis) {
     sheet.end_object();
 }
 
-/// Writes an instance as an object: its name, and its coordinate along each axis.
+/// Writes an instance as an object, with its name and its coordinates.
 fn instance(sheet: &mut Sheet, face: &VariableFace<'_>, axes: &Axes<'_>, i: usize) {
     let Some(instance) = axes.instance(i) else {
         return;
@@ -65,7 +65,6 @@ fn instance(sheet: &mut Sheet, face: &VariableFace<'_>, axes: &Axes<'_>, i: usiz
     sheet.end_object();
 }
 
-/// Writes the axes.
 fn axes(sheet: &mut Sheet, face: &VariableFace<'_>) {
     sheet.begin_list("axes");
     if let Some(axes) = &face.axes {
@@ -78,7 +77,6 @@ fn axes(sheet: &mut Sheet, face: &VariableFace<'_>) {
     sheet.end_array();
 }
 
-/// Writes the instances.
 fn instances(sheet: &mut Sheet, face: &VariableFace<'_>) {
     sheet.begin_list("instances");
     if let Some(axes) = &face.axes {
@@ -89,7 +87,7 @@ fn instances(sheet: &mut Sheet, face: &VariableFace<'_>) {
     sheet.end_array();
 }
 
-/// Writes all that is told, as an object on a sheet.
+/// Writes the font as a JSON object.
 fn put(alloc: Global, sheet: &mut Sheet, face: &VariableFace<'_>) {
     sheet.begin_object();
     let (family, style) = called(&face.common.names);
@@ -104,20 +102,20 @@ fn put(alloc: Global, sheet: &mut Sheet, face: &VariableFace<'_>) {
     sheet.end_object();
 }
 
-/// Writes an object of all that is told.
+/// Prints the font as a JSON object.
 fn object<W: Write>(alloc: Global, face: &VariableFace<'_>, out: &mut W) -> Result<(), Failure> {
     let mut sheet = Sheet::new(alloc);
     put(alloc, &mut sheet, face);
     sheet.end(out)
 }
 
-/// Adds a value in 65536ths behind words.
+/// Adds a text and a value in 65536ths.
 fn put_value(lines: &mut Text, words: &str, bits: i32) {
     lines.push_str(words);
     put_bits(lines, i64::from(bits));
 }
 
-/// Adds a line of an axis: from where to where it goes, and where its default is.
+/// Adds the line of an axis: its range and its default.
 fn axis_line(alloc: Global, lines: &mut Text, face: &VariableFace<'_>, axis: &Axis) {
     lines.push_str("axis ");
     lines.put_made(String::from_utf8_lossy(alloc, &axis.tag.to_be_bytes()));
@@ -133,7 +131,7 @@ fn axis_line(alloc: Global, lines: &mut Text, face: &VariableFace<'_>, axis: &Ax
     });
 }
 
-/// Adds a line of an instance.
+/// Adds the line of an instance.
 fn instance_line(lines: &mut Text, face: &VariableFace<'_>, axes: &Axes<'_>, i: usize) {
     let Some(instance) = axes.instance(i) else {
         return;
@@ -147,7 +145,7 @@ fn instance_line(lines: &mut Text, face: &VariableFace<'_>, axes: &Axes<'_>, i: 
     lines.push('\n');
 }
 
-/// Adds lines of the names and the numbers.
+/// Adds the lines of the names and the counts.
 fn head_lines(alloc: Global, lines: &mut Text, face: &VariableFace<'_>) {
     let (family, style) = called(&face.common.names);
     lines.put_named("family", family);
@@ -159,7 +157,7 @@ fn head_lines(alloc: Global, lines: &mut Text, face: &VariableFace<'_>) {
     }
 }
 
-/// Adds a line of each axis.
+/// Adds a line for each axis.
 fn axis_lines(alloc: Global, lines: &mut Text, face: &VariableFace<'_>, axes: &Axes<'_>) {
     for i in 0..axes.len() {
         if let Some(axis) = axes.get(i) {
@@ -168,14 +166,14 @@ fn axis_lines(alloc: Global, lines: &mut Text, face: &VariableFace<'_>, axes: &A
     }
 }
 
-/// Adds a line of each instance.
+/// Adds a line for each instance.
 fn instance_lines(lines: &mut Text, face: &VariableFace<'_>, axes: &Axes<'_>) {
     for i in 0..axes.instances() {
         instance_line(lines, face, axes, i);
     }
 }
 
-/// Writes lines of all that is told.
+/// Prints the font as lines.
 fn lines<W: Write>(alloc: Global, face: &VariableFace<'_>, out: &mut W) -> Result<(), Failure> {
     let mut lines = Text::new(alloc);
     head_lines(alloc, &mut lines, face);
@@ -186,7 +184,7 @@ fn lines<W: Write>(alloc: Global, face: &VariableFace<'_>, out: &mut W) -> Resul
     lines.end_in(out)
 }
 
-/// Writes what a face of a variable font holds.
+/// Prints the contents of a variable font.
 pub fn write<W: Write>(
     alloc: Global,
     face: &VariableFace<'_>,

@@ -1,4 +1,4 @@
-//! Pictures of a variable font that go through an axis.
+//! Animated pictures of variable fonts.
 use super::VariableFace;
 use super::glyphs::{advance_of, count, outline_of};
 use super::place::{Chosen, axis_named};
@@ -14,13 +14,13 @@ use postscript_variation::{Axis, Setting};
 use std::alloc::{AllocError, Global};
 use std::io::Write;
 
-/// How many steps there are from an end of the axis to its default.
+/// The number of steps from an end of the axis to its default.
 const STEPS: i64 = 4;
 
-/// How an element moves: how long it takes to go there and back, and that it does so again and again.
+/// The duration of one movement to the other end and back, repeated forever.
 const TIME: &str = "dur=\"8s\" repeatCount=\"indefinite\"";
 
-/// Glyphs at a place: the path of each, where it stands, and how wide all are.
+/// Glyphs at a location: their paths, their positions and their total width.
 #[derive(Drop)]
 struct Frame {
     paths: Vec<String>,
@@ -28,15 +28,15 @@ struct Frame {
     width: i64,
 }
 
-/// The value at a step on the way from one to another.
+/// Returns the value at a step from one value to another.
 fn between(from: i32, to: i32, step: i64) -> i32 {
     let way = i64::from(to).saturating_sub(i64::from(from));
     let gone = way.saturating_mul(step) / STEPS;
     i32::try_from(i64::from(from).saturating_add(gone)).unwrap_or(to)
 }
 
-/// The value along an axis at the stop of a number, from -STEPS to STEPS: from its least to its default, where what varies may turn, and
-/// to its greatest. None where the axis has no stop of this number.
+/// Returns the value of the axis at a stop from -STEPS to STEPS. It goes from the minimum over the default, at which
+/// the variation may change direction, to the maximum. Returns `None` if the axis does not have the stop.
 fn stop(axis: &Axis, number: i64) -> Option<i32> {
     if number >= STEPS {
         Some(axis.maximum)
@@ -49,7 +49,7 @@ fn stop(axis: &Axis, number: i64) -> Option<i32> {
     }
 }
 
-/// The glyph of a number, or those of a text.
+/// Returns the glyph with a number, or the glyphs of a text.
 fn glyphs_of(
     alloc: Global,
     face: &VariableFace<'_>,
@@ -67,7 +67,7 @@ fn glyphs_of(
     Ok(gids)
 }
 
-/// The first glyph of some that the face does not have.
+/// Returns the first of the glyphs that the font does not have.
 fn beyond(face: &VariableFace<'_>, gids: &[u16]) -> Option<u16> {
     for gid in gids {
         if *gid >= count(face) {
@@ -77,7 +77,7 @@ fn beyond(face: &VariableFace<'_>, gids: &[u16]) -> Option<u16> {
     None
 }
 
-/// The glyphs that words name.
+/// Returns the glyphs that the arguments select.
 fn asked(
     alloc: Global,
     face: &VariableFace<'_>,
@@ -96,7 +96,7 @@ fn asked(
 }
 
 impl Frame {
-    /// Adds a glyph beside the others.
+    /// Adds a glyph to the right of the others.
     fn put(&mut self, alloc: Global, outline: &Outline, advance: i64) -> Result<(), AllocError> {
         self.paths.push(format!(in alloc; "{outline}")?)?;
         self.starts.push(self.width)?;
@@ -104,7 +104,7 @@ impl Frame {
         Ok(())
     }
 
-    /// Adds glyphs side by side at a place.
+    /// Adds glyphs from left to right, at a location.
     fn put_all(
         &mut self,
         alloc: Global,
@@ -123,7 +123,7 @@ impl Frame {
     }
 }
 
-/// Adds the glyphs at a value along the axis.
+/// Adds the glyphs at a value of the axis.
 fn put_frame(
     alloc: Global,
     face: &VariableFace<'_>,
@@ -163,12 +163,12 @@ fn put_frames(
     Ok(())
 }
 
-/// How many frames are shown there and back.
+/// Returns the number of frames shown in both directions.
 fn shown(frames: &[Frame]) -> usize {
     frames.len().saturating_mul(2).saturating_sub(1)
 }
 
-/// The frame that is shown as the one of this number.
+/// Returns the frame that is shown with a number.
 fn frame_at(frames: &[Frame], number: usize) -> Option<&Frame> {
     let last = frames.len().saturating_sub(1);
     if number <= last {
@@ -178,7 +178,7 @@ fn frame_at(frames: &[Frame], number: usize) -> Option<&Frame> {
     }
 }
 
-/// Adds the element that moves the path of a glyph.
+/// Adds the element that animates the path of a glyph.
 fn put_shapes(picture: &mut Text, frames: &[Frame], glyph: usize) {
     picture.push_str("<animate attributeName=\"d\" ");
     picture.push_str(TIME);
@@ -196,7 +196,7 @@ fn put_shapes(picture: &mut Text, frames: &[Frame], glyph: usize) {
     picture.push_str("\"/>\n");
 }
 
-/// Adds the element that moves the place of a glyph.
+/// Adds the element that animates the position of a glyph.
 fn put_starts(picture: &mut Text, frames: &[Frame], glyph: usize) {
     picture.push_str("<animateTransform attributeName=\"transform\" type=\"translate\" ");
     picture.push_str(TIME);
@@ -215,7 +215,7 @@ fn put_starts(picture: &mut Text, frames: &[Frame], glyph: usize) {
     picture.push_str("\"/>\n");
 }
 
-/// Adds a glyph as an element that moves. It begins as it is in the first frame.
+/// Adds a glyph as an animated element. It begins with the first frame.
 fn put_glyph(picture: &mut Text, frames: &[Frame], glyph: usize) {
     let Some(first) = frames.first() else {
         return;
@@ -232,7 +232,7 @@ fn put_glyph(picture: &mut Text, frames: &[Frame], glyph: usize) {
     }
 }
 
-/// How wide the widest frame is.
+/// Returns the width of the widest frame.
 fn width_of(frames: &[Frame]) -> i64 {
     let mut width = 0i64;
     for frame in frames {
@@ -241,7 +241,7 @@ fn width_of(frames: &[Frame]) -> i64 {
     width
 }
 
-/// The glyphs as elements that move.
+/// Returns the animated elements of all glyphs.
 fn elements(alloc: Global, frames: &[Frame], glyphs: usize) -> Text {
     let mut picture = Text::new(alloc);
     for glyph in 0..glyphs {
@@ -250,7 +250,7 @@ fn elements(alloc: Global, frames: &[Frame], glyphs: usize) -> Text {
     picture
 }
 
-/// A picture of glyphs that goes through an axis.
+/// Returns the animated picture of glyphs.
 fn moving(
     alloc: Global,
     face: &VariableFace<'_>,
@@ -265,7 +265,7 @@ fn moving(
     Ok(picture_of(alloc, face.common.units, &width_of(&frames), paths)?)
 }
 
-/// Writes a picture of the glyph or the text that words name, which goes through an axis and back.
+/// Writes a picture of the chosen glyph or text, animated along an axis and back.
 pub fn write<W: Write>(
     rt: &HostRuntime,
     face: &VariableFace<'_>,

@@ -1,4 +1,4 @@
-//! Places of the design space, as words name them.
+//! Locations in the design space, from arguments.
 use super::VariableFace;
 use super::fixed::fixed_of;
 use crate::failure::Failure;
@@ -10,22 +10,22 @@ use postscript_variable_font::Place;
 use postscript_variation::{Axes, Axis, Setting};
 use std::alloc::{AllocError, Global};
 
-/// A place, and how it is asked for.
+/// A location, and the arguments that chose it.
 #[derive(Drop)]
 pub struct Chosen {
     pub place: Place,
-    /// Its normalized coordinates.
+    /// The normalized coordinates.
     pub coordinates: Vec<i16>,
-    /// What is asked for along axes.
+    /// The user coordinates in the arguments.
     pub settings: Vec<Setting>,
-    /// The number of the instance whose name is asked for.
+    /// The number of the instance in the arguments.
     pub instance: Option<usize>,
 }
 
-/// What is said of a list of settings that is none.
+/// The message for a malformed list of axis values.
 const NO_SETTINGS: &str = "--variations takes a list of tags and numbers, e.g. wght=650,opsz=12";
 
-/// The number of a tag of one to four bytes; spaces fill it.
+/// Parses a tag of one to four bytes, padded with spaces.
 fn tag_of(word: &str) -> Option<u32> {
     if word.is_empty() || word.len() > 4 {
         return None;
@@ -38,7 +38,7 @@ fn tag_of(word: &str) -> Option<u32> {
     Some(tag)
 }
 
-/// The first axis of a tag.
+/// Returns the first axis with a tag.
 fn axis_of(axes: &Axes<'_>, tag: u32) -> Option<Axis> {
     for i in 0..axes.len() {
         if let Some(axis) = axes.get(i) {
@@ -50,7 +50,7 @@ fn axis_of(axes: &Axes<'_>, tag: u32) -> Option<Axis> {
     None
 }
 
-/// The axis of a face that a word names by its tag.
+/// Returns the axis of a font with a tag.
 pub fn axis_named(alloc: Global, face: &VariableFace<'_>, name: &str) -> Result<Axis, Failure> {
     let axes = axes_of(face)?;
     if let Some(tag) = tag_of(name) {
@@ -61,7 +61,7 @@ pub fn axis_named(alloc: Global, face: &VariableFace<'_>, name: &str) -> Result<
     Err(Failure::no_axis(String::from_str(alloc, name)?))
 }
 
-/// The axes of a face.
+/// Returns the axes of a font.
 fn axes_of<'f, 'l>(face: &'f VariableFace<'l>) -> Result<&'f Axes<'l>, Failure> {
     match &face.axes {
         Some(axes) => Ok(axes),
@@ -69,7 +69,7 @@ fn axes_of<'f, 'l>(face: &'f VariableFace<'l>) -> Result<&'f Axes<'l>, Failure> 
     }
 }
 
-/// The setting that a word such as wght=650 asks for. A value past the ends of the axis is told on standard error.
+/// Parses an axis value such as wght=650. A value outside the axis is reported on standard error.
 fn setting_of(rt: &HostRuntime, axes: &Axes<'_>, word: &str) -> Result<Setting, Failure> {
     let Some((name, number)) = word.split_once('=') else {
         return Err(Failure::usage(NO_SETTINGS));
@@ -89,7 +89,7 @@ fn setting_of(rt: &HostRuntime, axes: &Axes<'_>, word: &str) -> Result<Setting, 
     Ok(Setting { tag, value })
 }
 
-/// The settings that a list of words asks for.
+/// Parses a list of axis values.
 fn settings_of(rt: &HostRuntime, axes: &Axes<'_>, list: &str) -> Result<Vec<Setting>, Failure> {
     let mut settings = Vec::new(rt.alloc());
     for word in list.split(',') {
@@ -98,14 +98,14 @@ fn settings_of(rt: &HostRuntime, axes: &Axes<'_>, list: &str) -> Result<Vec<Sett
     Ok(settings)
 }
 
-/// The characters of a name as text.
+/// Returns the characters of a name.
 pub fn text_of(alloc: Global, name: Option<Name<'_>>) -> Result<String, AllocError> {
     let mut text = Text::new(alloc);
     text.put_name(name);
     text.end()
 }
 
-/// The name of an identifier.
+/// Returns the name with an ID.
 pub fn name_of<'l>(face: &VariableFace<'l>, identifier: u16) -> Option<Name<'l>> {
     match &face.common.names {
         Some(names) => names.get(identifier),
@@ -113,7 +113,7 @@ pub fn name_of<'l>(face: &VariableFace<'l>, identifier: u16) -> Option<Name<'l>>
     }
 }
 
-/// The number of the first instance of a name.
+/// Returns the number of the first instance with a name.
 fn instance_of(
     alloc: Global,
     face: &VariableFace<'_>,
@@ -130,7 +130,7 @@ fn instance_of(
     Err(Failure::no_instance(String::from_str(alloc, name)?))
 }
 
-/// The settings of an instance: a value for each axis.
+/// Returns the axis values of an instance.
 fn settings_of_instance(
     alloc: Global,
     axes: &Axes<'_>,
@@ -148,7 +148,7 @@ fn settings_of_instance(
     Ok(settings)
 }
 
-/// The settings that words ask for, and the instance that they name; none where they name no place.
+/// Returns the axis values and the instance that the arguments select, or none.
 fn asked(
     rt: &HostRuntime,
     face: &VariableFace<'_>,
@@ -167,7 +167,7 @@ fn asked(
 }
 
 impl Chosen {
-    /// The place of settings; along other axes it is at their defaults.
+    /// Returns the location of axis values. All other axes have their defaults.
     fn of(
         alloc: Global,
         face: &VariableFace<'_>,
@@ -188,7 +188,7 @@ impl Chosen {
         })
     }
 
-    /// The place that words name: by default that of the defaults of all axes.
+    /// Returns the location that the arguments select. Without them, it is the default instance.
     pub fn read(
         rt: &HostRuntime,
         face: &VariableFace<'_>,
@@ -198,7 +198,7 @@ impl Chosen {
         Chosen::of(rt.alloc(), face, settings, instance)
     }
 
-    /// The same place but along one axis.
+    /// Returns the same location with another value of one axis.
     pub fn at(
         &self,
         alloc: Global,
@@ -213,7 +213,8 @@ impl Chosen {
         Chosen::of(alloc, face, settings, None)
     }
 
-    /// Where the place stands along an axis, in 65536ths: at the last setting of its tag, or else at its default.
+    /// Returns the value of an axis in 65536ths: the last one in the arguments with its tag, or the default. It is
+    /// clamped to the axis.
     pub fn value(&self, axis: &Axis) -> i32 {
         let mut value = axis.default;
         for setting in &self.settings {

@@ -1,21 +1,21 @@
-//! How much work the tables of a variable font make, before it is done.
+//! The amount of work that the tables of a variable font make, computed beforehand.
 use super::VariableFace;
 use postscript_base::index::number::number_within;
 use postscript_cff2::Dictionary;
 use postscript_cff2::layout::PRIVATE;
 use postscript_variation::Store;
 
-/// The most axes, and the most named instances, that a face may have.
+/// The most axes, and the most named instances, of a font.
 const MOST: usize = 4_000;
 
-/// The most scalars that a place may have: each region that data name has one, also where data share their bytes.
+/// The most scalars at a location: one for each region that item variation data use, even if the data overlap.
 const SCALARS: u64 = 5_000_000;
 
-/// The most steps that the variations of a place, or of all advances, may take: one for each axis of each region; and the most that the
-/// dictionaries of all glyphs may take, which are read for each glyph: one for each byte.
+/// The most steps for the scalars of a location, or for all advances: one for each axis of each region. It also limits
+/// the bytes of DICTs that are read for all glyphs.
 const STEPS: u64 = 100_000_000;
 
-/// How many regions the data of a store name: all together, and the most of one.
+/// Returns the number of regions that the data of a store use: the total, and the maximum for one.
 fn regions_of(store: &Store<'_>) -> (u64, u64) {
     let (mut sum, mut most) = (0u64, 0u64);
     for number in 0..store.len() {
@@ -28,7 +28,7 @@ fn regions_of(store: &Store<'_>) -> (u64, u64) {
     (sum, most)
 }
 
-/// How many bytes the longest font dictionary has, with the private dictionary that it names.
+/// Returns the length of the longest Font DICT together with its Private DICT, in bytes.
 fn longest_dictionary(face: &VariableFace<'_>) -> u64 {
     let mut longest = 0u64;
     for item in face.font.font_dictionaries.iter() {
@@ -39,12 +39,12 @@ fn longest_dictionary(face: &VariableFace<'_>) -> u64 {
     longest
 }
 
-/// Whether the dictionaries that are read for the glyphs have too many bytes together.
+/// Returns whether the DICTs that are read for the glyphs have too many bytes.
 fn reads_too_much(face: &VariableFace<'_>, glyphs: u64) -> bool {
     longest_dictionary(face).saturating_mul(glyphs) > STEPS
 }
 
-/// Whether a place has too many scalars, or takes too many steps.
+/// Returns whether a location has too many scalars, or takes too many steps.
 fn varies_too_much(store: &Option<Store<'_>>, axes: u64) -> bool {
     match store {
         Some(store) => {
@@ -55,7 +55,7 @@ fn varies_too_much(store: &Option<Store<'_>>, axes: u64) -> bool {
     }
 }
 
-/// Whether the variations of all advances take too many steps.
+/// Returns whether the variations of all advances take too many steps.
 fn advances_too_much(face: &VariableFace<'_>, axes: u64, glyphs: u64) -> bool {
     let hvar = face.file.table(*b"HVAR").unwrap_or(&[]);
     let place = number_within(hvar, 4, 4).unwrap_or(0);
@@ -68,7 +68,7 @@ fn advances_too_much(face: &VariableFace<'_>, axes: u64, glyphs: u64) -> bool {
     }
 }
 
-/// The first table that makes more work than is done here. None where none does.
+/// Returns the first table that is too expensive to process. Returns `None` if there is none.
 pub fn heavy_table(face: &VariableFace<'_>) -> Option<&'static str> {
     let (axes, instances) = match &face.axes {
         Some(axes) => (axes.len(), axes.instances()),

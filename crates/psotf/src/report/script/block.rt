@@ -1,4 +1,4 @@
-//! The script of the page: how it makes elements, and how it reads the block of JSON.
+//! The script of the page: making of elements, and reading of the block of JSON.
 
 /// Reads the block, and makes elements. Texts of the block enter the page through `put` only.
 pub const BLOCK: &str = r##"

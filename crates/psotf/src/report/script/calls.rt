@@ -1,4 +1,4 @@
-//! The script of the page: subroutines, and which glyphs call them.
+//! The script of the page: subroutines, and the glyphs that call them.
 
 /// Calls are counted when they are first shown.
 pub const CALLS: &str = r##"
