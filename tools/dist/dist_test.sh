@@ -167,7 +167,7 @@ def path(file):
     text = file.read_text()
     if file.suffix == ".json":
         pieces = [piece for segment in json.loads(text)["segments"] for piece in segment]
-        text = " ".join(pieces)
+        text = " ".join(map(str, pieces))
     else:
         text = re.search(r'\bd="([^"]*)"', text)[1]
     return [word if word.isalpha() else float(word) for word in re.findall(r"[MLCZ]|-?[\d.]+(?:e-?\d+)?", text)]

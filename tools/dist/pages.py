@@ -1,11 +1,11 @@
 #!/usr/bin/python3
-"""The manual pages and the completions, made from what the programs and the header say of themselves.
+"""Makes the manual pages and the completions from the help of the programs, the header and two documents.
 
     tools/dist/pages.py PSOTF PSFONT OUT
 
-PSOTF and PSFONT are the programs, and OUT is the folder that man/ and the completions are written to, as share/ holds them. Of psotf
-each subcommand's --help is read: its words, its options and what they ask for. Of psfont the usage is read, and the table of its
-lines in docs/FAULTS.md. postscript.h(3) is bindings/c/postscript.h. What no program says of itself stands here: exit statuses and files.
+PSOTF and PSFONT are the programs, and OUT is the folder for man/ and the completions, laid out like share/. psotf(1) is made from the --help of
+each subcommand. psfont(1) is made from its usage, the table of its lines in docs/psfont.md, and the table of errors in docs/errors.md.
+postscript.h(3) is made from bindings/c/postscript.h. Exit statuses and files are described in this script.
 """
 
 import os
@@ -20,7 +20,7 @@ TOP = pathlib.Path(__file__).resolve().parents[2]
 VERSION = (TOP / "VERSION").read_text().strip()
 DATE = time.strftime("%Y-%m-%d", time.gmtime(int(os.environ.get("SOURCE_DATE_EPOCH", "0"))))
 
-#: what is behind an option, by the name of its value: anything else is text or a number, which is not completed
+#: the names of option values that are paths; all others are text or numbers, which are not completed
 FILES = {"FILE", "OUT", "PATH"}
 
 
@@ -47,7 +47,7 @@ def asked(program, *words):
 
 
 def sections_of(text):
-    """The paragraphs of a help by their headings, which end with a colon; the first one has none."""
+    """The sections of a help text by their headings. The first section has none."""
     sections, heading = {"": []}, ""
     for line in text.splitlines():
         found = re.fullmatch(r"(Usage|Commands|Arguments|Options|Examples):(.*)", line)
@@ -102,7 +102,7 @@ def title(name, section, manual):
 
 
 def spelled(usage):
-    """The usage: words in capitals are values, and all else is written as it stands."""
+    """The usage, with values in italics and the rest in bold."""
     return re.sub(r"<(\w+)>|(--?[\w-]+)", lambda m: rf"\fI{m[1]}\fR" if m[1] else bold(m[2]), usage).replace("OPTIONS", "options")
 
 
@@ -126,7 +126,7 @@ def psotf_page(program, commands, options, told):
         for word, help_ in command.words:
             page += f".TP\n\\fI{word}\\fR\n{quoted(help_)}.\n"
         page += "".join(option_lines(option) for option in command.options)
-    page += ".SS psotf help\nThe help of a command.\n.SH OPTIONS\n" + "".join(option_lines(option) for option in options)
+    page += ".SS psotf help\nPrint the help of a command.\n.SH OPTIONS\n" + "".join(option_lines(option) for option in options)
     page += ".SH EXIT STATUS\n" + "".join(f".TP\n.B {status}\n{quoted(what)}\n" for status, what in STATUSES["psotf"])
     page += ".SH FILES\n" + quoted(PSOTF_FILES)
     page += ".SH EXAMPLES\n.nf\n" + "".join(quoted(line.strip()) + "\n" for line in told["Examples"]) + ".fi\n"
@@ -138,29 +138,29 @@ def psfont_page(program):
     words = re.fullmatch(r"usage: psfont \[(.*)\]", usage)
     assert words, usage
     page = title("psfont", 1, "User Commands")
-    page += ".SH NAME\npsfont \\- charstrings of Type 2, fonts and tables CFF, a line each\n.SH SYNOPSIS\n.B psfont\n"
+    page += ".SH NAME\npsfont \\- run Type 2 charstrings and read CFF tables, line by line\n.SH SYNOPSIS\n.B psfont\n"
     for word in words[1].split(" | "):
         name, value = word.split()
         page += f".br\n.B psfont {name}\n\\fI{value}\\fR\n"
     page += f".br\n.B psfont {quoted('--limit')}\n\\fIN\\fR\n"
     page += ".SH DESCRIPTION\n" + quoted(PSFONT) + ".SH LINES\n"
-    faults = (TOP / "docs" / "FAULTS.md").read_text()
-    rows = faults.split("# The lines of `psfont`", 1)[1].split("\n#", 1)[0]
+    rows = (TOP / "docs" / "psfont.md").read_text().split("# The lines of `psfont`", 1)[1].split("\n#", 1)[0]
     for line, answer in re.findall(r"^\| (`.*?) \| (.*) \|$", rows, flags=re.M):
         page += f".TP\n{bold(line.replace('`', ''))}\n{quoted(answer.replace('`', ''))}.\n"
     page += ".SH OPTIONS\n.TP\n" + f".B {quoted('--limit')} \\fIN\\fR\n"
-    page += quoted("Holds each run to N units: a run or flat code that takes longer is told in a line that names the code, N and the option.") + "\n"
+    page += quoted("Allow each run N units. If a run or flat code costs more, the answer is one line with the code and N, and the session continues.") + "\n"
     page += ".SH FAULTS\n"
-    for number, name, cause in re.findall(r"^\| (\d+) \| `(\w+)` \| (.*) \|$", faults, flags=re.M):
+    errors = (TOP / "docs" / "errors.md").read_text()
+    for number, name, cause in re.findall(r"^\| (\d+) \| `(\w+)` \| (.*) \|$", errors, flags=re.M):
         page += f".TP\n.B {number} {name}\n{quoted(cause.replace('`', ''))}.\n"
     page += ".SH EXIT STATUS\n" + "".join(f".TP\n.B {status}\n{quoted(what)}\n" for status, what in STATUSES["psfont"])
-    page += ".SH FILES\nPATH is a file with the bytes of a table CFF.\n"
+    page += ".SH FILES\nPATH is a file with the bytes of a CFF table.\n"
     page += ".SH EXAMPLES\n.nf\n" + quoted("printf 'code 8e8c8d150e\\nrun\\n' | psfont\npsfont font Table.cff\n") + ".fi\n"
     return page + ".SH SEE ALSO\n.BR psotf (1),\n.BR postscript.h (3)\n"
 
 
 def comment_of(text):
-    """The paragraphs of a comment; a list's items are paragraphs of their own."""
+    """The paragraphs of a comment. Each item of a list is a paragraph."""
     lines = [re.sub(r"^ ?\*? ?", "", line) for line in text.strip().splitlines()]
     paragraphs = [""]
     for line in lines:
@@ -200,7 +200,7 @@ def header_page():
         name = re.match(r"\w+_t (psf_\w+)\(", declared)[1]
         page += f".SS {name}\n" + ".nf\n" + "".join(bold(line) + "\n" for line in declared.splitlines()) + ".fi\n" + prose(comment_of(comment))
     page += ".SH RETURN VALUE\n" + quoted(
-        "But for psf_version each call answers PSF_OK, which is 0, or why it is refused, and psf_status_text tells that in words.\n"
+        "Except for psf_version, each function returns PSF_OK, which is 0, or a status that says why it failed. psf_status_text describes a status.\n"
     )
     page += ".SH FILES\n" + quoted(HEADER_FILES)
     page += ".SH EXAMPLES\n.nf\n" + quoted((TOP / "tools" / "dist" / "example" / "advance.c").read_text()) + ".fi\n"
@@ -208,28 +208,29 @@ def header_page():
 
 
 PSOTF = """\
-psotf tells what OpenType files with a table CFF hold, draws their glyphs in exact numbers, writes pages to look at, and writes files without
-subroutines or of some glyphs. Numbers of glyphs and faces count from 0. Coordinates are in units of the font.
+psotf inspects OpenType fonts with CFF or CFF2 outlines, draws their glyphs with exact coordinates, and writes HTML reports, fonts without
+subroutines, fonts with only some glyphs, and static instances of variable fonts. Glyphs and the fonts of a collection are counted from 0.
+Coordinates are in font units.
 """
 PSOTF_FILES = """\
-FILE is an OpenType file (.otf) or a collection (.otc, .ttc), and it is only read. OUT is written beside its place, as OUT.part, and then
-moved there. Further pages of report stand beside OUT: of report.html the one that begins with glyph 10000 is report-10000.html.
+FILE is an OpenType file (.otf) or a collection (.otc, .ttc). It is only read. psotf writes OUT.part and renames it to OUT, so OUT is complete
+or untouched. Reports of more than 10000 glyphs have more pages next to OUT, such as report-10000.html for the page that begins with glyph 10000.
 """
 PSFONT = """\
-Without words psfont reads lines and answers each of them, until the input ends. Bytes are spelled as hexadecimal digits. With words it
-tells what the font of a file holds: font refuses what Technical Note 5176 does not allow, and lenient passes a font that lacks a private
-dictionary or local subroutines.
+Without arguments psfont reads lines and answers each of them, until the input ends. Bytes are written in hexadecimal. With arguments it
+describes the font in a file. font follows Technical Note 5176 strictly, and lenient also accepts a font that lacks a Private DICT or local
+subroutines.
 """
 STATUSES = {
     "psotf": [
-        ("0", "What was asked for is told or written."),
-        ("1", "A file is not read or written, the font is refused, or the run of a glyph is; a line on standard error says why."),
-        ("2", "The words are wrong."),
+        ("0", "Success. Also if the reader of a pipe has gone."),
+        ("1", "A file or a glyph has an error, or a file cannot be read or written. A line on standard error gives the cause."),
+        ("2", "Wrong arguments, or an axis or instance that the font does not have."),
     ],
     "psfont": [
-        ("0", "The input came to its end, and each line was answered; or the font of the file was told."),
-        ("1", "The file is no font, or reading or writing failed: psfont: fault N on standard error."),
-        ("2", "The words are wrong."),
+        ("0", "Success: each line is answered, or the font in the file is described."),
+        ("1", "The file contains no font, or reading or writing failed. Standard error has the line psfont: fault N."),
+        ("2", "Wrong arguments."),
     ],
 }
 HEADER_FILES = """\
@@ -298,7 +299,7 @@ _psotf() {{
     command)
         commands=(
 {listed}
-            'help:The help of a command'
+            'help:Print the help of a command'
         )
         _describe command commands
         ;;
@@ -323,7 +324,7 @@ def fish(commands, options):
         return f"complete -c psotf -n {said(condition)}{names}{value} -d {said(option.help)}\n"
 
     text = "# completions of psotf for fish\n"
-    for name, about in [(c.name, c.about) for c in commands] + [("help", "The help of a command")]:
+    for name, about in [(c.name, c.about) for c in commands] + [("help", "Print the help of a command")]:
         text += f"complete -c psotf -f -n __fish_use_subcommand -a {name} -d {said(about)}\n"
     text += "".join(row("__fish_use_subcommand", option) for option in options)
     for command in commands:
@@ -332,7 +333,7 @@ def fish(commands, options):
 
 
 def of_psfont(program):
-    """The completions of psfont, which has words and no options: by its usage."""
+    """The completions of psfont, from its usage. It has subcommands and no options."""
     words = [word.split()[0] for word in re.search(r"\[(.*)\]", asked(program, "--help").stderr)[1].split(" | ")]
     names = " ".join(words)
     return {

@@ -128,7 +128,7 @@ def _(folder):
 @case("subset: what is left out is said once")
 def _(folder):
     _, said = subset(folder)
-    assert said == "psotf: tables left out: FFTM GDEF GPOS GSUB; kerning and ligatures are lost\n", said
+    assert said == "psotf: tables dropped: FFTM GDEF GPOS GSUB; kerning and ligatures are lost\n", said
 
 
 @case("subset: without layout nothing is lost")
@@ -138,7 +138,7 @@ def _(folder):
     for tag in ("GDEF", "GPOS", "GSUB"):
         del font[tag]
     font.save(path)
-    assert subset(folder, font=path)[1] == "psotf: tables left out: FFTM\n"
+    assert subset(folder, font=path)[1] == "psotf: tables dropped: FFTM\n"
     run("subset", path, "--text", "Hello", "-o", out)
     assert run("subset", out, "--text", "He", "-o", folder / "again.otf")[1] == ""
 
@@ -153,7 +153,7 @@ def _(folder):
 @case("svg: characters without a glyph are named, and nothing is drawn")
 def _(folder):
     out = folder / "text.svg"
-    told = f"psotf: {FONT}: the face has no glyph for: U+6F22 U+1F600\n"
+    told = f"psotf: {FONT}: the font has no glyph for: U+6F22 U+1F600\n"
     assert run("svg", FONT, "--text", "A漢B😀漢", "-o", out, status=1)[1] == told
     assert not out.exists()
     assert run("subset", FONT, "--text", "A漢B😀漢", "-o", out, status=1)[1] == told
@@ -163,7 +163,7 @@ def _(folder):
 @case("svg: --missing draw draws them all the same, and names them")
 def _(folder):
     out = folder / "text.svg"
-    assert run("svg", FONT, "--text", "A漢", "--missing", "draw", "-o", out)[1] == "psotf: the face has no glyph for: U+6F22\n"
+    assert run("svg", FONT, "--text", "A漢", "--missing", "draw", "-o", out)[1] == "psotf: the font has no glyph for: U+6F22\n"
     paths = lambda: [path.get("d") for path in xml.etree.ElementTree.parse(out).getroot().iter(f"{SVG}path")]
     both = paths()
     run("svg", FONT, "--text", "A", "-o", out)
@@ -187,11 +187,11 @@ def _(folder):
     assert [text.text for text in root.iter(f"{SVG}text")][:6] == ["0", ".notdef", "1", "space", "2", "exclam"]
 
 
-@case("sheet: a cell names what refuses its glyph")
+@case("sheet: a cell shows the error of its glyph")
 def _(folder):
     path = folder / "refused.otf"
     path.write_bytes(file_of(plain_font([END, END, call(0, 1) + END], [ONE * 30]), 3)[0])
-    told = run("glyph", path, "--gid", "2", status=1)[0].split("refused: ", 1)[1].strip()
+    told = run("glyph", path, "--gid", "2", status=1)[0].split("error: ", 1)[1].strip()
     cells = [[text.text or "" for text in cell.iter(f"{SVG}text")] for cell in picture(folder, path).iter(f"{SVG}g")]
     assert " ".join(cells[2][2:]) == told, cells[2]
     assert not cells[1][2:], cells[1]
@@ -216,15 +216,15 @@ def _(folder):
     path = folder / "font"
     sound = file_of(plain_font([END, END]), 2)[0]
     kinds = {
-        b"wOFF" + sound[4:]: "a WOFF file, which is packed", b"wOF2" + sound[4:]: "a WOFF2 file, which is packed",
+        b"wOFF" + sound[4:]: "a compressed WOFF file", b"wOF2" + sound[4:]: "a compressed WOFF2 file",
         b"%!PS-AdobeFont-1.0: A": "a Type 1 font", b"\x80\x01" + bytes(20): "a Type 1 font",
-        b"\x00\x01\x00\x00" + sound[4:].replace(b"CFF ", b"glyf", 1): "a TrueType font, whose outlines stand in the table glyf",
+        b"\x00\x01\x00\x00" + sound[4:].replace(b"CFF ", b"glyf", 1): "a TrueType font, with its outlines in a glyf table",
     }  # fmt: skip
     for data, kind in kinds.items():
         path.write_bytes(data)
         for words in (["inspect", path], ["report", path, "-o", folder / "report.html"]):
             said = run(*words, status=1)[1]
-            assert said == f"psotf: {path}: {kind}: this program reads OpenType files with a table CFF or CFF2\n", said
+            assert said == f"psotf: {path}: {kind}: psotf reads OpenType files with a CFF or CFF2 table\n", said
 
 
 @case("inspect: of Noto Sans CJK no more memory than 1.5 times the file")
@@ -246,27 +246,27 @@ def _(folder):
         assert done.stderr == b"", done.stderr
 
 
-@case("report: a table that is refused has a page that says why")
+@case("report: an invalid table has a page that says why")
 def _(folder):
     path, out = folder / "cut.otf", folder / "report.html"
     path.write_bytes(file_of(plain_font([END, END])[:5], 2)[0])
     said = run("report", path, "-o", out, status=1)[1]
-    assert "the table CFF, the names at byte 4: failed to fill whole buffer (refusal 1): " in said, said
+    assert "the CFF table, the Name INDEX at byte 4: failed to fill whole buffer (error 1): " in said, said
     page = out.read_text()
-    assert '"in_place":{"code":1,"message":"failed to fill whole buffer","part":"the names","place":4,"rule":' in page
+    assert '"in_place":{"code":1,"message":"failed to fill whole buffer","part":"the Name INDEX","place":4,"rule":' in page
     assert '"strict":{"code":1,' in page and '"lenient":{"code":1,' in page
 
 
-@case("inspect: what a reading refuses, where and by which rule")
+@case("inspect: the error of each reader, with its part, byte and rule")
 def _(folder):
     path = folder / "font.otf"
     path.write_bytes(file_of(plain_font([END, END], char_set=b"\x07\x01\x87"), 2)[0])
-    lines = [line for line in run("inspect", path)[0].splitlines() if line.startswith("refused by")]
-    told = "reading: the char set at byte {}: found an unknown char-set format (refusal 11): a char set has the format 0, 1 or 2 "
+    lines = [line for line in run("inspect", path)[0].splitlines() if line.startswith("rejected by")]
+    told = "reader: the charset at byte {}: found an unknown char-set format (error 11): the format of a charset is 0, 1 or 2 "
     place = TTFont(path).reader["CFF "].index(b"\x07\x01\x87") + 1
     assert len(lines) == 2, lines
     for line, reading in zip(lines, ("strict", "lenient"), strict=True):
-        assert line.startswith(f"refused by the {reading} {told.format(place)}"), line
+        assert line.startswith(f"rejected by the {reading} {told.format(place)}"), line
 
 
 @case("report: more glyphs than a page holds make further pages")
@@ -309,7 +309,7 @@ def varied(folder, change=None):
 @case("svg: a variable font's characters without a glyph are named too, and --missing draw draws them")
 def _(folder):
     font, out = varied(folder), folder / "text.svg"
-    told = "the face has no glyph for: U+6F22\n"
+    told = "the font has no glyph for: U+6F22\n"
     assert run("svg", font, "--text", "A漢", "-o", out, status=1)[1] == f"psotf: {font}: {told}"
     assert not out.exists()
     assert run("svg", font, "--text", "A漢", "--missing", "draw", "-o", out)[1] == f"psotf: {told}"
@@ -330,8 +330,8 @@ def instance(folder, *words, change=None, status=0):
 @case("instance: an axis, an instance or a number that is not there is refused by name")
 def _(folder):
     for words, wanted in (
-        ("--variations opsz=12", "the face has no axis opsz"), ("--instance Thin", "the face has no instance Thin"),
-        ("--variations wght=heavy", "--variations: a list of tags and numbers, as wght=650,opsz=12"),
+        ("--variations opsz=12", "the font has no axis opsz"), ("--instance Thin", "the font has no instance Thin"),
+        ("--variations wght=heavy", "--variations takes a list of tags and numbers, e.g. wght=650,opsz=12"),
     ):  # fmt: skip
         assert instance(folder, *words.split(), status=2)[1] == f"psotf: {wanted}\n"
 
@@ -345,7 +345,7 @@ def _(folder):
 @case("instance: a value past the axis is said once, and its end is taken")
 def _(folder):
     out, said = instance(folder, "--variations", "wght=2000")
-    assert said == "psotf: 2000 is past the end of the axis wght, which is taken instead\n", said
+    assert said == "psotf: wght=2000 is outside the axis and is clamped\n", said
     assert TTFont(out)["OS/2"].usWeightClass == 900
 
 
@@ -362,7 +362,7 @@ def _(folder):
         run(name, folder / "variable.otf", *more, "--variations", "wght=650,wdth=90", "-o", of_place)
         assert of_static.read_bytes() == of_place.read_bytes(), name
     said = run("sheet", static, "--variations", "wght=650", status=2)[1]
-    assert "--variations, --instance and --animate want a variable font" in said, said
+    assert "--variations, --instance and --animate need a variable font with a CFF2 table" in said, said
 
 
 @case("svg --animate draws each glyph as at the places of the axis, there and back")
@@ -380,12 +380,12 @@ def _(folder):
         still = run("svg", path, "--text", "Ham", "--variations", f"wght={value:g}")[0]
         found = re.findall(r'<path transform="translate\(([^)]*)\)" d="([^"]*)"/>', still)
         assert found == [(places[glyph][i], shapes[glyph][i]) for glyph in range(3)], value
-    assert "the face has no axis opsz" in run("svg", path, "--text", "Ham", "--animate", "opsz", status=2)[1]
+    assert "the font has no axis opsz" in run("svg", path, "--text", "Ham", "--animate", "opsz", status=2)[1]
 
 
 @case("instance: a font that is not variable is named")
 def _(folder):
-    for path, wanted in ((FONT, "of one place, with outlines in the table CFF"), (folder / "cut.otf", "the header")):
+    for path, wanted in ((FONT, "not a variable font: its outlines are in CFF, and instance needs a CFF2 table"), (folder / "cut.otf", "cannot open the font: ")):
         (folder / "cut.otf").write_bytes(b"OTTO")
         said = run("instance", path, "--variations", "wght=650", "-o", folder / "none.otf", status=1)[1]
         assert wanted in said and said.count("\n") == 1 and not (folder / "none.otf").exists(), said
@@ -394,7 +394,7 @@ def _(folder):
 @case("instance: a run past the limit is named, with the limit and the option")
 def _(folder):
     said = instance(folder, "--instance", "Bold", "--limit", "20", status=1)[1]
-    assert said.startswith("psotf: glyph ") and said.endswith(": its run takes more than 20 units (--limit)\n"), said
+    assert said.startswith("psotf: glyph ") and said.endswith(": it costs more than 20 units (--limit)\n"), said
 
 
 @case("instance: damaged tables of variations are named")
@@ -408,7 +408,7 @@ def _(folder):
 
     for tag in ("HVAR", "MVAR", "avar"):
         said = instance(folder, "--instance", "Bold", change=cut(tag), status=1)[1]
-        assert said.startswith(f"psotf: the table {tag}: "), said
+        assert said.startswith(f"psotf: the {tag} table: "), said
 
 
 def without_room(words, out):
@@ -418,7 +418,7 @@ def without_room(words, out):
         [str(PSOTF), *map(str, words), "-o", str(out)], capture_output=True, check=False, restore_signals=False,
         preexec_fn=lambda: resource.setrlimit(resource.RLIMIT_FSIZE, (1000, 1000)),
     )  # fmt: skip
-    assert done.returncode == 1 and b"writing" in done.stderr, (words[0], done.returncode, done.stderr)
+    assert done.returncode == 1 and b"cannot write" in done.stderr, (words[0], done.returncode, done.stderr)
     assert out.read_bytes() == b"old" and not out.with_name(out.name + ".part").exists(), words[0]
 
 
@@ -446,7 +446,7 @@ def _(folder):
         addFeatureVariations(font, [([{"wght": (0.5, 1)}], {"A": "B"})])
 
     out, said = instance(folder, "--instance", "Bold", change=change)
-    assert said == "psotf: tables left out: GSUB XXXX; lost are ligatures and other substitutes\n", said
+    assert said == "psotf: tables dropped: GSUB XXXX; lost with them: ligatures and other substitutions\n", said
     assert not {"GSUB", "XXXX", "fvar", "STAT"} & set(TTFont(out).keys())
     assert instance(folder, "--instance", "Bold", "--quiet", change=change)[1] == ""
     assert instance(folder, "--instance", "Bold")[1] == ""
@@ -476,7 +476,7 @@ def _(folder):
         font["post"].formatType, font["post"].extraNames, font["post"].mapping = 2.0, [], {order[2]: order[1]}
 
     out, said = instance(folder, "--instance", "Bold", change=twice)
-    assert said == "psotf: names of glyphs left out: two glyphs have the same\n", said
+    assert said == "psotf: glyph names dropped (the font becomes CID-keyed): two glyphs have the same name\n", said
     assert hasattr(TTFont(out)["CFF "].cff.topDictIndex[0], "ROS")
     assert instance(folder, "--instance", "Bold", "--quiet", change=twice)[1] == ""
 

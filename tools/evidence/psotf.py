@@ -10,17 +10,19 @@ Needs Debian's python3-fonttools. For each glyph it compares the number, the nam
 of the charstring with the nominal or the default one, each operation and each segment, numbers as exact fractions, the bounds of all points, and
 the bounds of the curves, rounded outwards to 65536ths, which a side may leave by one more; glyphs that are made of two others are
 left out, since these are not followed. Of the face it compares each field of `inspect` but the refusals: operands of the
-dictionaries as floats, where fontTools reads numbers, and the glyphs with hints by its decompiler of charstrings. It prints each
+dictionaries as floats, where fontTools reads numbers, the strings of the Top DICT, and the glyphs with hints by its decompiler of charstrings. It prints each
 face and glyph that differs, and at the end how many were compared and how many differ. Nothing is drawn at random.
 """
 
 import concurrent.futures
+import decimal
 import itertools
 import json
 import pathlib
 import re
 import subprocess
 import sys
+import unicodedata
 from fractions import Fraction
 
 sys.dont_write_bytecode = True
@@ -41,6 +43,10 @@ TOP = {
     "isFixedPitch": "IsFixedPitch", "ItalicAngle": "ItalicAngle", "UnderlinePosition": "UnderlinePosition",
     "UnderlineThickness": "UnderlineThickness", "PaintType": "PaintType", "CharstringType": "CharStringType",
     "FontMatrix": "FontMatrix", "FontBBox": "FontBBox", "StrokeWidth": "StrokeWidth",
+}  # fmt: skip
+STRINGS = {
+    "version": "Version", "Notice": "Notice", "Copyright": "Copyright", "FullName": "FullName", "FamilyName": "FamilyName", "Weight": "Weight",
+    "PostScript": "PostScript", "BaseFontName": "BaseFontName", "FontName": "FontName",
 }  # fmt: skip
 PRIVATE = {
     "StdHW": "StdHW", "StdVW": "StdVW", "BlueScale": "BlueScale", "BlueShift": "BlueShift", "BlueFuzz": "BlueFuzz",
@@ -113,9 +119,9 @@ def operations_of(char_string):
     return run.listed
 
 
-def operation_of(text):
+def operation_of(operation):
     """An operation as psotf writes it."""
-    name, *operands = text.split()
+    name, *operands = operation
     return name.lower(), [Fraction(operand) for operand in operands]
 
 
@@ -128,7 +134,7 @@ def has_hint(char_string):
 def told(*words):
     """The objects that psotf prints, one a line."""
     done = subprocess.run([PSOTF, *words, "--json"], capture_output=True, check=True)
-    return [json.loads(line) for line in done.stdout.splitlines()]
+    return [json.loads(line, parse_float=decimal.Decimal) for line in done.stdout.splitlines()]
 
 
 def recorded(char_string):
@@ -142,8 +148,8 @@ def segments_of(drawing):
     return [[LETTERS[kind], *(Fraction(x) for point in points for x in point)] for kind, points in drawing.value]
 
 
-def sides_of(texts):
-    return None if texts is None else [int(Fraction(text) * 65536) for text in texts]
+def sides_of(numbers):
+    return None if numbers is None else [int(Fraction(number) * 65536) for number in numbers]
 
 
 # What fontTools adds to a name that stands twice.
@@ -171,13 +177,13 @@ def glyph_differs(glyph, number, name, font, char_string, drawing, characters):
         or named_of(glyph, "cid" in glyph) not in (name, ONCE_MORE.sub("", name))
         or glyph["advance"] != font["hmtx"][name][0]
         or sorted(glyph["chars"]) != (sorted(characters) if number else [])
-        or [operation_of(text) for text in glyph["operations"]] != operations_of(char_string)
+        or [operation_of(operation) for operation in glyph["operations"]] != operations_of(char_string)
         or drawing_differs(glyph, char_string, drawing)
     )
 
 
-def floats_of(texts):
-    return None if texts is None else [float(Fraction(text)) for text in texts]
+def floats_of(numbers):
+    return None if numbers is None else [float(Fraction(number)) for number in numbers]
 
 
 def values_of(value):
@@ -189,6 +195,21 @@ def private_differs(found, private):
     return any(floats_of(found.get(ours)) != values_of(getattr(private, theirs, None)) for theirs, ours in PRIVATE.items()) or any(
         list(itertools.accumulate(floats_of(found.get(name, [])))) != (values_of(getattr(private, name, None)) or []) for name in DELTAS
     )
+
+
+def printed(string):
+    """A string of a font as psotf prints it: UTF-8, without control characters. fontTools reads Latin-1."""
+    text = string.encode("latin-1").decode("utf-8", "replace")
+    return "".join("?" if unicodedata.category(char) == "Cc" else char for char in text)
+
+
+def strings_of(top):
+    """The strings of a dictionary by psotf's names, and the registry, the ordering and the supplement."""
+    found = {ours: [printed(top.rawDict[theirs])] for theirs, ours in STRINGS.items() if theirs in top.rawDict}
+    if "ROS" in top.rawDict:
+        registry, ordering, supplement = top.rawDict["ROS"]
+        found["ROS"] = [printed(registry), printed(ordering), supplement]
+    return found
 
 
 def text_of(font, *identifiers):
@@ -209,8 +230,8 @@ def wanted_facts(path, font, top, privates):
     return [
         font["head"].unitsPerEm, font["maxp"].numGlyphs, text_of(font, 16, 1), text_of(font, 17, 2), text_of(font, 5), faces_of(path),
         cff.fontNames[0], hasattr(top, "ROS"), len(privates) if hasattr(top, "ROS") else 0, len(top.CharStrings),
-        sum(has_hint(top.CharStrings[name]) for name in font.getGlyphOrder()), {0: "Standard", 1: "Expert"}.get(encoding, "own"),
-        SETS.get(top.rawDict.get("charset", 0), "own"), len(cff.GlobalSubrs), [len(getattr(private, "Subrs", [])) for private in privates],
+        sum(has_hint(top.CharStrings[name]) for name in font.getGlyphOrder()), {0: "Standard", 1: "Expert"}.get(encoding, "custom"),
+        SETS.get(top.rawDict.get("charset", 0), "custom"), len(cff.GlobalSubrs), [len(getattr(private, "Subrs", [])) for private in privates],
     ]  # fmt: skip
 
 
@@ -220,6 +241,7 @@ def face_differs(face, path, font, top):
     return (
         facts_of(face) != wanted_facts(path, font, top, privates)
         or any(floats_of(face["cff"]["top"].get(ours)) != values_of(getattr(top, theirs, None)) for theirs, ours in TOP.items())
+        or {name: face["cff"]["top"][name] for name in (*STRINGS.values(), "ROS") if name in face["cff"]["top"]} != strings_of(top)
         or any(private_differs(*pair) for pair in zip(found, privates, strict=True))
     )
 

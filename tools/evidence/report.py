@@ -207,9 +207,9 @@ def look_at_parts(told, faults):
 def refusal_told(refusal):
     """A refusal, as the page and the command line spell it."""
     if refusal is None:
-        return ["reads it"]
+        return ["accepts it"]
     spot = refusal["part"] if refusal["place"] is None else f"{refusal['part']} at byte {refusal['place']:,}"
-    return [f"refuses it: {refusal['message']} (refusal {refusal['code']})", spot, refusal["rule"]]
+    return [f"rejects it: {refusal['message']} (error {refusal['code']})", spot, refusal["rule"]]
 
 
 def look_at_answers(driver, path, told, failure, faults):
@@ -218,7 +218,7 @@ def look_at_answers(driver, path, told, failure, faults):
     if refused := told["head"].get("readings"):
         readings = [refused["in_place"], refused["strict"], refused["lenient"]]
         says, spot, rule = refusal_told(readings[0])
-        if f": the table CFF, {spot.replace(',', '')}: {says.removeprefix('refuses it: ')}: {rule}\n" not in failure:
+        if f": the CFF table, {spot.replace(',', '')}: {says.removeprefix('rejects it: ')}: {rule}\n" not in failure:
             faults.append(f"the page says {spot}, {says}, and the command {failure}")
     else:
         font = json.loads(ran("inspect", path, "--json").stdout)["cff"]

@@ -22,6 +22,7 @@ names. Needs Debian's python3-fonttools, libfreetype6, libharfbuzz-bin and opent
 """
 
 import collections
+import decimal
 import itertools
 import json
 import math
@@ -91,7 +92,8 @@ def run(*words, status=0):
 
 def glyphs_of(path, *words):
     """The advance and the segments of each glyph, as psotf tells them."""
-    lines = map(json.loads, run("glyph", path, "--all", "--json", *words)[0].splitlines())
+    printed = run("glyph", path, "--all", "--json", *words)[0].splitlines()
+    lines = [json.loads(line, parse_float=decimal.Decimal) for line in printed]
     return [(line["advance"], line["segments"]) for line in lines]
 
 
@@ -211,10 +213,10 @@ def names_are_kept(font, static, faults):
 
 
 def at_units(told):
-    """What is told, each number at the nearest whole unit, halves up. A number is told as a text, with a fraction as `98304/65536`."""
+    """Rounds each number of a list to the nearest whole unit, halves up."""
     if isinstance(told, (list, tuple)):
         return type(told)(map(at_units, told))
-    return str(math.floor(Fraction(told) + Fraction(1, 2))) if isinstance(told, str) and told[-1].isdigit() else told
+    return told if isinstance(told, str) else math.floor(Fraction(told) + Fraction(1, 2))
 
 
 def near_mutator(path, values, static, folder, faults):
