@@ -148,7 +148,7 @@ def psfont_page(program):
     for line, answer in re.findall(r"^\| (`.*?) \| (.*) \|$", rows, flags=re.M):
         page += f".TP\n{bold(line.replace('`', ''))}\n{quoted(answer.replace('`', ''))}.\n"
     page += ".SH OPTIONS\n.TP\n" + f".B {quoted('--limit')} \\fIN\\fR\n"
-    page += quoted("Allow each run N units. If a run or flat code costs more, the answer is one line with the code and N, and the session continues.") + "\n"
+    page += quoted("Allow each run N units. If a run or flat code costs more, the answer is one line with the code and N, and psfont goes on.") + "\n"
     page += ".SH FAULTS\n"
     errors = (TOP / "docs" / "errors.md").read_text()
     for number, name, cause in re.findall(r"^\| (\d+) \| `(\w+)` \| (.*) \|$", errors, flags=re.M):
