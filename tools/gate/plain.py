@@ -65,6 +65,7 @@ def of_rust(text):
 
 
 def of_header(text):
+    text = re.sub(r"\*?\w+\[[^]]*\]", "CODE", text)
     return "\n\n".join(found[0].strip("/* ") for found in re.finditer(r"/\*.*?\*/", text, re.S)).replace("\n *", "\n")
 
 
