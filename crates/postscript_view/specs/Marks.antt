@@ -1,5 +1,5 @@
 -- Marks before the ranges of a char set: how many glyphs are covered before some of them.
-use Rattle.std.specs.Prelude.{◌≡◌, ℕ, ◌<◌, List, slice_index}
+use Rattle.std.specs.Prelude.{◌≡◌, ℕ, ◌+◌, ◌*◌, ◌/◌, ◌<◌, min, List, length, slice_index}
 use Rattle.std.proofs.Props.{props}
 use Rattle.postscript_view.specs.CharSet.{covered}
 use Rattle.postscript_view.specs.declared.char_set.Identifiers.{Identifiers}
@@ -12,6 +12,29 @@ AreSet ranges size places covers set = (m : ℕ) → m < set → slice_index cov
 
 abbrev pub AreBefore : List ℕ → (size : ℕ) → Marks → Type 0
 AreBefore ranges size marks = AreSet ranges size marks.places marks.covers marks.set
+
+-- Mark m stands before range m * step, and the next one is due at a range.
+abbrev pub AreEvery : (step : ℕ) → Marks → (next : ℕ) → Type 0
+AreEvery step marks next = ((m : ℕ) → m < marks.set → slice_index marks.places m ≡ m * step) × (next ≡ marks.set * step)
+
+-- how many ranges there are from each mark to the next: a 64th of the ranges, of which one for each glyph is of use, and one
+abbrev pub step_of : List ℕ → (size glyphs : ℕ) → ℕ
+step_of ranges size glyphs = min (length ranges / (2 + size)) glyphs / 64 + 1
+
+-- There are marks up to the last range that begins with one of so many glyphs: such a range has a mark before it, or behind the mark there are
+-- fewer ranges than a step before it.
+abbrev pub AreSpread : List ℕ → (size glyphs : ℕ) → Marks → Type 0
+AreSpread ranges size glyphs marks = (next : ℕ) × AreEvery (step_of ranges size glyphs) marks next
+    × ((r : ℕ) → r < length ranges / (2 + size) → covered ranges size r < glyphs → r < next)
+
+-- the ranges of a char set have such marks
+abbrev pub HasMarks : Identifiers → (glyphs : ℕ) → Marks → Type 0
+HasMarks ISOAdobe glyphs marks = Unit {0}
+HasMarks Expert glyphs marks = Unit {0}
+HasMarks ExpertSubset glyphs marks = Unit {0}
+HasMarks (Listed identifiers) glyphs marks = Unit {0}
+HasMarks (Ranges1 ranges) glyphs marks = AreSpread ranges.now 1 glyphs marks
+HasMarks (Ranges2 ranges) glyphs marks = AreSpread ranges.now 2 glyphs marks
 
 -- marks are asked of ranges alone
 abbrev pub AreMarks : Identifiers → Marks → Type 0

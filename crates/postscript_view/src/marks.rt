@@ -1,5 +1,5 @@
 //! Marks before the ranges of a charset. A glyph is searched for from the last mark before it.
-ghost use Rattle.std.specs.Prelude.{◌≡◌, ◌≤◌, ◌+◌, ◌<◌};
+ghost use Rattle.std.specs.Prelude.{◌≡◌, ◌≤◌, ◌+◌, ◌*◌, ◌^◌, ◌<◌};
 
 use postscript_base::index::number::number_at;
 
@@ -19,7 +19,7 @@ pub(crate) struct Marks {
 
 impl Marks {
     ghost use Rattle.postscript_view.specs.CharSet.{covered as the_covered};
-    ghost use Rattle.postscript_view.specs.Marks.{AreBefore};
+    ghost use Rattle.postscript_view.specs.Marks.{AreBefore, AreEvery, AreSpread};
 
     /// No marks.
     pub(crate) fn none() -> Marks
@@ -32,19 +32,35 @@ impl Marks {
         }
     }
 
-    /// Adds a mark before a range, if it is due and there is capacity.
+    /// Adds a mark before a range, if it is due, and returns the range before which the next one is due.
     #[tactic(auto, using(crate::proofs::Marking::marked_more))]
-    fn mark(&mut self, ranges: &[u8], size: usize, place: usize, covered: usize, is_due: bool)
+    fn mark(
+        &mut self,
+        ranges: &[u8],
+        size: usize,
+        place: usize,
+        covered: usize,
+        step: usize,
+        next: usize,
+    ) -> usize
         requires marked { AreBefore ranges.now size self.old }
         requires covered { covered ≡ the_covered ranges.now size place }
-        ensures { AreBefore ranges.now size self.new }
+        requires spread { AreEvery step self.old next }
+        requires reached { place ≤ next }
+        requires room { place < 64 * step }
+        requires small { place + step < 2 ^ 64 }
+        ensures marked { AreBefore ranges.now size self.new }
+        ensures spread { AreEvery step self.new result }
+        ensures passed { place < result }
     {
-        if is_due && self.set < MOST {
-            let at = self.set;
-            self.places[at] = place;
-            self.covers[at] = covered;
-            self.set = at + 1;
+        if place < next {
+            return next;
         }
+        let at = self.set;
+        self.places[at] = place;
+        self.covers[at] = covered;
+        self.set = at + 1;
+        place + step
     }
 
     /// The marks before ranges. Only one range for each glyph is of use.
@@ -52,7 +68,8 @@ impl Marks {
     pub(crate) fn before(ranges: &[u8], size: usize, glyphs: usize) -> Marks
         requires low { 1 ≤ size }
         requires high { size ≤ 2 }
-        ensures { AreBefore ranges.now size result }
+        ensures marked { AreBefore ranges.now size result }
+        ensures spread { AreSpread ranges.now size glyphs result }
     {
         let count = (ranges.len() / (2 + size)).min(glyphs);
         let step = count / MOST + 1;
@@ -60,11 +77,7 @@ impl Marks {
         let mut covered = 0usize;
         let mut next = 0;
         for r in 0..count {
-            let is_due = r == next;
-            marks.mark(ranges, size, r, covered, is_due);
-            if is_due {
-                next = r + step;
-            }
+            next = marks.mark(ranges, size, r, covered, step, next);
             match covered.checked_add(number_at(ranges, r * (2 + size) + 2, size) + 1) {
                 Some(more) => covered = more,
                 None => break,
