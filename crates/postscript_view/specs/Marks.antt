@@ -21,8 +21,8 @@ AreEvery step marks next = ((m : ℕ) → m < marks.set → slice_index marks.pl
 abbrev pub step_of : List ℕ → (size glyphs : ℕ) → ℕ
 step_of ranges size glyphs = min (length ranges / (2 + size)) glyphs / 64 + 1
 
--- There are marks up to the last range that begins with one of so many glyphs: such a range has a mark before it, or behind the mark there are
--- fewer ranges than a step before it.
+-- The marks go up to the last range that begins with one of so many glyphs: the next mark is due behind each such range, so a mark stands
+-- before it, or fewer ranges than a step before that.
 abbrev pub AreSpread : List ℕ → (size glyphs : ℕ) → Marks → Type 0
 AreSpread ranges size glyphs marks = (next : ℕ) × AreEvery (step_of ranges size glyphs) marks next
     × ((r : ℕ) → r < length ranges / (2 + size) → covered ranges size r < glyphs → r < next)
