@@ -3,6 +3,7 @@ use crate::checks::{bytes_of, holds, holds_at, is_text};
 use crate::views::rows::{CID, PLAIN, SELECTIONS};
 use crate::views::{codes_of, joined, told};
 use postscript::compact1::FontSet;
+use postscript_base::index::IndexView;
 use postscript_drawing::{LIMIT, outline_of};
 use postscript_view::FontView;
 use postscript_write::{Error, flat_font, index, kept_glyphs, subset, subset_keeping};
@@ -320,4 +321,70 @@ fn odd_fonts_written(rt: HostRuntime) {
         let kept = subset_keeping(alloc, bytes.as_slice(), &[1]).expect(&rt, "a subset");
         names(&rt, alloc, kept.as_slice(), *named);
     }
+}
+
+/// Fonts whose Top DICT has an operator twice: `Encoding`, `charset` and `FullName`. For each the first operation of the
+/// new Top DICT, which is the last one of that operator, and the size of the new Top DICT.
+const TWICE: &[(&str, &str, usize)] = &[
+    (
+        "010004040001040000000100000006536d616c6c00010400000001000000241d000000460f1d0000004d101d00000052111d0000000c\
+        1d00000093121d000000001000000000000022002300240003414243000404000000010000000b00000016000000200000002b8b8b15\
+        9506950781060e9f8c8d15a906a9076d060e8e8f15bd06bd0759060e86909115d106d10745060e1d000001f4141d0000025815",
+        "1d0000000010",
+        29,
+    ),
+    (
+        "010004040001040000000100000006536d616c6c000104000000010000001e1d000000400f1d00000044111d0000000c1d0000008512\
+        1d000000000f0000000001002202000404000000010000000b00000016000000200000002b8b8b159506950781060e9f8c8d15a906a9\
+        076d060e8e8f15bd06bd0759060e86909115d106d10745060e1d000001f4141d0000025815",
+        "1d000000000f",
+        23,
+    ),
+    (
+        "010004040001040000000100000006536d616c6c00010400000001000000241d00000188021d00000187021d000000590f1d00000060\
+        111d0000000c1d000000a112000204000000010000000400000007412062432064000000002200230024000404000000010000000b00\
+        000016000000200000002b8b8b159506950781060e9f8c8d15a906a9076d060e8e8f15bd06bd0759060e86909115d106d10745060e1d\
+        000001f4141d0000025815",
+        "1d0000018702",
+        29,
+    ),
+];
+
+/// The CID-keyed font [`CIDS_OF_LETTERS`] with `ROS` after the charset.
+const LATE_ROS: &str = "01000404 0001 02 0001 0002 46 0001 02 0001 0028 \
+        1d00000052 0f 1d00000187 1d00000188 8b 0c1e 1d00000059 11 1d00000085 0c24 1d00000080 0c25 \
+        0002 02 0001 0006 000e 41646f6265 4964656e74697479 0000 00 0022 0023 0024 \
+        0004 02 0001 0002 000a 0012 0019 0e 959515bd06bd070e 9f9f15c706c7070e 8b8b15efef050e 9214 \
+        00 00000001 0002 02 0001 000c 0017 1d000000021d0000007e12 1d000000021d0000007e12";
+
+/// The Top DICT of a font begins with these bytes, and has so many.
+fn begins_with<R: Abort>(rt: &R, alloc: Global, bytes: &[u8], first: &str, count: usize) {
+    let (_names, next) = IndexView::open(bytes, 4).expect(rt, "names");
+    let (dictionaries, _next) = IndexView::open(bytes, next).expect(rt, "dictionaries");
+    let dictionary = dictionaries.get(0).expect(rt, "a dictionary");
+    let wanted = bytes_of(rt, alloc, first);
+    holds(rt, dictionary.starts_with(wanted.as_slice()), first);
+    holds_at(rt, dictionary.len() == count, "bytes", dictionary.len());
+}
+
+/// The stale first copy of an operator is left out, and `ROS` comes first.
+#[test]
+fn operators_written_once(rt: HostRuntime) {
+    let alloc = rt.alloc();
+    for (digits, first, count) in TWICE {
+        let bytes = bytes_of(&rt, alloc, digits);
+        let flat = flat_font(alloc, bytes.as_slice()).expect(&rt, "a flat font");
+        begins_with(&rt, alloc, flat.as_slice(), first, *count);
+        let kept = subset_keeping(alloc, bytes.as_slice(), &[1]).expect(&rt, "a subset");
+        begins_with(&rt, alloc, kept.as_slice(), first, *count);
+    }
+    let bytes = bytes_of(&rt, alloc, LATE_ROS);
+    let flat = flat_font(alloc, bytes.as_slice()).expect(&rt, "a flat font");
+    begins_with(
+        &rt,
+        alloc,
+        flat.as_slice(),
+        "1d00000187 1d00000188 8b 0c1e",
+        39,
+    );
 }

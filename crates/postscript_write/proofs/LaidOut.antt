@@ -4,6 +4,7 @@ use Rattle.std.specs.Option.{option_or, unwrap_or}
 use Rattle.std.specs.Prelude.{All, IsSome, slice_get}
 use Rattle.std.specs.declared.alloc.Global.{Global}
 use Rattle.std.proofs.lemmas.List.{append-nil}
+use Rattle.std.proofs.lemmas.List.Elements.{All-from_get_or}
 use Rattle.postscript_base.specs.Compact1.Decimal.{Decimal}
 use Rattle.postscript_base.specs.Compact1.Defaults.{first_of, first_two_of, look}
 use Rattle.postscript_base.specs.Compact1.Number.{whole}
@@ -14,7 +15,7 @@ use Rattle.postscript_base.specs.declared.compact1.operator.Operator.{Operator}
 use Rattle.postscript_base.specs.declared.compact1.operator.Operator.TheVariants.{CharStringType, CharStrings, FDArray, Private, ROS}
 use Rattle.postscript_type2.specs.Program.Routines.{texts}
 use Rattle.postscript_view.specs.Cids.{IsCidKeyed}
-use Rattle.postscript_view.specs.Contents.{PrivateDict}
+use Rattle.postscript_view.specs.Contents.{PrivateDict, Tables}
 use Rattle.postscript_view.specs.Layout.{AreCharStrings, AreParts, ArePartsOf, AreTables, NamesIndex}
 use Rattle.postscript_view.specs.Layout.AreParts.{OfFont, OfFontDictionaries}
 use Rattle.postscript_view.specs.Sizes.{IsKeyed}
@@ -22,7 +23,8 @@ use Rattle.postscript_view.specs.Value.{parts_shown}
 use Rattle.postscript_view.specs.declared.font.FontView.{FontView}
 use Rattle.postscript_write.specs.Dictionaries.{IsHeld}
 use Rattle.postscript_write.specs.Fonts.{HasHeader}
-use Rattle.postscript_write.specs.LaidOut.{IsLaidOutOf, SelectsExactly}
+use Rattle.postscript_write.specs.LaidOut.{IsLaidOutOf, SelectsExactly, StandardIsAlone}
+use Rattle.postscript_write.specs.Once.{IsToldOnce, TellsRosFirst}
 use Rattle.postscript_write.specs.Parts.{naming}
 use Rattle.postscript_write.specs.Pieces.{place_of}
 use Rattle.postscript_write.specs.Privates.{IsOwnPrivate, place_of_private, private_offset, private_text}
@@ -32,7 +34,8 @@ use Rattle.postscript_write.specs.Texts.{TextStands}
 use Rattle.postscript_write.specs.Written.{IsPutTogether}
 use Rattle.postscript_write.specs.declared.layout.Glyphs.{Glyphs}
 use Rattle.postscript_write.specs.declared.layout.Private.{Private as OwnPrivate}
-use Rattle.postscript_write.proofs.Arranged.{all_dictionaries}
+use Rattle.postscript_write.proofs.Arranged.{all_dictionaries, keyed_items, named_opened}
+use Rattle.postscript_write.proofs.Distinct.{distinct_named, ros_not_named}
 use Rattle.postscript_write.proofs.NamedEnds.{own_look, place_held}
 use Rattle.postscript_write.proofs.Operators.{is_none_of}
 use Rattle.postscript_write.proofs.PartsWritten.{HasPartsLike, keyed_parts, plain_parts}
@@ -144,6 +147,19 @@ module _ {font : FontView} {glyphs : Glyphs} {codes : List (List ℕ)} {out : Li
         named = (place w CharStrings, (whole (pos (place w CharStrings)), ap first_of is.0, whole_is (place w CharStrings) is.1), codes_stand w);
       }
 
+  -- the font dictionaries that are written tell each operator once
+  pub dictionaries_once : IsRead font → IsSome glyphs.select → IsKeyed font.dictionary → (items : List (List ℕ)) →
+      NamesIndex out t.new FDArray items → All IsToldOnce items
+  dictionaries_once read some keyed items names =
+      let is = array_there some in
+      let olds = keyed_items font.bytes.now font.dictionary (parts_shown font.parts.items) keyed read.laid.parts in
+      let fonts = w.put.private_places some olds.0 olds.1 in
+      let own : NamesIndex out t.new FDArray w.put.dictionaries =
+      (place w FDArray, (whole (pos (place w FDArray)), ap first_of is.0, whole_is (place w FDArray) is.1), dictionaries_stand w some) in
+      let same = named_opened out t.new FDArray (place w FDArray) own.2.0 w.put.dictionaries items own.1 own.2.2 names in
+      subst (All IsToldOnce) same
+      (All-from_get_or IsToldOnce w.put.dictionaries [] (λ i less. let many = fonts.many in fonts.once i (omega (arith, less, many))))
+
 pub header_there : (out : List ℕ) → HasHeader out → (3 ≤ length out) × (number_at out 2 1 ≡ 4)
 unfolding number_at
 header_there [] h = absurd (cc)
@@ -165,9 +181,7 @@ laid_out font glyphs codes out w read exactly = record {
   };
   laid = record {
     header = header.0;
-    tables = subst (λ n. AreTables out n 0
-        (record { names = items_of font.names; dictionary = t.new; strings = texts glyphs.strings.texts.items; subroutines = [] }))
-        (sym header.1) t.are;
+    tables = there.0;
     char_strings = char_strings w t read;
     parts = parts.are;
   };
@@ -181,6 +195,9 @@ laid_out font glyphs codes out w read exactly = record {
         t.renamed t.placed;
     parts = parts.like;
   };
+  dictionary_once = there.1;
+  ros = there.2;
+  dictionaries_once = λ keyed. let some = (keyed_is w t exactly).1 keyed in dictionaries_once w t read some (exactly.0 some);
 }
   where
     t : TablesStand font glyphs (named w) out
@@ -188,6 +205,13 @@ laid_out font glyphs codes out w read exactly = record {
 
     header : (3 ≤ length out) × (number_at out 2 1 ≡ 4)
     header = header_there out t.header
+
+    tables : Tables
+    tables = record { names = items_of font.names; dictionary = t.new; strings = texts glyphs.strings.texts.items; subroutines = [] }
+
+    there : (are : AreTables out (number_at out 2 1) 0 tables) × (StandardIsAlone glyphs → IsToldOnce are.item) × TellsRosFirst are.item
+    there = subst (λ n. (are : AreTables out n 0 tables) × (StandardIsAlone glyphs → IsToldOnce are.item) × TellsRosFirst are.item)
+        (sym header.1) (t.are, λ alone. t.once (distinct_named glyphs w.put.start _ _ _ _ alone), t.ros (ros_not_named glyphs.standard w.put.start glyphs _ _ _ _))
 
     by : AreParts font.bytes.now font.dictionary (parts_shown font.parts.items) → HasPartsLike out t.new (parts_shown font.parts.items)
     by (OfFont part no_ros_there is one) =

@@ -9,9 +9,12 @@ pub mod Moving
 pub mod Without
 pub mod Unnamed
 pub mod Placing
+pub mod Once
 pub mod Privates
 pub mod Arranged
 pub mod PlacesNamed
+pub mod RosFirst
+pub mod Distinct
 pub mod Pieces
 pub mod Put
 pub mod Lengths

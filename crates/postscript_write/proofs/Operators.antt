@@ -27,7 +27,7 @@ pub parted : (x y : Bool) → (if x then false else y) ≡ true → (x ≡ false
 parted true y e = absurd (cc)
 parted false y e = (refl, e)
 
-none_among : (operator : Operator) (others : List Operator) → is_none_of operator others ≡ true → IsAmong operator others → ⊥
+pub none_among : (operator : Operator) (others : List Operator) → is_none_of operator others ≡ true → IsAmong operator others → ⊥
 none_among operator [] none is = is
 none_among operator (other ∷ others) none (inl same) =
     let differ = (parted (eq_by_cmp operator_cmp operator other) (is_none_of operator others) none).0 in

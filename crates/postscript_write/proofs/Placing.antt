@@ -1,5 +1,5 @@
 -- Places in a dictionary.
-use Rattle.std.proofs.Common.{◌≡◌, ◌++◌, refl, sym, ap, subst, ◌∙◌, ℕ, zero, suc, ◌<◌, Bool, true, false, cond, List, [], ◌∷◌, length, map, fold, get_or, Option, Some, None, arith, if◌then◌else◌}
+use Rattle.std.proofs.Common.{inl, inr, ◌≡◌, ◌++◌, refl, sym, ap, subst, ◌∙◌, ℕ, zero, suc, ◌<◌, Bool, true, false, cond, List, [], ◌∷◌, length, map, fold, get_or, Option, Some, None, arith, if◌then◌else◌}
 use Rattle.std.specs.List.{Contains}
 use Rattle.std.specs.Option.{option_or}
 use Rattle.std.specs.FinMap.{empty, get, get-insert}
@@ -18,10 +18,11 @@ use Rattle.postscript_base.specs.declared.compact1.operator.Operator.{Operator}
 use Rattle.postscript_base.proofs.DictionaryIs.{get_last}
 use Rattle.postscript_base.proofs.DictionaryMaps.{exact, operators_total}
 use Rattle.postscript_write.specs.Dictionaries.{IsPlaced, operation_of}
-use Rattle.postscript_write.specs.LeftOut.{AreLeft, IsLess, IsWithout}
+use Rattle.postscript_write.specs.LeftOut.{AreLeft, IsLeftOut, IsLess, IsWithout, operators_in}
 use Rattle.postscript_write.specs.LeftOut.AreLeft.{none, kept, gone}
 use Rattle.postscript_write.specs.declared.dictionaries.Place.{Place}
 use Rattle.postscript_write.proofs.OperationsStand.{writes_operations}
+use Rattle.postscript_write.proofs.Without.{contains_cases}
 use Rattle.postscript_write.proofs.WholeEnd.{one_map}
 
 choose : (x : Option (List Decimal)) (b : Bool) (v : List Decimal) (y : Option (List Decimal)) →
@@ -44,20 +45,46 @@ or_none : {A : Type 0} (x y : Option A) → option_or x y ≡ None → (x ≡ No
 or_none None y e = (refl, e)
 or_none (Some v) y e = let f : Some v ≡ None = e in absurd (cc)
 
+-- an operator that occurs has operands
+told_last : (all : List Operation) (q : Operator) → Contains (operators_in all) q → last_of all q ≡ None → ⊥
+told_last [] q has e = let less = has.1 in absurd (omega (arith, less))
+told_last (o ∷ all) q has e = elim (contains_cases o.0 (operators_in all) q has) [
+  | inl is ↦ own is
+  | inr later ↦ told_last all q later both.0
+]
+  where
+    both : (last_of all q ≡ None) × ((if eq_by_cmp operator_cmp q o.0 then Some o.1 else None) ≡ None)
+    both = or_none (last_of all q) _ e
+
+    own : o.0 ≡ q → ⊥
+    own is =
+        let same : eq_by_cmp operator_cmp q o.0 ≡ true = subst (λ x. eq_by_cmp operator_cmp q x ≡ true) (sym is)
+        ((eq_by_cmp_equiv operators_total).refl q) in
+        let never : Some o.1 ≡ None = sym (ap (λ b. if b then Some o.1 else None) same) ∙ both.1 in
+        absurd (cc)
+
+or_some : {A : Type 0} (x y : Option A) → (x ≡ None → ⊥) → x ≡ option_or x y
+or_some None y never = absurd (never refl)
+or_some (Some v) y never = refl
+
 -- what is left says of any other operator what all say
-left_last : (left_out : List Operator) (all left : List Operation) (q : Operator) → AreLeft left_out all left →
+pub left_last : (left_out : List Operator) (all left : List Operation) (q : Operator) → AreLeft left_out all left →
     (Contains left_out q → ⊥) → last_of left q ≡ last_of all q
 left_last left_out _ _ q none out = refl
 left_last left_out _ _ q (kept o all left other h) out =
     ap (λ x. option_or x (if eq_by_cmp operator_cmp q o.0 then Some o.1 else None)) (left_last left_out all left q h out)
 left_last left_out _ _ q (gone o all left is h) out = left_last left_out all left q h out ∙ by (eq_by_cmp operator_cmp q o.0) refl
   where
+    still : q ≡ o.0 → IsLeftOut left_out (operators_in all) o.0 → last_of all q ≡ None → ⊥
+    still e (inl among) = absurd (out (subst (λ x. Contains left_out x) (sym e) among))
+    still e (inr later) = told_last all q (subst (λ x. Contains (operators_in all) x) (sym e) later)
+
     by : (b : Bool) → eq_by_cmp operator_cmp q o.0 ≡ b → last_of all q ≡ option_or (last_of all q) (if b then Some o.1 else None)
-    by true e = absurd (out (subst (λ x. Contains left_out x) (sym (same_operator q o.0 e)) is))
+    by true e = or_some (last_of all q) (Some o.1) (still (same_operator q o.0 e) is)
     by false e = grind arith
 
 -- and of one of these nothing
-left_none : (left_out : List Operator) (all left : List Operation) (q : Operator) → AreLeft left_out all left → Contains left_out q →
+pub left_none : (left_out : List Operator) (all left : List Operation) (q : Operator) → AreLeft left_out all left → Contains left_out q →
     last_of left q ≡ None
 left_none left_out _ _ q none is = refl
 left_none left_out _ _ q (kept o all left other h) is =
@@ -65,7 +92,7 @@ left_none left_out _ _ q (kept o all left other h) is =
     ∙ by (eq_by_cmp operator_cmp q o.0) refl
   where
     by : (b : Bool) → eq_by_cmp operator_cmp q o.0 ≡ b → (if b then Some o.1 else None) ≡ None
-    by true e = absurd (other (subst (λ x. Contains left_out x) (same_operator q o.0 e) is))
+    by true e = absurd (other (inl (subst (λ x. Contains left_out x) (same_operator q o.0 e) is)))
     by false e = refl
 left_none left_out _ _ q (gone o all left was h) is = left_none left_out all left q h is
 
@@ -83,7 +110,7 @@ less text out left_out old w is = (
 )
 
 -- an operator of a place has operands
-some_last : (places : List Place) (q : Operator) → Contains (map (λ place. place.operator) places) q →
+pub some_last : (places : List Place) (q : Operator) → Contains (map (λ place. place.operator) places) q →
     last_of (map operation_of places) q ≡ None → ⊥
 some_last [] q has e = let less = has.1 in absurd (omega (arith, less))
 some_last (place ∷ places) q has e = by (λ later. some_last places q later both.0) has.0 has.1 has.2

@@ -20,6 +20,7 @@ use Rattle.postscript_view.specs.declared.font.FontView.{FontView}
 use Rattle.postscript_write.specs.ArrangedText.{dictionaries_text, is_single, pieces_for, tables_text}
 use Rattle.postscript_write.specs.Dictionaries.{IsHeld, operation_of}
 use Rattle.postscript_write.specs.Index.{index_text}
+use Rattle.postscript_write.specs.Once.{IsToldOnce, TellsRosFirst}
 use Rattle.postscript_write.specs.Parts.{naming}
 use Rattle.postscript_write.specs.Pieces.{Piece, named_places, piece_if, pieces_text, place_at, place_in, place_of, places, standard_place}
 use Rattle.postscript_write.specs.Privates.{private_offset, private_text, privates_text}
@@ -131,13 +132,17 @@ module _ {font : FontView} {glyphs : Glyphs} {codes : List (List ℕ)} {out : Li
       let new = w.put.places renamed.0 renamed.1 in
       let names : List (List ℕ) = items_of font.names in
       let strings : List (List ℕ) = texts glyphs.strings.texts.items in
+      let there = tables_are out (pieces_text pieces) names strings w.put.placed new.0 w.put.text w.put.names_fit w.put.dictionary_fits
+      w.put.strings_fit new.1 in
       record {
         header = header_is out (pieces_text pieces) names strings w.put.placed w.put.text;
         named = renamed.0;
         new = new.0;
         renamed = renamed.2;
         placed = new.2;
-        are = tables_are out (pieces_text pieces) names strings w.put.placed new.0 w.put.text w.put.names_fit w.put.dictionary_fits w.put.strings_fit new.1;
+        are = there.0;
+        once = λ differ. subst IsToldOnce (sym there.1) (w.put.order.once differ);
+        ros = λ apart. subst TellsRosFirst (sym there.1) (w.put.order.ros apart w.ros_first);
       }
 
   pub codes_stand : IsIndexAt out (place CharStrings) codes

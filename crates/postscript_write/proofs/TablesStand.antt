@@ -1,6 +1,6 @@
 -- The tables that are written, and other indices, stand where they begin.
-use Rattle.std.proofs.Common.{◌≡◌, refl, sym, subst, inl, inr, ℕ, ◌+◌, ◌<◌, ◌^◌, List, [], ◌∷◌, ◌++◌, length, Option, Some, None, Vec, arith, ap, ◌∙◌}
-use Rattle.std.specs.List.{concat}
+use Rattle.std.proofs.Common.{◌≡◌, refl, sym, subst, inl, inr, ℕ, ◌+◌, ◌<◌, ◌^◌, List, [], ◌∷◌, ◌++◌, length, map, Option, Some, None, Vec, arith, ap, ◌∙◌}
+use Rattle.std.specs.List.{Contains, concat}
 use Rattle.std.specs.Prelude.{IsSome}
 use Rattle.std.specs.declared.alloc.Global.{Global}
 use Rattle.postscript_base.specs.Compact1.Dictionary.{Dictionary}
@@ -15,6 +15,8 @@ use Rattle.postscript_write.specs.Fonts.{HasHeader}
 use Rattle.postscript_write.specs.Index.{FitsIndex, index_text}
 use Rattle.postscript_write.specs.Texts.{TextStands}
 use Rattle.postscript_write.specs.Dictionaries.{IsPlaced}
+use Rattle.postscript_base.specs.declared.compact1.operator.Operator.TheVariants.{ROS}
+use Rattle.postscript_write.specs.Once.{AreDistinct, IsToldOnce, TellsRosFirst}
 use Rattle.postscript_write.specs.Renumbered.{IsRenamed, all_renamed}
 use Rattle.postscript_write.specs.declared.dictionaries.Place.{Place}
 use Rattle.postscript_write.specs.declared.layout.Glyphs.{Glyphs}
@@ -72,23 +74,25 @@ tables_there out behind names strings placed is =
 
 pub tables_are : (out behind : List ℕ) (names strings : List (List ℕ)) (placed : List ℕ) (new : Dictionary) →
     out ≡ tables_text names placed strings ++ behind → FitsIndex names → FitsIndex (placed ∷ []) → FitsIndex strings → IsDictionary placed 0 new →
-    AreTables out 4 0 (record { names = names; dictionary = new; strings = strings; subroutines = [] })
+    (are : AreTables out 4 0 (record { names = names; dictionary = new; strings = strings; subroutines = [] })) × (are.item ≡ placed)
 tables_are out behind names strings placed new is names_fit placed_fits strings_fit dictionary =
-    let stand = tables_there out behind names strings placed is in
-    record {
-      dictionaries = placed ∷ [];
-      item = placed;
-      names_next = _;
-      dictionaries_next = _;
-      strings_next = _;
-      next = _;
-      are_names = opened_there names out 4 names_fit stand.1.0;
-      are_dictionaries = opened_there (placed ∷ []) out _ placed_fits stand.1.1.0;
-      are_strings = opened_there strings out _ strings_fit stand.1.1.1.0;
-      are_subroutines = opened_there [] out _ (none_fit [] refl) stand.1.1.1.1.0;
-      there = refl;
-      is_dictionary = dictionary;
-    }
+    let stand = tables_there out behind names strings placed is in (
+      record {
+        dictionaries = placed ∷ [];
+        item = placed;
+        names_next = _;
+        dictionaries_next = _;
+        strings_next = _;
+        next = _;
+        are_names = opened_there names out 4 names_fit stand.1.0;
+        are_dictionaries = opened_there (placed ∷ []) out _ placed_fits stand.1.1.0;
+        are_strings = opened_there strings out _ strings_fit stand.1.1.1.0;
+        are_subroutines = opened_there [] out _ (none_fit [] refl) stand.1.1.1.1.0;
+        there = refl;
+        is_dictionary = dictionary;
+      },
+      refl,
+    )
 
 -- The tables stand behind the header, with the strings of glyphs and no subroutines. Their dictionary is that of the font, but with the new
 -- identifiers of strings, and with places.
@@ -104,3 +108,5 @@ pub record TablesStand (font : FontView) (glyphs : Glyphs) (places : List Place)
     strings = texts glyphs.strings.texts.items;
     subroutines = [];
   })
+  pub once : AreDistinct (map (λ place. place.operator) places) → IsToldOnce are.item
+  pub ros : (Contains (map (λ place. place.operator) places) ROS → ⊥) → TellsRosFirst are.item

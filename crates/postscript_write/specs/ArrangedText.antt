@@ -10,8 +10,10 @@ use Rattle.postscript_view.specs.declared.font.FontView.{FontView}
 use Rattle.postscript_write.specs.Dictionaries.{IsHeld, IsWithPlaces}
 use Rattle.postscript_write.specs.DictionarySizes.{HasSize}
 use Rattle.postscript_write.specs.Index.{FitsIndex, index_text}
+use Rattle.postscript_write.specs.Once.{KeepsOrder}
 use Rattle.postscript_write.specs.Pieces.{Piece, named_places, pieces_of, pieces_text}
 use Rattle.postscript_write.specs.Privates.{AreFontDictionaries, AreSized, privates_text}
+use Rattle.postscript_write.specs.declared.dictionaries.Place.{Place}
 use Rattle.postscript_write.specs.declared.layout.Glyphs.{Glyphs}
 use Rattle.postscript_write.specs.declared.layout.Private.{Private}
 
@@ -52,6 +54,13 @@ tables_text names dictionary strings =
     ++ (index_text strings
     ++ index_text [])))
 
+-- The text of a dictionary with places, which an INDEX has room for.
+pub record IsPlacedText (text : List ℕ) (places : List Place) (out : List ℕ) : Type 0 where
+  pub placed : IsWithPlaces text places out
+  pub sized : HasSize text places (length out)
+  pub order : KeepsOrder text places out
+  pub fits : FitsIndex (out ∷ [])
+
 -- The tables of a font whose pieces stand from a place on: their dictionary is another one with the places of these pieces, where they end
 -- before 2^64. What is written has room.
 pub record AreTablesOf (font : FontView) (dictionary : List ℕ) (glyphs : Glyphs) (pieces : List Piece) (start : ℕ) (out : List ℕ) :
@@ -61,6 +70,8 @@ pub record AreTablesOf (font : FontView) (dictionary : List ℕ) (glyphs : Glyph
   pub places : start + length (pieces_text pieces) < 2 ^ 64 → IsWithPlaces dictionary (named_places glyphs.standard start pieces) placed
   pub sized : start + length (pieces_text pieces) < 2 ^ 64 →
       HasSize dictionary (named_places glyphs.standard start pieces) (length placed)
+  pub order : start + length (pieces_text pieces) < 2 ^ 64 →
+      KeepsOrder dictionary (named_places glyphs.standard start pieces) placed
   pub held : start + length (pieces_text pieces) < 2 ^ 64 → All IsHeld (named_places glyphs.standard start pieces)
   pub names_fit : FitsIndex (items_of font.names)
   pub dictionary_fits : FitsIndex (placed ∷ [])

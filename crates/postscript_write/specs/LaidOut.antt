@@ -1,17 +1,24 @@
 -- What is written of a font, as it is read (Technical Note 5176, "CFF Data Layout", sections 15, 16 and 19).
-use Rattle.std.specs.Prelude.{◌≡◌, ◌↔◌, ℕ, List, IsSome}
+use Rattle.std.specs.Prelude.{◌≡◌, ◌↔◌, ℕ, List, All, IsSome, None, true}
+use Rattle.postscript_base.specs.declared.compact1.operator.Operator.TheVariants.{FDArray}
 use Rattle.postscript_type2.specs.Program.Routines.{texts}
+use Rattle.postscript_view.specs.Cids.{IsCidKeyed}
 use Rattle.postscript_view.specs.Contents.{View}
-use Rattle.postscript_view.specs.Layout.{IsLaidOut}
+use Rattle.postscript_view.specs.Layout.{IsLaidOut, NamesIndex}
 use Rattle.postscript_view.specs.Sizes.{IsKeyed}
 use Rattle.postscript_view.specs.Value.{view_shown}
 use Rattle.postscript_view.specs.declared.font.FontView.{FontView}
 use Rattle.postscript_write.specs.Fonts.{Repeats}
+use Rattle.postscript_write.specs.Once.{IsToldOnce, TellsRosFirst}
 use Rattle.postscript_write.specs.declared.layout.Glyphs.{Glyphs}
 
 -- an FDSelect is written of a CID-keyed font, and of no other one (section 19)
 abbrev pub SelectsExactly : FontView → Glyphs → Type 0
 SelectsExactly font glyphs = IsSome glyphs.select ↔ IsKeyed font.dictionary
+
+-- where the standard encoding is named, there is no other one
+abbrev pub StandardIsAlone : Glyphs → Type 0
+StandardIsAlone glyphs = glyphs.standard ≡ true → glyphs.encoding ≡ None
 
 -- What is written of a font is laid out: these strings and char strings, and what the font has besides, but no subroutines.
 pub record IsLaidOutOf (font : FontView) (glyphs : Glyphs) (codes : List (List ℕ)) (out : List ℕ) : Type 0 where
@@ -20,3 +27,7 @@ pub record IsLaidOutOf (font : FontView) (glyphs : Glyphs) (codes : List (List �
   pub strings : view.tables.strings ≡ texts glyphs.strings.texts.items
   pub char_strings : view.char_strings ≡ codes
   pub repeats : Repeats (view_shown font) view
+  pub dictionary_once : StandardIsAlone glyphs → IsToldOnce laid.tables.item
+  pub ros : TellsRosFirst laid.tables.item
+  pub dictionaries_once : IsCidKeyed view.tables.dictionary → (items : List (List ℕ)) →
+      NamesIndex out view.tables.dictionary FDArray items → All IsToldOnce items

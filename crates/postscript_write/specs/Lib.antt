@@ -6,6 +6,7 @@ pub mod Parts
 pub mod Dictionaries
 pub mod DictionarySizes
 pub mod LeftOut
+pub mod Once
 pub mod Privates
 pub mod Pieces
 pub mod ArrangedText

@@ -10,6 +10,7 @@ use Rattle.postscript_view.specs.Contents.{PrivateDict}
 use Rattle.postscript_write.specs.Dictionaries.{IsHeld, IsPlaced}
 use Rattle.postscript_write.specs.DictionarySizes.{HasSize}
 use Rattle.postscript_write.specs.LeftOut.{IsLess}
+use Rattle.postscript_write.specs.Once.{IsToldOnce}
 use Rattle.postscript_write.specs.declared.dictionaries.Place.{Place}
 use Rattle.postscript_write.specs.declared.layout.Private.{Private}
 
@@ -18,7 +19,7 @@ use Rattle.postscript_write.specs.declared.layout.Private.{Private}
 abbrev pub IsOwnPrivate : PrivateDict → Option Private → Type 0
 IsOwnPrivate part None = part.dictionary ≡ dictionary_of []
 IsOwnPrivate part (Some private) =
-    (new : Dictionary) × IsDictionary private.text.items 0 new × IsLess (Subrs ∷ []) part.dictionary new
+    (new : Dictionary) × IsDictionary private.text.items 0 new × IsLess (Subrs ∷ []) part.dictionary new × IsToldOnce private.text.items
 
 -- the place of a private dictionary at an offset, where there is one
 abbrev pub place_of_private : Option Private → (offset : ℕ) → List Place
@@ -62,6 +63,7 @@ pub record AreFontDictionaries (items : List (List ℕ)) (privates : List (Optio
   pub many : length texts ≡ length items
   pub each : (i : ℕ) (old : Dictionary) → i < length items → IsDictionary (slice_index_or items i []) 0 old →
       IsFontDictionary old (slice_index_or privates i None) (private_offset start privates i) (slice_index_or texts i [])
+  pub once : (i : ℕ) → i < length items → IsToldOnce (slice_index_or texts i [])
   pub held : (i : ℕ) → i < length items → All IsHeld (place_of_private (slice_index_or privates i None) (private_offset start privates i))
 
 -- Texts have the sizes of font dictionaries that name these private dictionaries, wherever these stand.

@@ -12,6 +12,7 @@ use Rattle.postscript_view.specs.declared.font.FontView.{FontView}
 use Rattle.postscript_write.specs.ArrangedText.{NamePrivates, pieces_for, tables_text}
 use Rattle.postscript_write.specs.Dictionaries.{IsHeld, IsWithPlaces}
 use Rattle.postscript_write.specs.Index.{FitsIndex, index_text}
+use Rattle.postscript_write.specs.Once.{KeepsOrder, TellsRosFirst}
 use Rattle.postscript_write.specs.Pieces.{named_places, pieces_text, place_in}
 use Rattle.postscript_write.specs.Privates.{AreOwnPrivates, NoneIsNamed}
 use Rattle.postscript_write.specs.Renumbered.{IsRenamed, all_renamed}
@@ -34,6 +35,7 @@ pub record IsPut (font : FontView) (glyphs : Glyphs) (char_strings : List ℕ) (
   pub strings_fit : FitsIndex (texts glyphs.strings.texts.items)
   pub dictionaries_fit : IsSome glyphs.select → FitsIndex dictionaries
   pub places : IsWithPlaces dictionary (named_places glyphs.standard start (pieces_for glyphs char_strings privates dictionaries)) placed
+  pub order : KeepsOrder dictionary (named_places glyphs.standard start (pieces_for glyphs char_strings privates dictionaries)) placed
   pub held : All IsHeld (named_places glyphs.standard start (pieces_for glyphs char_strings privates dictionaries))
   pub private_places : NamePrivates font.bytes.now font.dictionary glyphs.select privates
       (place_in start (pieces_for glyphs char_strings privates dictionaries) Private) dictionaries
@@ -44,6 +46,7 @@ pub record IsPutTogether (font : FontView) (glyphs : Glyphs) (codes : List (List
   pub privates : List (Option OwnPrivate)
   pub dictionary : List ℕ
   pub put : IsPut font glyphs (index_text codes) privates dictionary out
+  pub ros_first : TellsRosFirst dictionary
   pub char_strings_fit : FitsIndex codes
   pub are_own : AreParts font.bytes.now font.dictionary (parts_shown font.parts.items) →
       AreOwnPrivates (parts_shown font.parts.items) privates

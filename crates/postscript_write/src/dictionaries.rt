@@ -6,11 +6,13 @@ ghost use Rattle.postscript_base.specs.Compact1.Decimal.{Decimal};
 ghost use Rattle.postscript_base.specs.Compact1.Dictionary.{Dictionary};
 ghost use Rattle.postscript_base.specs.Compact1.DictionaryLaw.{IsDictionary, OperationsAt, UnfinishedAt};
 ghost use Rattle.postscript_base.specs.Compact1.Operation.{Operation, operation};
+ghost use Rattle.postscript_base.specs.declared.compact1.operator.Operator.TheVariants.{ROS};
 ghost use Rattle.postscript_base.specs.declared.error.Error.TheVariants as errors;
 ghost use Rattle.postscript_write.specs.Parts.{IsAmong};
 ghost use Rattle.postscript_write.specs.Dictionaries.{integer_text, integers_text, operands_of, AreHeld, IsCode, IsEscaped, IsHeld, IsPlaced, IsWritable, escaped, operation_of, short};
 ghost use Rattle.postscript_write.specs.DictionarySizes.{HasSize, operation_size, operator_size, place_size, places_size};
-ghost use Rattle.postscript_write.specs.LeftOut.{IsLeftText, IsWithout};
+ghost use Rattle.postscript_write.specs.LeftOut.{AreTold, IsLeftOut, IsLeftText, IsWithout};
+ghost use Rattle.postscript_write.specs.Once.{IsMoved, KeepsOrder, TellsRosFirst};
 
 use crate::number::put_number;
 use postscript_base::compact1::{Operation, Operator};
@@ -207,37 +209,132 @@ fn is_among(operator: Operator, operators: &[Operator]) -> bool
     false
 }
 
-/// Appends an operation unless its operator is in a list.
+/// The operators of the whole operations of a DICT.
+fn told_in(alloc: Global, text: &[u8]) -> Result<Vec<Operator>>
+    ensures told { IfOk result (λ told. AreTold text.now told.items) }
+    ensures refused { IfErr result (λ e. e ≢ errors.Memory → (dictionary : Dictionary) → IsDictionary text.now 0 dictionary → ⊥) }
+{
+    let mut told = Vec::new(alloc);
+    let mut tape = Cursor::new(text);
+    'operations: while let Some(operator) = next_operator(alloc, &mut tape)? {
+        told.push(operator)?;
+    }
+    Ok(told)
+}
+
+/// Appends an operation unless its operator is in one of two lists.
 fn put_unless(
     out: &mut Vec<u8>,
     operation: &[u8],
     operator: Operator,
     left_out: &[Operator],
+    later: &[Operator],
 ) -> Result<()>
-    ensures either { OnOk result ((Contains left_out.now operator × (out.new.items ≡ out.old.items))
-        ⊎ ((Contains left_out.now operator → ⊥) × (out.new.items ≡ out.old.items ++ operation.now))) }
+    ensures either { OnOk result ((IsLeftOut left_out.now later.now operator × (out.new.items ≡ out.old.items))
+        ⊎ ((IsLeftOut left_out.now later.now operator → ⊥) × (out.new.items ≡ out.old.items ++ operation.now))) }
     ensures memory { IfErr result (λ e. e ≡ errors.Memory) }
 {
-    if !is_among(operator, left_out) {
+    if !is_among(operator, left_out) && !is_among(operator, later) {
         out.extend_from_slice(operation)?;
     }
     Ok(())
 }
 
-/// The whole operations of a DICT as they are encoded, without some operators.
+/// The whole operations of a DICT as they are encoded, without some operators. If an operator occurs several times, only
+/// its last operation counts, so only that one is kept.
 pub(crate) fn without(alloc: Global, text: &[u8], left_out: &[Operator]) -> Result<Vec<u8>>
     ensures left { IfOk result (λ out. IsWithout text.now left_out.now out.items) }
     ensures text { IfOk result (λ out. IsLeftText text.now left_out.now 0 out.items) }
     ensures refused { IfErr result (λ e. e ≢ errors.Memory → (dictionary : Dictionary) → IsDictionary text.now 0 dictionary → ⊥) }
 {
+    let told = told_in(alloc, text)?;
     let mut out = Vec::new(alloc);
     let mut tape = Cursor::new(text);
     let mut place = 0usize;
+    let mut count = 0usize;
     'operations: while let Some(operator) = next_operator(alloc, &mut tape)? {
         let next = tape.position() as usize;
-        put_unless(&mut out, &text[place..next], operator, left_out)?;
+        count += 1;
+        put_unless(
+            &mut out,
+            &text[place..next],
+            operator,
+            left_out,
+            &told[count..],
+        )?;
         place = next;
     }
+    Ok(out)
+}
+
+/// All operators but `ROS`.
+const NOT_ROS: [Operator; 51] = [
+    Operator::Version,
+    Operator::Notice,
+    Operator::FullName,
+    Operator::FamilyName,
+    Operator::Weight,
+    Operator::FontBBox,
+    Operator::BlueValues,
+    Operator::OtherBlues,
+    Operator::FamilyBlues,
+    Operator::FamilyOtherBlues,
+    Operator::StdHW,
+    Operator::StdVW,
+    Operator::UniqueID,
+    Operator::XUID,
+    Operator::CharSet,
+    Operator::Encoding,
+    Operator::CharStrings,
+    Operator::Private,
+    Operator::Subrs,
+    Operator::DefaultWidthX,
+    Operator::NominalWidthX,
+    Operator::Copyright,
+    Operator::IsFixedPitch,
+    Operator::ItalicAngle,
+    Operator::UnderlinePosition,
+    Operator::UnderlineThickness,
+    Operator::PaintType,
+    Operator::CharStringType,
+    Operator::FontMatrix,
+    Operator::StrokeWidth,
+    Operator::BlueScale,
+    Operator::BlueShift,
+    Operator::BlueFuzz,
+    Operator::StemSnapH,
+    Operator::StemSnapV,
+    Operator::ForceBold,
+    Operator::LanguageGroup,
+    Operator::ExpansionFactor,
+    Operator::InitialRandomSeed,
+    Operator::SyntheticBase,
+    Operator::PostScript,
+    Operator::BaseFontName,
+    Operator::BaseFontBlend,
+    Operator::CIDFontVersion,
+    Operator::CIDFontRevision,
+    Operator::CIDFontType,
+    Operator::CIDCount,
+    Operator::UIDBase,
+    Operator::FDArray,
+    Operator::FDSelect,
+    Operator::FontName,
+];
+
+/// The whole operations of a DICT as they are encoded, `ROS` first, and without the other operators of a list
+/// (Technical Note 5176, section 18: `ROS` is the first operator of a CID-keyed font).
+pub(crate) fn ros_first(alloc: Global, text: &[u8], left_out: &[Operator]) -> Result<Vec<u8>>
+    requires { Contains left_out.now ROS }
+    ensures moved { IfOk result (λ out. (old : Dictionary) → IsDictionary text.now 0 old →
+        (new : Dictionary) × IsDictionary out.items 0 new × IsMoved left_out.now old new) }
+    ensures order { IfOk result (λ out. TellsRosFirst out.items) }
+    ensures within { IfOk result (λ out. length out.items ≤ length text.now) }
+    ensures refused { IfErr result (λ e. e ≢ errors.Memory → (dictionary : Dictionary) → IsDictionary text.now 0 dictionary → ⊥) }
+{
+    let mut out = without(alloc, text, &NOT_ROS)?;
+    let rest = without(alloc, text, left_out)?;
+    out.extend_from_slice(&rest)?;
     Ok(out)
 }
 
@@ -272,6 +369,7 @@ pub(crate) fn with_places(alloc: Global, text: &[u8], places: &[Place]) -> Resul
         (new : Dictionary) × IsDictionary out.items 0 new × IsPlaced old places.now new) }
     ensures sized { IfOk result (λ out. HasSize text.now places.now (length out.items)) }
     ensures held { OnOk result (All IsHeld places.now) }
+    ensures order { IfOk result (λ out. KeepsOrder text.now places.now out.items) }
     ensures refused { IfErr result (λ e. e ≢ errors.Memory → All IsHeld places.now → (old : Dictionary) →
         IsDictionary text.now 0 old → ⊥) }
 {

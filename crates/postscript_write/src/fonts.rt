@@ -9,6 +9,7 @@ ghost use Rattle.postscript_view.specs.Value.{view_shown};
 ghost use Rattle.postscript_write.specs.Components.{AreKept, IsSubset};
 ghost use Rattle.postscript_write.specs.Drawings.{DrawsKept, KeepsDrawings};
 ghost use Rattle.postscript_write.specs.Making.{IsCutFont, IsFontBy, IsKeptFont};
+ghost use Rattle.postscript_write.specs.Once.{BeginsWithRos, TellsOnce};
 ghost use Rattle.postscript_write.specs.Readings.{HasLenientFont};
 ghost use Rattle.postscript_write.specs.Refusals.{IsChoiceRefusedBy, IsRefusedBy, IsSubsetRefusedBy};
 ghost use Rattle.postscript_write.specs.Room.{IsRead};
@@ -67,6 +68,10 @@ pub fn flat_font(alloc: Global, bytes: &[u8]) -> Result<Vec<u8>>
     ensures written { IfOk result (λ flat. IsWritten IsKeptFont the_every bytes.now flat.items) }
     // The output has no bytes outside the parts of the font.
     ensures whole { IfOk result (λ flat. IsWholeFont flat.items) }
+    // No operator occurs twice in the Top DICT or in a Font DICT.
+    ensures once { IfOk result (λ flat. TellsOnce flat.items) }
+    // If the Top DICT has `ROS`, it is the first operator.
+    ensures ros { IfOk result (λ flat. BeginsWithRos flat.items) }
     // The sizes stay below the limit of `TooLarge`.
     ensures small { IfOk result (λ flat. IsSmall bytes.now flat.items) }
     // If the lenient reading accepts the old font, it accepts the new one.
@@ -116,6 +121,8 @@ pub fn kept_glyphs(alloc: Global, bytes: &[u8], named: &[usize]) -> Result<Vec<u
 fn subset_by(alloc: Global, bytes: &[u8], named: &[usize], retain_gids: bool) -> Result<Vec<u8>>
     ensures written { IfOk result (λ flat. IsSubset (IsFontBy retain_gids) (choice_by retain_gids) named.now bytes.now flat.items) }
     ensures whole { IfOk result (λ flat. IsWholeFont flat.items) }
+    ensures once { IfOk result (λ flat. TellsOnce flat.items) }
+    ensures ros { IfOk result (λ flat. BeginsWithRos flat.items) }
     ensures small { IfOk result (λ flat. IsSmall bytes.now flat.items) }
     ensures lenient { IfOk result (λ flat. HasLenientFont bytes.now → HasLenientFont flat.items) }
     ensures one { OnOk result (the_fonts bytes.now 0 ≡ Got 1 0) }
@@ -161,6 +168,10 @@ pub fn subset(alloc: Global, bytes: &[u8], named: &[usize]) -> Result<Vec<u8>>
     ensures written { IfOk result (λ flat. IsSubset IsCutFont the_chosen named.now bytes.now flat.items) }
     // The output has no bytes outside the parts of the font.
     ensures whole { IfOk result (λ flat. IsWholeFont flat.items) }
+    // No operator occurs twice in the Top DICT or in a Font DICT.
+    ensures once { IfOk result (λ flat. TellsOnce flat.items) }
+    // If the Top DICT has `ROS`, it is the first operator.
+    ensures ros { IfOk result (λ flat. BeginsWithRos flat.items) }
     // The sizes stay below the limit of `TooLarge`.
     ensures small { IfOk result (λ flat. IsSmall bytes.now flat.items) }
     // If the lenient reading accepts the old font, it accepts the new one.
@@ -195,6 +206,10 @@ pub fn subset_keeping(alloc: Global, bytes: &[u8], named: &[usize]) -> Result<Ve
     ensures written { IfOk result (λ flat. IsSubset IsKeptFont the_keeping named.now bytes.now flat.items) }
     // The output has no bytes outside the parts of the font.
     ensures whole { IfOk result (λ flat. IsWholeFont flat.items) }
+    // No operator occurs twice in the Top DICT or in a Font DICT.
+    ensures once { IfOk result (λ flat. TellsOnce flat.items) }
+    // If the Top DICT has `ROS`, it is the first operator.
+    ensures ros { IfOk result (λ flat. BeginsWithRos flat.items) }
     // The sizes stay below the limit of `TooLarge`.
     ensures small { IfOk result (λ flat. IsSmall bytes.now flat.items) }
     // If the lenient reading accepts the old font, it accepts the new one.

@@ -17,12 +17,13 @@ ghost use Rattle.postscript_view.specs.Encodings.{IsEncodingOf};
 ghost use Rattle.postscript_view.specs.Select.{offset_of};
 ghost use Rattle.postscript_view.specs.Sizes.{IsKeyed, size_named};
 ghost use Rattle.postscript_view.specs.Value.{parts_shown, view_shown};
-ghost use Rattle.postscript_write.specs.ArrangedText.{AreSizedFor, AreTablesOf, NamePrivates, dictionaries_text, is_single, tables_text};
-ghost use Rattle.postscript_write.specs.Dictionaries.{IsHeld, IsWithPlaces};
+ghost use Rattle.postscript_write.specs.ArrangedText.{AreSizedFor, AreTablesOf, IsPlacedText, NamePrivates, dictionaries_text, is_single, tables_text};
+ghost use Rattle.postscript_write.specs.Dictionaries.{IsHeld};
 ghost use Rattle.postscript_write.specs.DictionarySizes.{HasSize, places_size};
 ghost use Rattle.postscript_write.specs.Index.{FitsIndex, index_text};
 ghost use Rattle.postscript_view.specs.declared.char_set.CharSetView.{CharSetView as Set};
 ghost use Rattle.postscript_view.specs.declared.encoding.EncodingView.{EncodingView as Encodings};
+ghost use Rattle.postscript_write.specs.Once.{IsToldOnce, TellsRosFirst};
 ghost use Rattle.postscript_write.specs.Own.{IsCutFrom, IsOwnCharSet, IsOwnEncoding};
 ghost use Rattle.postscript_write.specs.Pieces.{named_places, piece_shown, pieces_of as the_pieces, pieces_text, piece_if, place_of, standard_place, text_of};
 ghost use Rattle.postscript_write.specs.Privates.{AreFontDictionaries, AreSized, AreOwnPrivates, IsFontDictionary, IsOwnPrivate, IsSomeDictionary, NoneIsNamed, place_of_private, private_text, privates_text};
@@ -31,7 +32,7 @@ ghost use Rattle.postscript_write.specs.Room.{HasFew, HasRoom, IsRead, SelectsOn
 ghost use Rattle.postscript_write.specs.Strings.{identifier_in as the_identifier};
 ghost use Rattle.postscript_write.specs.Written.{IsPut, IsPutTogether};
 
-use crate::dictionaries::{Place, with_places, without};
+use crate::dictionaries::{Place, ros_first, with_places, without};
 use crate::indices::put_index;
 use crate::naming::{SID_OPERATORS, identifier_in};
 use crate::spans::{char_set_end, encoding_end};
@@ -371,6 +372,7 @@ fn font_dictionary(
         IsFontDictionary old private.now offset out.items) }
     ensures sized { IfOk result (λ out. HasSize text.now (place_of_private private.now 0) (length out.items)) }
     ensures held { OnOk result (All IsHeld (place_of_private private.now offset)) }
+    ensures once { IfOk result (λ out. IsToldOnce out.items) }
     ensures refused { IfErr result (λ e. e ≢ errors.Memory → All IsHeld (place_of_private private.now offset) → (old : Dictionary) →
         IsDictionary text.now 0 old → ⊥) }
 {
@@ -467,18 +469,19 @@ fn renamed(alloc: Global, dictionary: &Operations, strings: &Strings) -> Result<
     Ok(places)
 }
 
-/// The Top DICT as it is. In a CID-keyed font an offset of a Private DICT is left out, since the Font DICTs have them
-/// (section 18).
+/// The Top DICT with `ROS` first. In a CID-keyed font an offset of a Private DICT is left out, since the Font DICTs have
+/// them (section 18).
 fn without_private(alloc: Global, font: &FontView<'_>, text: &[u8]) -> Result<Vec<u8>>
     ensures unnamed { IfOk result (λ out. IsDictionary text.now 0 font.now.dictionary →
         (kept : Dictionary) × IsDictionary out.items 0 kept × IsUnnamed font.now.dictionary kept) }
+    ensures order { IfOk result (λ out. TellsRosFirst out.items) }
     ensures within { IfOk result (λ out. length out.items ≤ length text.now) }
     ensures refused { IfErr result (λ e. e ≢ errors.Memory → (dictionary : Dictionary) → IsDictionary text.now 0 dictionary → ⊥) }
 {
     if font.is_cid_keyed() {
-        return without(alloc, text, &[Operator::Private]);
+        return ros_first(alloc, text, &[Operator::ROS, Operator::Private]);
     }
-    without(alloc, text, &[])
+    ros_first(alloc, text, &[Operator::ROS])
 }
 
 /// The Top DICT with new SIDs. In a CID-keyed font it has no Private DICT.
@@ -486,6 +489,7 @@ fn dictionary_with(alloc: Global, font: &FontView<'_>, strings: &Strings) -> Res
     ensures renamed { IfOk result (λ out. AreTables font.now.bytes.now (number_at font.now.bytes.now 2 1) 0 (view_shown font.now).tables →
         (new : Dictionary) × IsDictionary out.items 0 new
         × IsRenamed font.now.dictionary (all_renamed strings.now font.now.dictionary) new) }
+    ensures order { IfOk result (λ out. TellsRosFirst out.items) }
     ensures sized { IfOk result (λ out.
         length out.items ≤ length font.now.bytes.now + places_size (all_renamed strings.now font.now.dictionary)) }
     ensures refused { IfErr result (λ e. e ≢ errors.Memory → 3 ≤ length font.now.bytes.now →
@@ -506,8 +510,7 @@ fn put_dictionary(
     places: &[Place],
 ) -> Result<()>
     ensures text { OnOk result ((placed : List ℕ) × (out.new.items ≡ out.old.items ++ index_text (placed ∷ []))
-        × IsWithPlaces dictionary.now places.now placed × HasSize dictionary.now places.now (length placed)
-        × FitsIndex (placed ∷ [])) }
+        × IsPlacedText dictionary.now places.now placed) }
     ensures held { OnOk result (All IsHeld places.now) }
     ensures refused { IfErr result (λ e. e ≢ errors.Memory → All IsHeld places.now → IsSomeDictionary dictionary.now →
         length dictionary.now + places_size places.now < 2 ^ 31 → ⊥) }
@@ -529,8 +532,7 @@ fn put_tables(
 ) -> Result<()>
     ensures text { OnOk result ((placed : List ℕ) × (out.new.items ≡ out.old.items
         ++ tables_text (items_of font.now.names) placed (texts strings.now))
-        × IsWithPlaces dictionary.now places.now placed × HasSize dictionary.now places.now (length placed)
-        × FitsIndex (placed ∷ [])) }
+        × IsPlacedText dictionary.now places.now placed) }
     ensures names_fit { OnOk result (FitsIndex (items_of font.now.names)) }
     ensures strings_fit { OnOk result (FitsIndex (texts strings.now)) }
     ensures held { OnOk result (All IsHeld places.now) }

@@ -12,6 +12,7 @@ ghost use Rattle.postscript_view.specs.Value.{view_shown};
 ghost use Rattle.postscript_write.specs.Glyphs.{AreCodesOf, AreGlyphs, AreNumbersOf};
 ghost use Rattle.postscript_write.specs.Identified.{AreSources, AreSourcesFor};
 ghost use Rattle.postscript_write.specs.Making.{IsFontBy};
+ghost use Rattle.postscript_write.specs.Once.{BeginsWithRos, TellsOnce};
 ghost use Rattle.postscript_write.specs.ReadBack.{IsReadAs};
 ghost use Rattle.postscript_write.specs.Readings.{HasLenientFont};
 ghost use Rattle.postscript_write.specs.Refusals.{FontRefusedBy};
@@ -68,6 +69,8 @@ fn put_together(
     ensures font { IfOk result (λ flat. (new : View) × IsLaidOut flat.items 0 new
         × IsFontBy from.now.retain_gids from.now.sources.now from.now.font.now.bytes.now (view_shown from.now.font.now) flat.items new) }
     ensures whole { IfOk result (λ flat. IsWholeFont flat.items) }
+    ensures once { IfOk result (λ flat. TellsOnce flat.items) }
+    ensures ros { IfOk result (λ flat. BeginsWithRos flat.items) }
     ensures codes { IfOk result (λ flat. (new : View) → IsLaidOut flat.items 0 new → new.char_strings ≡ texts from.now.codes.now) }
     ensures lenient { IfOk result (λ flat. HasLenientFont from.now.font.now.bytes.now → HasLenientFont flat.items) }
     ensures memory { IfErr result (λ e. e ≡ errors.Refused causes.Memory) }
@@ -114,6 +117,8 @@ pub(crate) fn font_of(
     ensures font { IfOk result (λ flat. (new : View) × IsLaidOut flat.items 0 new
         × IsFontBy retain_gids sources.now font.now.bytes.now (view_shown font.now) flat.items new) }
     ensures whole { IfOk result (λ flat. IsWholeFont flat.items) }
+    ensures once { IfOk result (λ flat. TellsOnce flat.items) }
+    ensures ros { IfOk result (λ flat. BeginsWithRos flat.items) }
     ensures small { IfOk result (λ flat. (new : View) → IsLaidOut flat.items 0 new →
         IsLarge font.now.bytes.now (view_shown font.now) new.char_strings → ⊥) }
     ensures lenient { IfOk result (λ flat. HasLenientFont font.now.bytes.now → HasLenientFont flat.items) }

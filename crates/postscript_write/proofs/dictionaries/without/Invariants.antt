@@ -8,7 +8,7 @@ invariant-operations l = record {
   inner : l.tape.inner.now ≡ l.text;
   position : l.tape.pos ≡ l.place;
   within : l.place ≤ length l.text;
-  so_far : IsSoFar l.text l.left_out l.place l.out.items;
+  so_far : IsSoFar l.text l.left_out l.told.items l.place l.count l.out.items;
   spelled : (rest : List ℕ) → IsLeftText l.text l.left_out l.place rest → IsLeftText l.text l.left_out 0 (l.out.items ++ rest);
 }
 

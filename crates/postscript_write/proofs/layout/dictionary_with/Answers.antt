@@ -1,12 +1,16 @@
-use Rattle.std.proofs.Common.{◌∙◌, sym, subst, ℕ, List, length, arith}
+use Rattle.std.proofs.Common.{◌∙◌, sym, subst, ℕ, List, length, map, arith}
+use Rattle.std.specs.List.{Contains}
 use Rattle.std.specs.Prelude.{All}
+use Rattle.postscript_base.specs.declared.compact1.operator.Operator.TheVariants.{ROS}
 use Rattle.std.proofs.lemmas.Result.{IfOk-weaker, err_from_is_err_and}
 use Rattle.postscript_base.specs.Compact1.DictionaryLaw.{IsDictionary}
 use Rattle.postscript_view.specs.Value.{view_shown}
 use Rattle.postscript_write.specs.Dictionaries.{IsHeld, IsPlaced}
 use Rattle.postscript_write.specs.DictionarySizes.{HasSize}
+use Rattle.postscript_write.specs.Once.{TellsRosFirst}
 use Rattle.postscript_write.specs.Renumbered.{all_renamed}
 use Rattle.postscript_write.specs.declared.dictionaries.Place.{Place}
+use Rattle.postscript_write.proofs.Distinct.{ros_not_renamed}
 use Rattle.postscript_write.proofs.Making.{if_err}
 use Rattle.postscript_write.proofs.Without.{sized_within}
 use Rattle.postscript_write.proofs.layout.dictionary_with.Goals as goal
@@ -55,3 +59,12 @@ returns-clause-sized c =
     let sized = sized_within text (all_renamed c.args.strings.now font.dictionary) (length out.items)
     (subst (λ (ps : List Place). HasSize text ps (length out.items)) places own) in
     omega (arith, sized, first, kept)) c.with_places.ensures.sized
+
+pub returns-clause-order : goal.returns-clause-order
+returns-clause-order c =
+    let font = c.args.font.now in
+    let places = c.deref-2.ensures.value ∙ c.in_ok-places.ensures.places in
+    IfOk-weaker c.with_places.result _ _ (λ out keeps.
+    keeps.ros (subst (λ (ps : List Place). Contains (map (λ place. place.operator) ps) ROS → ⊥) (sym places)
+    (ros_not_renamed c.args.strings.now font.dictionary))
+    (subst TellsRosFirst (sym c.deref.ensures.value) c.in_ok-kept.ensures.order)) c.with_places.ensures.order

@@ -1,4 +1,4 @@
-use Rattle.std.proofs.Common.{length, rules, ◌≡◌, ◌≢◌, ◌∙◌, sym, ap, subst, List, ℕ, [], ◌∷◌, Some}
+use Rattle.std.proofs.Common.{length, rules, ◌≡◌, ◌≢◌, ◌∙◌, sym, ap, subst, List, ℕ, [], ◌∷◌, Some, arith}
 use Rattle.std.specs.Prelude.{All, IfErr, IfOk, OnOk}
 use Rattle.postscript_base.specs.Compact1.Dictionary.{Dictionary}
 use Rattle.postscript_base.specs.Compact1.DictionaryLaw.{IsDictionary}
@@ -8,6 +8,7 @@ use Rattle.postscript_write.specs.Dictionaries.{IsHeld, IsPlaced}
 use Rattle.postscript_write.specs.DictionarySizes.{HasSize}
 use Rattle.postscript_write.specs.Privates.{place_of_private}
 use Rattle.postscript_write.specs.declared.dictionaries.Place.{Place}
+use Rattle.postscript_write.proofs.Making.{if_ok}
 use Rattle.postscript_write.proofs.layout.font_dictionary.Goals as goal
 
 abbrev Placed : List ℕ → List Place → List ℕ → Type 0
@@ -67,3 +68,10 @@ pub returns-in-None-clause-held : goal.returns-in-None-clause-held
 returns-in-None-clause-held c =
     subst (λ places. OnOk c.with_places-in-None.result (All IsHeld places))
     (ap (λ p. place_of_private p c.args.offset) (sym c.in-None.is)) c.with_places-in-None.ensures.held
+
+pub returns-in-Some-clause-once : goal.returns-in-Some-clause-once
+returns-in-Some-clause-once c =
+    if_ok c.with_places.result (λ out keeps. keeps.once (λ has. let none = has.1 in absurd (omega (arith, none)), tt)) c.with_places.ensures.order
+
+pub returns-in-None-clause-once : goal.returns-in-None-clause-once
+returns-in-None-clause-once c = if_ok c.with_places-in-None.result (λ out keeps. keeps.once tt) c.with_places-in-None.ensures.order

@@ -3,6 +3,7 @@ use Rattle.std.specs.Option.{is_none}
 use Rattle.std.proofs.lemmas.Result.{err_from_is_err_and}
 use Rattle.postscript_base.specs.Compact1.Defaults.{look, first_two_of}
 use Rattle.postscript_base.specs.declared.compact1.operator.Operator.TheVariants as operators
+use Rattle.postscript_write.proofs.Once.{once_left}
 use Rattle.postscript_write.proofs.Placing.{less}
 use Rattle.postscript_write.proofs.Privates.{no_bounds, no_source, own, size_is, source_is, source_within}
 use Rattle.postscript_write.proofs.Without.{left_shorter}
@@ -39,9 +40,10 @@ pub returns-clause-own : goal.returns-clause-own
 returns-clause-own c = λ font part is.
     let some : is_none (first_two_of (look c.args.dictionary.now operators.Private)) ≡ false = search rules in
     let has = own c.args.bytes.now c.args.dictionary.now font part is some in
-    less c.in_ok-source.source.now c.in_ok-text.text.items (operators.Subrs ∷ []) part.dictionary c.in_ok-text.ensures.left
+    let new = less c.in_ok-source.source.now c.in_ok-text.text.items (operators.Subrs ∷ []) part.dictionary c.in_ok-text.ensures.left
     (source_is c.args.bytes.now c.args.dictionary.now part.dictionary has.0 _ _ _ c.in_ok-source.source.now has.1
-    (c.in_ok-size.ensures.exact c.args.bytes.now 0) (c.in_ok-source.ensures.exact 0))
+    (c.in_ok-size.ensures.exact c.args.bytes.now 0) (c.in_ok-source.ensures.exact 0)) in
+    (new.0, new.1, new.2, once_left c.in_ok-source.source.now c.in_ok-text.text.items (operators.Subrs ∷ []) c.in_ok-text.ensures.left)
 
 pub returns-clause-sized : goal.returns-clause-sized
 returns-clause-sized c =

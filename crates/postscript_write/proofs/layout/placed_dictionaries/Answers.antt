@@ -7,6 +7,7 @@ use Rattle.postscript_base.specs.Compact1.DictionaryLaw.{IsDictionary}
 use Rattle.postscript_base.specs.Index.Lent.{items_of}
 use Rattle.postscript_write.specs.Dictionaries.{IsHeld}
 use Rattle.postscript_write.specs.DictionarySizes.{HasSize}
+use Rattle.postscript_write.specs.Once.{IsToldOnce}
 use Rattle.postscript_write.specs.Privates.{IsFontDictionary, IsSomeDictionary, place_of_private, private_offset}
 use Rattle.postscript_write.proofs.Agree.{text_more}
 use Rattle.postscript_write.proofs.Rests.{texts_many}
@@ -55,6 +56,8 @@ loop-i-preserved c =
           (c.loop-i.invariant.held fits)
           (subst (λ p. All IsHeld (place_of_private p (private_offset c.args.start privates c.loop-i.i))) private_is
           (subst (λ n. All IsHeld (place_of_private private n)) (c.loop-i.invariant.offset fits) c.in_ok-font_dictionary.ensures.held));
+      once = text_more (λ k text. IsToldOnce text) c.loop-i.all.items c.push.new.self.items font c.loop-i.i many more
+          c.in_ok-font_dictionary.ensures.once c.loop-i.invariant.once;
       sized =
           text_more (λ k text. HasSize (get_or items k []) (place_of_private (get_or privates k None) 0) (length text)) c.loop-i.all.items
           c.push.new.self.items font c.loop-i.i many more
@@ -73,6 +76,7 @@ returns-clause-placed c = λ fits.
     record {
       many = texts_many c.loop-i.all.items ∙ omega (arith, many, past, ends, least);
       each = λ k old less is. c.loop-i.invariant.each fits k (omega (arith, less, past, ends, least)) old is;
+      once = λ k less. c.loop-i.invariant.once k (omega (arith, less, past, ends, least));
       held = λ k less. c.loop-i.invariant.held fits k (omega (arith, less, past, ends, least));
     }
 

@@ -5,6 +5,7 @@ use Rattle.postscript_base.specs.Compact1.DictionaryLaw.{IsDictionary}
 use Rattle.postscript_base.specs.Index.Lent.{items_of}
 use Rattle.postscript_write.specs.Dictionaries.{IsHeld}
 use Rattle.postscript_write.specs.DictionarySizes.{HasSize}
+use Rattle.postscript_write.specs.Once.{IsToldOnce}
 use Rattle.postscript_write.specs.Privates.{IsFontDictionary, place_of_private, private_offset, privates_text}
 use Rattle.postscript_type2.specs.Program.Routines.{texts}
 use Rattle.postscript_write.proofs.layout.placed_dictionaries.Given as goal
@@ -19,6 +20,7 @@ invariant-loop-i l = record {
       IsFontDictionary old (get_or l.privates k None) (private_offset l.start l.privates k) (get_or (texts l.all.items) k []);
   held : l.start + length (privates_text l.privates) < 2 ^ 64 → (k : ℕ) → k < l.i →
       All IsHeld (place_of_private (get_or l.privates k None) (private_offset l.start l.privates k));
+  once : (k : ℕ) → k < l.i → IsToldOnce (get_or (texts l.all.items) k []);
   sized : (k : ℕ) → k < l.i → HasSize (get_or (items_of l.sources) k []) (place_of_private (get_or l.privates k None) 0)
       (length (get_or (texts l.all.items) k []));
 }

@@ -60,6 +60,7 @@ returns-clause-put c =
       strings_fit = put.strings_fit;
       dictionaries_fit = second.4;
       places = put.places fits;
+      order = put.order fits;
       held = put.held fits;
       private_places = subst (λ n. NamePrivates font.bytes.now font.dictionary glyphs.select privates n second.0) place
           (second.2 (omega (arith, place, end, fits)));

@@ -8,6 +8,7 @@ use Rattle.postscript_write.specs.ArrangedText.{tables_text}
 use Rattle.postscript_write.specs.Dictionaries.{IsHeld, IsWithPlaces}
 use Rattle.postscript_write.specs.DictionarySizes.{HasSize, places_size}
 use Rattle.postscript_write.specs.Index.{FitsIndex}
+use Rattle.postscript_write.specs.Once.{KeepsOrder}
 use Rattle.postscript_write.specs.Pieces.{Piece, named_places, piece_shown, pieces_text}
 use Rattle.postscript_write.specs.declared.dictionaries.Place.{Place}
 use Rattle.postscript_write.proofs.layout.tables_of.Goals as goal
@@ -25,11 +26,12 @@ returns-clause-tables c =
       placed = put.0;
       text = put.1 ∙ ap (λ xs. xs ++ tables_text names put.0 (texts c.deref.result.now)) c.new-out.ensures.items
           ∙ ap (λ ts. tables_text names put.0 (texts ts)) c.deref.ensures.value;
-      places = λ small. subst (λ ps. IsWithPlaces dictionary ps put.0) (places small) put.2;
-      sized = λ small. subst (λ ps. HasSize dictionary ps (length put.0)) (places small) put.3;
+      places = λ small. subst (λ ps. IsWithPlaces dictionary ps put.0) (places small) put.2.placed;
+      sized = λ small. subst (λ ps. HasSize dictionary ps (length put.0)) (places small) put.2.sized;
+      order = λ small. subst (λ ps. KeepsOrder dictionary ps put.0) (places small) put.2.order;
       held = λ small. subst (All IsHeld) (places small) c.in_ok-put_tables.ensures.held;
       names_fit = c.in_ok-put_tables.ensures.names_fit;
-      dictionary_fits = put.4;
+      dictionary_fits = put.2.fits;
       strings_fit = subst (λ ts. FitsIndex (texts ts)) c.deref.ensures.value c.in_ok-put_tables.ensures.strings_fit;
     }
 

@@ -1,23 +1,21 @@
-use Rattle.std.proofs.Common.{[], ◌∷◌, refl}
-use Rattle.postscript_base.specs.declared.compact1.operator.Operator.TheVariants.{Private}
+use Rattle.std.proofs.Common.{refl, arith}
 use Rattle.postscript_write.proofs.Making.{if_ok}
-use Rattle.postscript_write.proofs.Unnamed.{keyed_unnamed, plain_unnamed}
-use Rattle.postscript_write.proofs.Without.{left_shorter}
+use Rattle.postscript_write.proofs.Unnamed.{all_there, gone_alone}
 use Rattle.postscript_write.proofs.layout.without_private.Goals as goal
+
+pub ros_first-requires : goal.ros_first-requires
+ros_first-requires c = (0, omega arith, refl)
+
+pub ros_first-requires-2 : goal.ros_first-requires-2
+ros_first-requires-2 c = (0, omega arith, refl)
 
 pub returns-then-is_cid_keyed-clause-unnamed : goal.returns-then-is_cid_keyed-clause-unnamed
 returns-then-is_cid_keyed-clause-unnamed c =
-    if_ok c.without.result (λ out left is. keyed_unnamed c.args.text.now out.items c.args.font.now.dictionary left
-    (c.if-is_cid_keyed.ensures.0 refl) is) c.without.ensures.left
-
-pub returns-then-is_cid_keyed-clause-within : goal.returns-then-is_cid_keyed-clause-within
-returns-then-is_cid_keyed-clause-within c =
-    if_ok c.without.result (λ out left. left_shorter c.args.text.now (Private ∷ []) out.items left) c.without.ensures.text
+    if_ok c.ros_first.result (λ out moved is. let new = moved c.args.font.now.dictionary is in
+    (new.0, new.1, gone_alone c.args.font.now.dictionary new.0 new.2 (c.if-is_cid_keyed.ensures.0 refl))) c.ros_first.ensures.moved
 
 pub returns-clause-unnamed : goal.returns-clause-unnamed
 returns-clause-unnamed c =
-    if_ok c.without-2.result (λ out left is. plain_unnamed c.args.text.now out.items c.args.font.now.dictionary left
-    (λ keyed. let never = c.if-is_cid_keyed.ensures.1 keyed in absurd (cc)) is) c.without-2.ensures.left
-
-pub returns-clause-within : goal.returns-clause-within
-returns-clause-within c = if_ok c.without-2.result (λ out left. left_shorter c.args.text.now [] out.items left) c.without-2.ensures.text
+    if_ok c.ros_first-2.result (λ out moved is. let new = moved c.args.font.now.dictionary is in
+    (new.0, new.1, all_there c.args.font.now.dictionary new.0 new.2 (λ keyed. let never = c.if-is_cid_keyed.ensures.1 keyed in absurd (cc))))
+    c.ros_first-2.ensures.moved

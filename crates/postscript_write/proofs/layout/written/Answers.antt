@@ -22,6 +22,7 @@ returns-clause-written c =
       put = subst (λ xs. IsPut font glyphs xs c.in_ok-privates.privates.items c.in_ok-dictionary.dictionary.items out.items) char_strings
           (subst (λ ps. IsPut font glyphs c.deref.result.now ps c.in_ok-dictionary.dictionary.items out.items) c.deref-2.ensures.value
           (subst (λ (d : List ℕ). IsPut font glyphs c.deref.result.now c.deref-2.result.now d out.items) c.deref-3.ensures.value put));
+      ros_first = c.in_ok-dictionary.ensures.order;
       char_strings_fit = c.in_ok-put_index.ensures.fits;
       are_own = c.in_ok-privates.ensures.own;
       none_named = c.in_ok-privates.ensures.named;

@@ -3,6 +3,7 @@ use Rattle.postscript_type2.specs.Program.Routines.{texts}
 use Rattle.postscript_view.specs.Contents.{View}
 use Rattle.postscript_view.specs.Value.{view_shown}
 use Rattle.postscript_write.proofs.Counts.{numbers_low}
+use Rattle.postscript_write.proofs.Distinct.{stands_alone}
 use Rattle.postscript_write.proofs.GivenBack.{codes_back, given, their_numbers}
 use Rattle.postscript_write.proofs.Identifying.{few_for}
 use Rattle.postscript_write.proofs.LaidOut.{laid_out}
@@ -93,6 +94,27 @@ pub returns-in-Ok-clause-whole : goal.returns-in-Ok-clause-whole
 returns-in-Ok-clause-whole c =
     let made = returns-in-Ok-clause-made c in
     (made.0, made.1.laid, made.1.written.whole)
+
+pub returns-in-Ok-clause-once : goal.returns-in-Ok-clause-once
+returns-in-Ok-clause-once c =
+    let from = c.args.from.now in
+    let font = from.font.now in
+    let found = c.in_ok-glyphs.ensures in
+    let glyphs = c.in_ok-glyphs.glyphs in
+    let laid = laid_out font glyphs (texts from.codes.now) c.in-Ok.flat.items c.in-Ok.ensures.written c.requires.read found.selects in
+    record {
+      font = laid.view;
+      laid = laid.laid;
+      dictionary = laid.dictionary_once (stands_alone font c.args.identifiers.now glyphs found.encoding);
+      font_dictionaries = laid.dictionaries_once;
+    }
+
+pub returns-in-Ok-clause-ros : goal.returns-in-Ok-clause-ros
+returns-in-Ok-clause-ros c =
+    let from = c.args.from.now in
+    let laid = laid_out from.font.now c.in_ok-glyphs.glyphs (texts from.codes.now) c.in-Ok.flat.items c.in-Ok.ensures.written c.requires.read
+    c.in_ok-glyphs.ensures.selects in
+    (laid.view, laid.laid, laid.ros)
 
 pub returns-in-Ok-clause-codes : goal.returns-in-Ok-clause-codes
 returns-in-Ok-clause-codes c = λ new is.
