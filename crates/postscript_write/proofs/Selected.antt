@@ -147,5 +147,11 @@ ranges_all numbers firsts are low few = record {
   ends = λ bytes place s.
       let ranges = are_ranges numbers firsts bytes place are low few s in
       let count = ranges.count in
-      inr (ranges.format, omega (arith, ranges_length numbers firsts, count));
+      let at : place + 3 + 3 * number_at bytes (place + 1) 2 ≡ place + 3 + length firsts * 3 = omega (arith, count) in
+      inr (
+        ranges.format,
+        omega (arith, ranges_length numbers firsts, count),
+        ap (λ p. number_at bytes p 2) at ∙ ranges.first (length firsts) (omega arith)
+            ∙ past firsts (length firsts) (length numbers) (omega arith),
+      );
 }

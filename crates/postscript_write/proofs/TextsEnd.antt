@@ -1,5 +1,5 @@
 -- Texts of parts end in bytes where they end alone.
-use Rattle.std.proofs.Common.{◌≡◌, refl, sym, ap, subst, ◌∙◌, inl, inr, ℕ, ◌+◌, ◌-◌, ◌%◌, ◌≤◌, List, ◌++◌, length, length-drop, take, drop, arith}
+use Rattle.std.proofs.Common.{◌≡◌, refl, sym, ap, subst, ◌∙◌, inl, inr, ℕ, ◌+◌, ◌*◌, ◌-◌, ◌%◌, ◌≤◌, List, ◌++◌, length, length-drop, take, drop, arith}
 use Rattle.std.proofs.lemmas.List.{drop-append-le, drop-drop, take-append-le}
 use Rattle.postscript_base.specs.Index.{number_at}
 use Rattle.postscript_base.specs.Numbers.{big_endian}
@@ -59,10 +59,12 @@ pub select_there : (text out : List ℕ) (place glyphs : ℕ) → TextStands tex
 select_there text out place glyphs stands (inl (format, is)) =
     let first = number_there text out place 0 1 place stands (omega (arith, is)) (omega arith) in
     inl (first ∙ format, omega (arith, is))
-select_there text out place glyphs stands (inr (format, is)) =
+select_there text out place glyphs stands (inr (format, is, sentinel)) =
     let first = number_there text out place 0 1 place stands (omega (arith, is)) (omega arith) in
     let count = number_there text out place 1 2 (place + 1) stands (omega (arith, is)) refl in
-    inr (first ∙ format, omega (arith, is, count))
+    let last = number_there text out place (0 + 3 + 3 * number_at text (0 + 1) 2) 2 (place + 3 + 3 * number_at out (place + 1) 2) stands
+    (omega (arith, is)) (omega (arith, count)) in
+    inr (first ∙ format, omega (arith, is, count), last ∙ sentinel)
 
 -- a char set is the last part, so that ranges too end where they do alone
 pub char_set_there : (text out : List ℕ) (place glyphs : ℕ) → TextStands text out place → drop place out ≡ text →

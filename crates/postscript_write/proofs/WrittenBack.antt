@@ -138,6 +138,21 @@ same_kind kind (Ranges ranges) same = absurd same
 
 module _ {font : FontView} {glyphs : Glyphs} {codes : List (List ℕ)} {out : List ℕ} (w : IsPutTogether font glyphs codes out)
     (t : TablesStand font glyphs (named w) out) where
+  -- FDSelect gives each glyph its number
+  pub selected_there : (view : View) → IsLaidOut out 0 view → view.char_strings ≡ codes → (numbers : List ℕ) → length numbers ≡ length codes →
+      GivesNumbers numbers glyphs.select → (i : ℕ) → i < length numbers → IsSome glyphs.select →
+      IsSelected out view.tables.dictionary (length view.char_strings) i (get_or numbers i 0)
+  selected_there view laid are numbers many gives i less some =
+      let is = own_look (named w) t.named t.new FDSelect t.placed (select_named w) in
+      let found = selected t.new out glyphs.select numbers (place w FDSelect) i (look t.named FDSelect) is (each_held w).1.0 (stand w).1.0
+      gives less some in
+      subst (λ m. IsSelected out m (length view.char_strings) i (get_or numbers i 0)) (dictionary_is w t view laid)
+      (subst (λ k. IsSelected out t.new k i (get_or numbers i 0)) (many ∙ ap length (sym are)) found)
+
+  -- only in a CID-keyed font
+  pub select_there : (view : View) → IsLaidOut out 0 view → SelectsExactly font glyphs → IsCidKeyed view.tables.dictionary → IsSome glyphs.select
+  select_there view laid exactly keyed = (keyed_is w t exactly).1 (subst IsCidKeyed (sym (dictionary_is w t view laid)) keyed)
+
   -- each glyph has the part of its number
   pub numbers_there : (view : View) → IsLaidOut out 0 view → view.char_strings ≡ codes → SelectsExactly font glyphs → (numbers : List ℕ) →
       length numbers ≡ length codes →
@@ -149,17 +164,6 @@ module _ {font : FontView} {glyphs : Glyphs} {codes : List (List ℕ)} {out : Li
       n : ℕ
       n = get_or numbers i 0
 
-      dictionary : t.new ≡ view.tables.dictionary
-      dictionary = dictionary_is w t view laid
-
-      is_selected : IsSome glyphs.select → IsSelected out view.tables.dictionary (length view.char_strings) i n
-      is_selected some =
-          let is = own_look (named w) t.named t.new FDSelect t.placed (select_named w) in
-          let found = selected t.new out glyphs.select numbers (place w FDSelect) i (look t.named FDSelect) is (each_held w).1.0 (stand w).1.0
-          gives less some in
-          subst (λ m. IsSelected out m (length view.char_strings) i n) dictionary
-          (subst (λ k. IsSelected out t.new k i n) (many ∙ ap length (sym are)) found)
-
       by : (length view.parts < 2) ⊎ (2 ≤ length view.parts) →
           ((length view.parts ≡ 1) × (n ≡ 0)) ⊎ ((length view.parts ≢ 1) × IsSelected out view.tables.dictionary
           (length view.char_strings) i n)
@@ -168,7 +172,7 @@ module _ {font : FontView} {glyphs : Glyphs} {codes : List (List ℕ)} {out : Li
         | inl one ↦ absurd (omega (arith, several, one))
         | inr keyed ↦ inr (
           λ one. absurd (omega (arith, several, one)),
-          is_selected ((keyed_is w t exactly).1 (subst IsCidKeyed (sym dictionary) keyed)),
+          selected_there view laid are numbers many gives i less (select_there view laid exactly keyed),
         )
       ]
 
@@ -213,6 +217,8 @@ as_written font glyphs codes out w read exactly given numbers their view laid =
       parts = numbers_there w t own.view own.laid own.char_strings exactly numbers their.counted
           (λ i less. let few = their.below i less in omega (arith, few, own.repeats.parts.many, length-map font.parts.items part_shown))
           their.gives;
+      selected = λ keyed i less. selected_there w t own.view own.laid own.char_strings numbers their.counted their.gives i less
+          (select_there w t own.view own.laid exactly keyed);
       whole = none_beside_view w t own.view own.laid own.char_strings read exactly given;
     })
   where

@@ -5,11 +5,12 @@ use Rattle.std.specs.declared.alloc.Global.{Global}
 use Rattle.postscript_base.specs.Compact1.Defaults.{look}
 use Rattle.postscript_base.specs.Compact1.Dictionary.{Dictionary}
 use Rattle.postscript_base.specs.declared.compact1.operator.Operator.TheVariants as operators
+use Rattle.postscript_view.specs.Cids.{IsCidKeyed}
 use Rattle.postscript_view.specs.CharSets.{IsCharSetOf}
 use Rattle.postscript_view.specs.Contents.{View}
 use Rattle.postscript_view.specs.Encodings.{IsEncodingOf}
 use Rattle.postscript_view.specs.Layout.{IsLaidOut}
-use Rattle.postscript_view.specs.Select.{offset_of}
+use Rattle.postscript_view.specs.Select.{IsSelected, offset_of}
 use Rattle.postscript_view.specs.declared.char_set.CharSetView.{CharSetView}
 use Rattle.postscript_view.specs.declared.encoding.EncodingView.{EncodingView}
 use Rattle.postscript_write.specs.Fonts.{HasHeader, NamesNoPrivateIfKeyed, Repeats}
@@ -67,6 +68,8 @@ pub record IsAsWritten (numbers : List ℕ) (codes : List (List ℕ)) (old : Vie
   pub repeats : Repeats old new
   pub char_strings : new.char_strings ≡ codes
   pub parts : (i : ℕ) → i < length numbers → ShowsPart flat new i (slice_index_or numbers i 0)
+  pub selected : IsCidKeyed new.tables.dictionary → (i : ℕ) → i < length numbers →
+      IsSelected flat new.tables.dictionary (length new.char_strings) i (slice_index_or numbers i 0)
   pub whole : HasNoByteBeside flat new
 
 -- The new font is laid out in the bytes, and is as it was to be written, with its names and codes.

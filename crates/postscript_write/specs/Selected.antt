@@ -1,6 +1,9 @@
 -- FDSelect as it is written (Technical Note 5176, section 19, "FDSelect").
 use Rattle.std.specs.Prelude.{◌≡◌, ℕ, ◌+◌, ◌<◌, ◌≤◌, List, ◌++◌, flat_map, length, slice_index_or}
-use Rattle.postscript_view.specs.Select.{Selects}
+use Rattle.postscript_view.specs.Cids.{IsCidKeyed}
+use Rattle.postscript_view.specs.Contents.{View}
+use Rattle.postscript_view.specs.Layout.{IsLaidOut}
+use Rattle.postscript_view.specs.Select.{IsSelected, Selects}
 use Rattle.postscript_write.specs.Texts.{number_text, TextStands}
 use Rattle.postscript_write.specs.Whole.{SelectEnds}
 
@@ -41,3 +44,9 @@ range_text numbers first = number_text 2 first ++ number_text 1 (slice_index_or 
 abbrev pub ranges_text : (numbers firsts : List ℕ) → List ℕ
 ranges_text numbers firsts =
     number_text 1 3 ++ (number_text 2 (length firsts) ++ (flat_map (range_text numbers) firsts ++ number_text 2 (length numbers)))
+
+-- A font begins the bytes. If it is CID-keyed, FDSelect gives each glyph the number of one of its font dictionaries: 0, if it has one.
+abbrev pub SelectsParts : (flat : List ℕ) → Type 0
+SelectsParts flat = (font : View) × IsLaidOut flat 0 font × (IsCidKeyed font.tables.dictionary → (glyph : ℕ) →
+    glyph < length font.char_strings →
+    (number : ℕ) × IsSelected flat font.tables.dictionary (length font.char_strings) glyph number × (number < length font.parts))

@@ -60,11 +60,13 @@ CharSetEnds bytes glyphs place next =
     ⊎ ((size : ℕ) × (len : ℕ) × (number_at bytes place 1 ≡ size) × (1 ≤ size) × (size ≤ 2)
     × RangesEnd (drop (place + 1) bytes) size (glyphs - 1) len × (next ≡ place + 1 + len))
 
--- FDSelect of format 0 has a byte for each glyph; of format 3 a count of ranges of three bytes, the ranges, and the sentinel.
+-- FDSelect of format 0 has a byte for each glyph; of format 3 a count of ranges of three bytes, the ranges, and the sentinel, which is the
+-- number of glyphs.
 abbrev pub SelectEnds : List ℕ → (glyphs place next : ℕ) → Type 0
 SelectEnds bytes glyphs place next =
     ((number_at bytes place 1 ≡ 0) × (next ≡ place + 1 + glyphs))
-    ⊎ ((number_at bytes place 1 ≡ 3) × (next ≡ place + 3 + 3 * number_at bytes (place + 1) 2 + 2))
+    ⊎ ((number_at bytes place 1 ≡ 3) × (next ≡ place + 3 + 3 * number_at bytes (place + 1) 2 + 2)
+    × (number_at bytes (place + 3 + 3 * number_at bytes (place + 1) 2) 2 ≡ glyphs))
 
 -- A part that a dictionary names by an operator begins at a place and ends there. An offset below the least names a predefined one,
 -- which stands nowhere.

@@ -14,7 +14,7 @@ ghost use Rattle.postscript_write.specs.Readings.{HasLenientFont};
 ghost use Rattle.postscript_write.specs.Refusals.{IsChoiceRefusedBy, IsRefusedBy, IsSubsetRefusedBy};
 ghost use Rattle.postscript_write.specs.Room.{IsRead};
 ghost use Rattle.postscript_write.specs.SameGlyphs.{GlyphsKept, KeepsGlyphs};
-ghost use Rattle.postscript_write.specs.Selected.{AreLow};
+ghost use Rattle.postscript_write.specs.Selected.{AreLow, SelectsParts};
 ghost use Rattle.postscript_write.specs.Sizes.{IsSmall};
 ghost use Rattle.postscript_write.specs.Sources.{AreThere, IsWritten, choice_by, chosen as the_chosen, every as the_every, keeping as the_keeping};
 ghost use Rattle.postscript_write.specs.Steps.{IsNotOpened};
@@ -72,6 +72,8 @@ pub fn flat_font(alloc: Global, bytes: &[u8]) -> Result<Vec<u8>>
     ensures once { IfOk result (λ flat. TellsOnce flat.items) }
     // If the Top DICT has `ROS`, it is the first operator.
     ensures ros { IfOk result (λ flat. BeginsWithRos flat.items) }
+    // In a CID-keyed font, FDSelect gives each glyph a Font DICT that the font has.
+    ensures selects { IfOk result (λ flat. SelectsParts flat.items) }
     // The sizes stay below the limit of `TooLarge`.
     ensures small { IfOk result (λ flat. IsSmall bytes.now flat.items) }
     // If the lenient reading accepts the old font, it accepts the new one.
@@ -123,6 +125,7 @@ fn subset_by(alloc: Global, bytes: &[u8], named: &[usize], retain_gids: bool) ->
     ensures whole { IfOk result (λ flat. IsWholeFont flat.items) }
     ensures once { IfOk result (λ flat. TellsOnce flat.items) }
     ensures ros { IfOk result (λ flat. BeginsWithRos flat.items) }
+    ensures selects { IfOk result (λ flat. SelectsParts flat.items) }
     ensures small { IfOk result (λ flat. IsSmall bytes.now flat.items) }
     ensures lenient { IfOk result (λ flat. HasLenientFont bytes.now → HasLenientFont flat.items) }
     ensures one { OnOk result (the_fonts bytes.now 0 ≡ Got 1 0) }
@@ -172,6 +175,8 @@ pub fn subset(alloc: Global, bytes: &[u8], named: &[usize]) -> Result<Vec<u8>>
     ensures once { IfOk result (λ flat. TellsOnce flat.items) }
     // If the Top DICT has `ROS`, it is the first operator.
     ensures ros { IfOk result (λ flat. BeginsWithRos flat.items) }
+    // In a CID-keyed font, FDSelect gives each glyph a Font DICT that the font has.
+    ensures selects { IfOk result (λ flat. SelectsParts flat.items) }
     // The sizes stay below the limit of `TooLarge`.
     ensures small { IfOk result (λ flat. IsSmall bytes.now flat.items) }
     // If the lenient reading accepts the old font, it accepts the new one.
@@ -210,6 +215,8 @@ pub fn subset_keeping(alloc: Global, bytes: &[u8], named: &[usize]) -> Result<Ve
     ensures once { IfOk result (λ flat. TellsOnce flat.items) }
     // If the Top DICT has `ROS`, it is the first operator.
     ensures ros { IfOk result (λ flat. BeginsWithRos flat.items) }
+    // In a CID-keyed font, FDSelect gives each glyph a Font DICT that the font has.
+    ensures selects { IfOk result (λ flat. SelectsParts flat.items) }
     // The sizes stay below the limit of `TooLarge`.
     ensures small { IfOk result (λ flat. IsSmall bytes.now flat.items) }
     // If the lenient reading accepts the old font, it accepts the new one.

@@ -17,7 +17,7 @@ ghost use Rattle.postscript_write.specs.ReadBack.{IsReadAs};
 ghost use Rattle.postscript_write.specs.Readings.{HasLenientFont};
 ghost use Rattle.postscript_write.specs.Refusals.{FontRefusedBy};
 ghost use Rattle.postscript_write.specs.Room.{IsRead};
-ghost use Rattle.postscript_write.specs.Selected.{AreLow};
+ghost use Rattle.postscript_write.specs.Selected.{AreLow, SelectsParts};
 ghost use Rattle.postscript_write.specs.Sizes.{IsLarge};
 ghost use Rattle.postscript_write.specs.Whole.{IsWholeFont};
 ghost use Rattle.postscript_write.specs.declared.error.Error.TheVariants as errors;
@@ -71,6 +71,7 @@ fn put_together(
     ensures whole { IfOk result (λ flat. IsWholeFont flat.items) }
     ensures once { IfOk result (λ flat. TellsOnce flat.items) }
     ensures ros { IfOk result (λ flat. BeginsWithRos flat.items) }
+    ensures selects { IfOk result (λ flat. SelectsParts flat.items) }
     ensures codes { IfOk result (λ flat. (new : View) → IsLaidOut flat.items 0 new → new.char_strings ≡ texts from.now.codes.now) }
     ensures lenient { IfOk result (λ flat. HasLenientFont from.now.font.now.bytes.now → HasLenientFont flat.items) }
     ensures memory { IfErr result (λ e. e ≡ errors.Refused causes.Memory) }
@@ -119,6 +120,7 @@ pub(crate) fn font_of(
     ensures whole { IfOk result (λ flat. IsWholeFont flat.items) }
     ensures once { IfOk result (λ flat. TellsOnce flat.items) }
     ensures ros { IfOk result (λ flat. BeginsWithRos flat.items) }
+    ensures selects { IfOk result (λ flat. SelectsParts flat.items) }
     ensures small { IfOk result (λ flat. (new : View) → IsLaidOut flat.items 0 new →
         IsLarge font.now.bytes.now (view_shown font.now) new.char_strings → ⊥) }
     ensures lenient { IfOk result (λ flat. HasLenientFont font.now.bytes.now → HasLenientFont flat.items) }

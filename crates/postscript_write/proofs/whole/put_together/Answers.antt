@@ -1,4 +1,4 @@
-use Rattle.std.proofs.Common.{◌<◌, ◌^◌, sym, ap, subst, ◌∙◌, length, arith}
+use Rattle.std.proofs.Common.{◌<◌, ◌^◌, sym, ap, subst, ◌∙◌, length, get_or, arith}
 use Rattle.postscript_type2.specs.Program.Routines.{texts}
 use Rattle.postscript_view.specs.Contents.{View}
 use Rattle.postscript_view.specs.Value.{view_shown}
@@ -115,6 +115,17 @@ returns-in-Ok-clause-ros c =
     let laid = laid_out from.font.now c.in_ok-glyphs.glyphs (texts from.codes.now) c.in-Ok.flat.items c.in-Ok.ensures.written c.requires.read
     c.in_ok-glyphs.ensures.selects in
     (laid.view, laid.laid, laid.ros)
+
+pub returns-in-Ok-clause-selects : goal.returns-in-Ok-clause-selects
+returns-in-Ok-clause-selects c =
+    let from = c.args.from.now in
+    let made = returns-in-Ok-clause-made c in
+    let numbers = from.numbers.now in
+    let counted = c.requires.numbers.many in
+    let many = c.requires.codes.many in
+    (made.0, made.1.laid, λ keyed glyph less.
+    let there : glyph < length numbers = omega (arith, less, ap length made.1.written.char_strings, many, counted) in
+    (get_or numbers glyph 0, made.1.written.selected keyed glyph there, (made.1.written.parts glyph there).there))
 
 pub returns-in-Ok-clause-codes : goal.returns-in-Ok-clause-codes
 returns-in-Ok-clause-codes c = λ new is.
