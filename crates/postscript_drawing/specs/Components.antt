@@ -4,9 +4,11 @@ use Rattle.std.specs.Prelude.{◌≡◌, ℕ, ◌<◌, length}
 use Rattle.postscript_compact1.specs.Computed.Encodings.{in_runs, runs_of}
 use Rattle.postscript_compact1.specs.declared.encoding.Encoding.TheVariants.{Standard}
 use Rattle.postscript_base.specs.Index.Lent.{items_of}
+use Rattle.postscript_base.specs.declared.error.Error.{Error as Cause}
 use Rattle.postscript_view.specs.CharSets.{IsCharSetOf}
 use Rattle.postscript_view.specs.Cids.{IsCidKeyed}
 use Rattle.postscript_view.specs.Naming.{Names, IsFirstNamed}
+use Rattle.postscript_view.specs.Untold.{NoCharSet}
 use Rattle.postscript_view.specs.declared.char_set.CharSetView.{CharSetView}
 use Rattle.postscript_view.specs.declared.font.FontView.{FontView}
 use Rattle.postscript_drawing.specs.declared.error.Error.{Error}
@@ -37,11 +39,16 @@ pub record IsMissing (font : FontView) (code : ℕ) : Type 0 where
   pub is_set : HasCharSet font set
   pub none : (glyph : ℕ) → glyph < glyphs_of font → Names set glyph (standard_identifier code) → ⊥
 
+-- The font has no char set, and this is why.
+pub record HasNoCharSet (e : Cause) (font : FontView) : Type 0 where
+  pub none : (set : CharSetView) → HasCharSet font set → ⊥
+  pub why : NoCharSet e font.bytes.now font.dictionary (glyphs_of font)
+
 -- why no glyph of the code is told
 abbrev pub HasNoComponent : Error → FontView → (code : ℕ) → Type 0
 HasNoComponent NoAccents font code = IsCidKeyed font.dictionary
 HasNoComponent (MissingComponent missing) font code = (missing ≡ code) × IsMissing font code
-HasNoComponent (Font e) font code = (set : CharSetView) → HasCharSet font set → ⊥
+HasNoComponent (Font e) font code = HasNoCharSet e font
 HasNoComponent Full font code = ⊥
 HasNoComponent TooLong font code = ⊥
 HasNoComponent NoCode font code = ⊥

@@ -14,7 +14,7 @@ use postscript_view::FontView;
 ///
 /// - `NoAccents`: the font is CID-keyed, so its glyphs have no names.
 /// - `MissingComponent`: no glyph has the name.
-/// - `Font`: the charset is malformed.
+/// - `Font`: the charset is malformed. It is the error of `FontView::char_set`.
 pub fn component_of(font: &FontView<'_>, code: u8) -> Result<usize>
     // On success it is the first glyph with the name that the standard encoding gives the code.
     ensures found { IfOk result (λ glyph. IsComponent font.now code glyph) }
