@@ -1,17 +1,20 @@
 -- A limit that is spent on runs of glyphs.
-use Rattle.std.proofs.Common.{◌≡◌, ◌∙◌, ℕ, zero, suc, ℤ, Option, List, [], ◌∷◌, ◌++◌, Result, Ok, Err, append_assoc, append-nil, ap, inl, inr, refl, subst, sym}
+use Rattle.std.proofs.Common.{◌≡◌, ◌≢◌, ◌∙◌, ◌-◌, ◌<◌, arith, ℕ, zero, suc, ℤ, Option, Some, List, [], ◌∷◌, ◌++◌, Result, Ok, Err, append_assoc, append-nil, ap, inl, inr, refl, subst, sym}
 use Rattle.postscript_drawing.specs.DrawnProgram.{IsSpent}
 use Rattle.postscript_drawing.specs.declared.error.Error.{Error}
-use Rattle.postscript_type2.specs.Program.Limit.{Spends, nothing, one_more}
+use Rattle.postscript_drawing.specs.declared.error.Error.TheVariants.{TooLong}
+use Rattle.postscript_type2.specs.Program.Limit.{cost, Spends, nothing, one_more}
+use Rattle.postscript_type2.proofs.Limit.{lasts}
 use Rattle.postscript_type2.specs.Program.Runs.{Phrase, Run}
 use Rattle.postscript_view.specs.Advances.{HasRun}
 use Rattle.postscript_view.specs.declared.font.FontView.{FontView}
 use Rattle.postscript_view.specs.declared.private_dict.PrivateDict.{PrivateDict}
-use Rattle.std.specs.Prelude.{IfOk, OnOk}
+use Rattle.std.specs.Prelude.{IfOk, IsErrAnd, OnOk}
+use Rattle.postscript_drawing.specs.Components.{IsComponent}
 use Rattle.postscript_drawing.specs.Accents.{IsTold}
 use Rattle.postscript_drawing.specs.declared.accent.Accent.{Accent}
 use Rattle.postscript_drawing.specs.declared.glyph.Own.{Own}
-use Rattle.postscript_drawing.specs.Spending.{AreOfRuns, PaysCode, PaysComponents, PaysOwn, SpendsOnRuns}
+use Rattle.postscript_drawing.specs.Spending.{AreOfRuns, PaysCode, PaysComponents, PaysOwn, SpendsOnCode, SpendsOnOwn, SpendsOnRuns, SufficesFor, SufficesForCode, SufficesForComponents}
 
 -- a drawing has spent the limit on its phrases, whatever it comes to
 pub spent : (limit left : ℕ) (phrases : List Phrase) (r : Result (Option ℤ) Error) → IsSpent limit phrases left r →
@@ -107,3 +110,35 @@ pub pays-both : (font : FontView) (accent : Accent) (limit between left : ℕ) (
     OnOk r (PaysCode font accent.accent between left) → OnOk r (PaysComponents font accent limit left)
 pays-both font accent limit between left (Ok done) first second = (between, first, second)
 pays-both font accent limit between left (Err e) first second = tt
+
+-- the glyph of a code spends what it spends by itself
+pub code-spends : (font : FontView) (code glyph limit left : ℕ) → IsComponent font code glyph → SpendsOnOwn font glyph limit left →
+    SpendsOnCode font code limit left
+code-spends font code glyph limit left component (inl none) = inl none
+code-spends font code glyph limit left component (inr some) = inr (glyph, component, some)
+
+-- what is left where the limit is more than all phrases cost
+left-is : (limit : ℕ) (phrases : List Phrase) (left : ℕ) → Spends limit phrases left [] → cost phrases < limit → left ≡ limit - cost phrases
+left-is limit phrases left spends h = let more = lasts limit phrases left [] spends h in omega (arith, more.0, more.1)
+
+-- what is left suffices for the accent
+pub suffices-behind : (font : FontView) (accent : Accent) (limit between : ℕ) → SufficesForComponents font accent limit →
+    PaysCode font accent.base limit between → SufficesForCode font accent.accent between
+suffices-behind font accent limit between suffices (glyph, component, pays) =
+    let base = suffices.base glyph component pays.part pays.run pays.has in
+    subst (λ n. SufficesForCode font accent.accent n) (sym (left-is limit pays.run.trace between pays.paid base))
+    (suffices.then glyph pays.part pays.run component pays.has)
+
+-- what is left suffices for the components
+pub suffices-then : (font : FontView) (glyph : ℕ) (accent : Accent) (limit between : ℕ) → SufficesFor font glyph limit →
+    PaysOwn font glyph (Some accent) limit between → SufficesForComponents font accent between
+suffices-then font glyph accent limit between suffices pays =
+    subst (λ n. SufficesForComponents font accent n)
+    (sym (left-is limit pays.run.trace between pays.paid (suffices.own pays.part pays.run pays.has)))
+    (suffices.then pays.part pays.run accent pays.has pays.told)
+
+-- an error that is passed on is not this one, where it was not
+pub not-too-long : {A B : Type 0} (r : Result A Error) (e : Error) (of : Result B Error) → of ≡ Err e → IsErrAnd r (λ x. x ≡ e) →
+    of ≢ Err TooLong → r ≢ Err TooLong
+not-too-long (Ok x) e of is same other = absurd same
+not-too-long {A} (Err x) e of is same other = λ long. let e_is : e ≡ TooLong = cc in other (is ∙ ap Err e_is)

@@ -1,9 +1,9 @@
 -- How a limit is spent on the runs of glyphs.
-use Rattle.std.specs.Prelude.{◌≡◌, ◌⊎◌, ℕ, zero, suc, List, [], ◌++◌, Option, Some, None}
-use Rattle.postscript_drawing.specs.Accents.{IsTold}
+use Rattle.std.specs.Prelude.{◌≡◌, ◌⊎◌, ℕ, zero, suc, ◌-◌, ◌<◌, List, [], ◌++◌, Option, Some, None}
+use Rattle.postscript_drawing.specs.Accents.{IsAccentOf, IsTold}
 use Rattle.postscript_drawing.specs.Components.{IsComponent}
 use Rattle.postscript_drawing.specs.declared.accent.Accent.{Accent}
-use Rattle.postscript_type2.specs.Program.Limit.{Spends}
+use Rattle.postscript_type2.specs.Program.Limit.{cost, Spends}
 use Rattle.postscript_type2.specs.Program.Runs.{Phrase, Run}
 use Rattle.postscript_view.specs.Advances.{HasRun}
 use Rattle.postscript_view.specs.declared.font.FontView.{FontView}
@@ -40,3 +40,48 @@ abbrev pub PaysDrawing : (font : FontView) (glyph limit left : ℕ) → Type 0
 PaysDrawing font glyph limit left =
     PaysOwn font glyph None limit left
     ⊎ ((accent : Accent) × (between : ℕ) × PaysOwn font glyph (Some accent) limit between × PaysComponents font accent between left)
+
+-- Phrases of the run of a glyph were run, those at its front, and are paid.
+abbrev pub SpendsOnRunOf : (font : FontView) (glyph limit left : ℕ) → Type 0
+SpendsOnRunOf font glyph limit left =
+    (part : PrivateDict) × (run : Run) × HasRun font glyph part run × ((rest : List Phrase) × Spends limit run.trace left rest)
+
+-- of a glyph by itself: nothing, or such phrases
+abbrev pub SpendsOnOwn : (font : FontView) (glyph limit left : ℕ) → Type 0
+SpendsOnOwn font glyph limit left = (left ≡ limit) ⊎ SpendsOnRunOf font glyph limit left
+
+-- of the glyph of a code: likewise
+abbrev pub SpendsOnCode : (font : FontView) (code limit left : ℕ) → Type 0
+SpendsOnCode font code limit left = (left ≡ limit) ⊎ ((glyph : ℕ) × IsComponent font code glyph × SpendsOnRunOf font glyph limit left)
+
+-- of a base and an accent: some of the base, or all of it and, within what is left, some of the accent
+abbrev pub SpendsOnComponents : (font : FontView) (accent : Accent) (limit left : ℕ) → Type 0
+SpendsOnComponents font accent limit left =
+    SpendsOnCode font accent.base limit left
+    ⊎ ((between : ℕ) × PaysCode font accent.base limit between × SpendsOnCode font accent.accent between left)
+
+-- of a glyph: some of its own run, or all of that and, within what is left, some of the components that it names
+abbrev pub SpendsOnGlyph : (font : FontView) (glyph limit left : ℕ) → Type 0
+SpendsOnGlyph font glyph limit left =
+    SpendsOnOwn font glyph limit left
+    ⊎ ((accent : Accent) × (between : ℕ) × PaysOwn font glyph (Some accent) limit between × SpendsOnComponents font accent between left)
+
+-- The run of a glyph costs less than the limit. A glyph that is not there has none.
+abbrev pub SufficesForOwn : (font : FontView) (glyph limit : ℕ) → Type 0
+SufficesForOwn font glyph limit = (part : PrivateDict) (run : Run) → HasRun font glyph part run → cost run.trace < limit
+
+-- the run of the glyph of a code does
+abbrev pub SufficesForCode : (font : FontView) (code limit : ℕ) → Type 0
+SufficesForCode font code limit = (glyph : ℕ) → IsComponent font code glyph → SufficesForOwn font glyph limit
+
+-- The run of the base does, and that of the accent costs less than is left then.
+pub record SufficesForComponents (font : FontView) (accent : Accent) (limit : ℕ) : Type 0 where
+  pub base : SufficesForCode font accent.base limit
+  pub then : (glyph : ℕ) (part : PrivateDict) (run : Run) → IsComponent font accent.base glyph → HasRun font glyph part run →
+      SufficesForCode font accent.accent (limit - cost run.trace)
+
+-- The run of the glyph does, and those of the components that it names cost less than is left then.
+pub record SufficesFor (font : FontView) (glyph limit : ℕ) : Type 0 where
+  pub own : SufficesForOwn font glyph limit
+  pub then : (part : PrivateDict) (run : Run) (accent : Accent) → HasRun font glyph part run → IsAccentOf accent run →
+      SufficesForComponents font accent (limit - cost run.trace)

@@ -1,15 +1,15 @@
 //! Drawing of glyphs, with the components of `seac` glyphs.
-ghost use Rattle.std.specs.Prelude.{◌≡◌, ◌≢◌, ◌⊎◌, Err, List, [], IfOk, IfErr, OnErr, OnOk};
+ghost use Rattle.std.specs.Prelude.{◌≡◌, ◌≢◌, ◌⊎◌, ◌<◌, Err, List, [], IfOk, IfErr, OnErr, OnOk};
 ghost use Rattle.postscript_base.specs.declared.error.Error.TheVariants as causes;
 ghost use Rattle.postscript_drawing.specs.Accents.{IsTold, run_by};
 ghost use Rattle.postscript_drawing.specs.DrawnProgram.{DrawsFront, IsUndrawn, IsWanting};
 ghost use Rattle.postscript_drawing.specs.Drawn.{DrawsAt, DrawsComponent, DrawsComponents, DrawsGlyph, HasOwn, IsDrawnAs, Takes};
 ghost use Rattle.postscript_drawing.specs.Given.{GivesComponent, GivesComponents, GivesGlyph, GivesOwn};
 ghost use Rattle.postscript_drawing.specs.Refused.{AreRefused, IsComponentRefused, IsGlyphRefused, IsUndrawnGlyph, IsUnread};
-ghost use Rattle.postscript_drawing.specs.Spending.{PaysCode, PaysComponents, PaysDrawing, PaysOwn, SpendsOnRuns};
+ghost use Rattle.postscript_drawing.specs.Spending.{PaysCode, PaysComponents, PaysDrawing, PaysOwn, SpendsOnCode, SpendsOnComponents, SpendsOnGlyph, SpendsOnOwn, SpendsOnRuns, SufficesFor, SufficesForCode, SufficesForComponents, SufficesForOwn};
 ghost use Rattle.postscript_drawing.specs.declared.error.Error.TheVariants as errors;
 ghost use Rattle.postscript_outline.specs.Points.{point};
-ghost use Rattle.postscript_type2.specs.Program.Limit.{Spends};
+ghost use Rattle.postscript_type2.specs.Program.Limit.{cost, Spends};
 ghost use Rattle.postscript_type2.specs.Program.Runs.{Phrase, width_of};
 
 use crate::accent::Accent;
@@ -49,6 +49,10 @@ pub fn outline_of(
     ensures paid { OnOk result (PaysDrawing font.now glyph limit.old limit.new) }
     // Only phrases of the runs of at most three glyphs are paid from the limit.
     ensures spends { SpendsOnRuns font.now 3 limit.old limit.new }
+    // The limit pays only for the runs of the glyph and of the components that it names.
+    ensures named { SpendsOnGlyph font.now glyph limit.old limit.new }
+    // If the runs of the glyph and its components cost less than the limit, it is never `TooLong`.
+    ensures suffices { SufficesFor font.now glyph limit.old → result ≢ Err errors.TooLong }
 {
     match outlined(alloc, font, glyph, limit) {
         Err(Error::Full) => Err(Error::Font(Cause::Memory)),
@@ -62,6 +66,8 @@ fn outlined(alloc: Global, font: &FontView<'_>, glyph: usize, limit: &mut u64) -
     ensures why { IfErr result (λ e. IsUndrawnGlyph font.now glyph limit.new e) }
     ensures paid { OnOk result (PaysDrawing font.now glyph limit.old limit.new) }
     ensures spends { SpendsOnRuns font.now 3 limit.old limit.new }
+    ensures named { SpendsOnGlyph font.now glyph limit.old limit.new }
+    ensures suffices { SufficesFor font.now glyph limit.old → result ≢ Err errors.TooLong }
 {
     let mut segments = Vec::with_capacity(alloc, ROOM)?;
     let width = draw_glyph(alloc, font, glyph, limit, &mut segments)?;
@@ -76,7 +82,8 @@ fn outlined(alloc: Global, font: &FontView<'_>, glyph: usize, limit: &mut u64) -
 /// then the base's, and then the accent's, moved as the operands say.
 ///
 /// The runs of the glyph, of its base and of its accent share the limit, and `limit` is set to the units left.
-/// `Program::step_within` describes how they spend it. On success all of them are paid for.
+/// `Program::step_within` describes how they spend it. On success all of them are paid for. If they together cost less
+/// than the limit, the error is never `TooLong`.
 ///
 /// On an error the sink has received some first segments: none, some of the glyph's own run, or all of these and some
 /// of its components (`specs/Given.antt`). No clause states this if a coordinate leaves the range.
@@ -109,6 +116,10 @@ pub fn draw_glyph<S: Sink>(
     ensures paid { OnOk result (PaysDrawing font.now glyph limit.old limit.new) }
     // Only phrases of the runs of at most three glyphs are paid from the limit.
     ensures spends { SpendsOnRuns font.now 3 limit.old limit.new }
+    // The limit pays only for the runs of the glyph and of the components that it names.
+    ensures named { SpendsOnGlyph font.now glyph limit.old limit.new }
+    // If the runs of the glyph and its components cost less than the limit, it is never `TooLong`.
+    ensures suffices { SufficesFor font.now glyph limit.old → result ≢ Err errors.TooLong }
 {
     let Own { width, accent } = draw_own(alloc, font, glyph, Point::ORIGIN, limit, sink)?;
     match accent {
@@ -151,6 +162,8 @@ fn draw_own<S: Sink>(
         (λ segments. HasOwn font.now glyph origin segments own.width own.accent)) }
     ensures paid { IfOk result (λ own. PaysOwn font.now glyph own.accent limit.old limit.new) }
     ensures spends { SpendsOnRuns font.now 1 limit.old limit.new }
+    ensures named { SpendsOnOwn font.now glyph limit.old limit.new }
+    ensures suffices { SufficesForOwn font.now glyph limit.old → result ≢ Err errors.TooLong }
     ensures why { IfErr result (λ e. IsWanting limit.new e ⊎ IsGlyphRefused font.now glyph origin e) }
     ensures front { OnErr result (GivesOwn S.after origin (S.state sink.old) (S.state sink.new) font.now glyph) }
     ensures full { result ≡ Err errors.Full → S.refuses (S.state sink.new) }
@@ -174,6 +187,7 @@ fn draw_run<S: Sink>(
     ensures told { IfOk result (λ own. IsTold own.accent (run_by glyph.now)) }
     ensures paid { OnOk result (Spends limit.old (run_by glyph.now).trace limit.new []) }
     ensures spends { (rest : List Phrase) × Spends limit.old (run_by glyph.now).trace limit.new rest }
+    ensures suffices { cost (run_by glyph.now).trace < limit.old → result ≢ Err errors.TooLong }
     ensures why { IfErr result (λ e. IsWanting limit.new e ⊎ IsUndrawn origin e (run_by glyph.now).answers (run_by glyph.now).end
         ⊎ IsUnread e (run_by glyph.now)) }
     ensures front { OnErr result (DrawsFront S.after origin (S.state sink.old) (S.state sink.new) (run_by glyph.now).answers) }
@@ -205,6 +219,10 @@ pub fn draw_components<S: Sink>(
     ensures paid { OnOk result (PaysComponents font.now accent.now limit.old limit.new) }
     // Only phrases of the runs of at most two glyphs are paid from the limit.
     ensures spends { SpendsOnRuns font.now 2 limit.old limit.new }
+    // The limit pays only for the runs of the glyphs with the codes of the base and of the accent.
+    ensures named { SpendsOnComponents font.now accent.now limit.old limit.new }
+    // If the runs of base and accent cost less than the limit, it is never `TooLong`.
+    ensures suffices { SufficesForComponents font.now accent.now limit.old → result ≢ Err errors.TooLong }
     // The error gives a cause that holds (`IsWanting`, or `AreRefused` in specs/Refused.antt).
     ensures why { IfErr result (λ e. IsWanting limit.new e ⊎ AreRefused font.now accent.now e) }
     // On an error, if all coordinates stay in the range, the sink has received some first segments.
@@ -228,6 +246,8 @@ fn draw_component<S: Sink>(
     ensures drawn { OnOk result (Takes S.after (S.state sink.old) (S.state sink.new) (DrawsComponent font.now code origin)) }
     ensures paid { OnOk result (PaysCode font.now code limit.old limit.new) }
     ensures spends { SpendsOnRuns font.now 1 limit.old limit.new }
+    ensures named { SpendsOnCode font.now code limit.old limit.new }
+    ensures suffices { SufficesForCode font.now code limit.old → result ≢ Err errors.TooLong }
     ensures why { IfErr result (λ e. IsWanting limit.new e ⊎ IsComponentRefused font.now code origin e) }
     ensures front { OnErr result (GivesComponent S.after origin (S.state sink.old) (S.state sink.new) font.now code) }
     ensures full { result ≡ Err errors.Full → S.refuses (S.state sink.new) }

@@ -1,8 +1,8 @@
-use Rattle.std.proofs.Common.{Option, inr, refl, subst}
+use Rattle.std.proofs.Common.{Option, inr, rules, refl, subst}
 use Rattle.postscript_drawing.specs.Drawn.{HasOwn}
 use Rattle.postscript_drawing.specs.Spending.{PaysOwn}
 use Rattle.postscript_drawing.specs.declared.accent.Accent.{Accent}
-use Rattle.postscript_drawing.proofs.GlyphSpending.{nothing-spent}
+use Rattle.postscript_drawing.proofs.GlyphSpending.{code-spends, not-too-long, nothing-spent}
 use Rattle.postscript_drawing.proofs.Owns.{component-front, component-undrawn, draws-component, is-nested, on-err, own-whole, passed-on}
 use Rattle.postscript_drawing.proofs.glyph.draw_component.Goals as goal
 
@@ -56,3 +56,18 @@ pub returns-in-None-clause-paid : goal.returns-in-None-clause-paid
 returns-in-None-clause-paid g c =
     let P : Option Accent → Type 0 = λ accent. PaysOwn c.args.font.now c.in_ok-glyph.glyph accent c.args.limit.now c.draw_own.new.limit in
     (c.in_ok-glyph.glyph, c.in_ok-glyph.ensures.found, subst P c.in-None.is c.in_ok-own.ensures.paid)
+
+pub returns-in_err-own-clause-suffices : goal.returns-in_err-own-clause-suffices
+returns-in_err-own-clause-suffices g c = λ suffices.
+    not-too-long c.from_residual-in_err-own.result c.in_err-own.field-0.0 c.draw_own.result (search rules) c.from_residual-in_err-own.ensures.1
+    (c.draw_own.ensures.suffices (suffices c.in_ok-glyph.glyph c.in_ok-glyph.ensures.found))
+
+pub returns-in-None-clause-named : goal.returns-in-None-clause-named
+returns-in-None-clause-named g c =
+    code-spends c.args.font.now c.args.code c.in_ok-glyph.glyph c.args.limit.now c.draw_own.new.limit c.in_ok-glyph.ensures.found
+    c.draw_own.ensures.named
+
+pub returns-in-Some-clause-named : goal.returns-in-Some-clause-named
+returns-in-Some-clause-named g c =
+    code-spends c.args.font.now c.args.code c.in_ok-glyph.glyph c.args.limit.now c.draw_own.new.limit c.in_ok-glyph.ensures.found
+    c.draw_own.ensures.named

@@ -5,7 +5,7 @@ use Rattle.postscript_drawing.specs.DrawnProgram.{IsWanting}
 use Rattle.postscript_drawing.specs.Drawn.{DrawsComponent, Takes}
 use Rattle.postscript_drawing.specs.Given.{GivesComponent}
 use Rattle.postscript_drawing.specs.Refused.{IsComponentRefused}
-use Rattle.postscript_drawing.proofs.GlyphSpending.{pays-both, spends-both, spends-more}
+use Rattle.postscript_drawing.proofs.GlyphSpending.{pays-both, spends-both, spends-more, suffices-behind}
 use Rattle.postscript_drawing.proofs.Owns.{accent-front, accent-refused, draws-both, on-err}
 use Rattle.postscript_drawing.proofs.glyph.draw_components.Goals as goal
 
@@ -57,3 +57,9 @@ pub returns-clause-paid : goal.returns-clause-paid
 returns-clause-paid g c =
     pays-both c.args.font.now c.args.accent.now c.args.limit.now c.draw_component.new.limit c.draw_component-2.new.limit
     c.draw_component-2.result c.in_ok-draw_component.ensures.paid c.draw_component-2.ensures.paid
+
+pub returns-clause-suffices : goal.returns-clause-suffices
+returns-clause-suffices g c = λ suffices.
+    c.draw_component-2.ensures.suffices
+    (suffices-behind c.args.font.now c.args.accent.now c.args.limit.now c.draw_component.new.limit suffices
+    c.in_ok-draw_component.ensures.paid)

@@ -1,8 +1,8 @@
-use Rattle.std.proofs.Common.{◌++◌, Option, inl, inr, subst}
+use Rattle.std.proofs.Common.{◌++◌, Option, inl, inr, rules, subst}
 use Rattle.postscript_drawing.specs.Drawn.{HasOwn, zero_point}
 use Rattle.postscript_drawing.specs.Spending.{PaysOwn}
 use Rattle.postscript_drawing.specs.declared.accent.Accent.{Accent}
-use Rattle.postscript_drawing.proofs.GlyphSpending.{spends-both, spends-more}
+use Rattle.postscript_drawing.proofs.GlyphSpending.{not-too-long, spends-both, spends-more, suffices-then}
 use Rattle.postscript_drawing.proofs.Owns.{accented-front, components-refused, draws-accented, draws-plain, on-err, passed-on}
 use Rattle.postscript_outline.proofs.Receiving.{received-both}
 use Rattle.postscript_drawing.proofs.glyph.draw_glyph.Goals as goal
@@ -80,3 +80,22 @@ returns-in_ok-draw_components-in-Some-clause-paid g c =
       subst P c.in-Some.is c.in_ok-width.ensures.paid,
       c.in_ok-draw_components-in-Some.ensures.paid,
     )
+
+pub returns-in_err-draw_components-in-Some-clause-named : goal.returns-in_err-draw_components-in-Some-clause-named
+returns-in_err-draw_components-in-Some-clause-named g c =
+    let P : Option Accent → Type 0 = λ accent. PaysOwn c.args.font.now c.args.glyph accent c.args.limit.now c.draw_own.new.limit in
+    inr (c.in-Some.accent, c.draw_own.new.limit, subst P c.in-Some.is c.in_ok-width.ensures.paid, c.draw_components.ensures.named)
+
+pub returns-in_ok-draw_components-in-Some-clause-named : goal.returns-in_ok-draw_components-in-Some-clause-named
+returns-in_ok-draw_components-in-Some-clause-named g c =
+    let P : Option Accent → Type 0 = λ accent. PaysOwn c.args.font.now c.args.glyph accent c.args.limit.now c.draw_own.new.limit in
+    inr (c.in-Some.accent, c.draw_own.new.limit, subst P c.in-Some.is c.in_ok-width.ensures.paid, c.draw_components.ensures.named)
+
+pub returns-in_err-draw_components-in-Some-clause-suffices : goal.returns-in_err-draw_components-in-Some-clause-suffices
+returns-in_err-draw_components-in-Some-clause-suffices g c = λ suffices.
+    let P : Option Accent → Type 0 = λ accent. PaysOwn c.args.font.now c.args.glyph accent c.args.limit.now c.draw_own.new.limit in
+    let pays = subst P c.in-Some.is c.in_ok-width.ensures.paid in
+    not-too-long c.from_residual-in_err-draw_components-in-Some.result c.in_err-draw_components-in-Some.field-0.0 c.draw_components.result
+    (search rules) c.from_residual-in_err-draw_components-in-Some.ensures.1
+    (c.draw_components.ensures.suffices (suffices-then c.args.font.now c.args.glyph c.in-Some.accent c.args.limit.now
+    c.draw_own.new.limit suffices pays))

@@ -1,3 +1,4 @@
+use Rattle.std.proofs.Common.{inr}
 use Rattle.postscript_drawing.specs.Accents.{run_by}
 use Rattle.postscript_drawing.proofs.GlyphSpending.{nothing-spent, pays-own, spends-one}
 use Rattle.postscript_drawing.proofs.Owns.{has-run, own-front, own-so, refused-so}
@@ -36,3 +37,13 @@ returns-in-Some-clause-paid g c =
     let has = has-run c.args.font.now c.args.glyph c.in-Some.found c.in-Some.ensures.found c.in-Some.ensures.subroutines in
     pays-own c.args.font.now c.args.glyph c.in-Some.found.part.now
     (run_by c.in-Some.found) c.args.limit.now c.draw_run.new.limit c.draw_run.result has c.draw_run.ensures.told c.draw_run.ensures.paid
+
+pub returns-in-Some-clause-named : goal.returns-in-Some-clause-named
+returns-in-Some-clause-named g c =
+    let has = has-run c.args.font.now c.args.glyph c.in-Some.found c.in-Some.ensures.found c.in-Some.ensures.subroutines in
+    inr (c.in-Some.found.part.now, run_by c.in-Some.found, has, c.draw_run.ensures.spends)
+
+pub returns-in-Some-clause-suffices : goal.returns-in-Some-clause-suffices
+returns-in-Some-clause-suffices g c = λ suffices.
+    let has = has-run c.args.font.now c.args.glyph c.in-Some.found c.in-Some.ensures.found c.in-Some.ensures.subroutines in
+    c.draw_run.ensures.suffices (suffices c.in-Some.found.part.now (run_by c.in-Some.found) has)
