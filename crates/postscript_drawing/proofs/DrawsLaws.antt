@@ -16,7 +16,7 @@ use Rattle.postscript_drawing.specs.declared.undrawn.Undrawn.{Undrawn}
 use Rattle.postscript_drawing.specs.declared.undrawn.Undrawn.TheVariants.{Overflow, Full}
 use Rattle.postscript_drawing.specs.Bends.{IsDrawnBy, IsCurveRefused}
 use Rattle.postscript_drawing.specs.Drawing.{Drawing, ◌>>=◌, begun, closed, closing, drawing, drawn, held, opening, reached}
-use Rattle.postscript_drawing.specs.Outcome.{DrawsInto, DrawsStrokes, IsFront}
+use Rattle.postscript_drawing.specs.Outcome.{AreOfFirst, DrawsInto, DrawsStrokes, IsFront}
 use Rattle.postscript_drawing.proofs.GivenLaws.{drawing-append, drawing-behind, drawing-grows, front-of, front-through, front-under, mapped, prefixed}
 
 -- a refusal that is passed on
@@ -48,6 +48,19 @@ both-drawn : (these those : List Stroke) (pen mid : Pen) (given : List Segment) 
 both-drawn these those pen mid given first =
     drawing-append these those (held pen []) ∙ ap (λ r. r >>= drawing those) first ∙ drawing-behind those (held mid given)
 
+both-first : (these those : List Stroke) (pen mid : Pen) (given more : List Segment) (r : Result (Unit {0}) Undrawn) →
+    drawing these (held pen []) ≡ Ok (held mid given) → OnErr r (AreOfFirst those (held mid []) more) →
+    OnErr r (AreOfFirst (these ++ those) (held pen []) (given ++ more))
+both-first these those pen mid given more (Ok done) is of_first = tt
+both-first these those pen mid given more (Err e) is of_first = record {
+  first = these ++ of_first.first;
+  rest = of_first.rest;
+  parts = ap (λ v. these ++ v) of_first.parts ∙ sym (append_assoc these of_first.first of_first.rest);
+  to = prefixed given of_first.to;
+  draws = both-drawn these of_first.first pen mid given is ∙ ap (mapped (prefixed given)) of_first.draws;
+  front = front-under given more of_first.to.segments of_first.front;
+}
+
 pub joined : {T : Type 0} {after : T → Segment → T → Type 0} {refuses : T → Type 0} {these those : List Stroke} {pen mid pen' : Pen}
     {old between new : T} {done : Unit {0}} {r : Result (Unit {0}) Undrawn} →
     DrawsStrokes after refuses these pen old
@@ -64,6 +77,7 @@ joined {T} {after} {refuses} {these} {those} {pen} {mid} {pen'} {old} {between} 
         front = subst (λ w. OnErr r (IfOk w (λ d. IsFront (first.given ++ next.given) d.segments))) whole
             (mapped-front first.given wanted r next.given next.draws.front);
       };
+      of_first = both-first these those pen mid first.given next.given r first.draws.exact next.of_first;
       taken = received-both after old between new first.given next.given first.taken next.taken;
       full = next.full;
     }
@@ -73,6 +87,17 @@ first-into : (these those : List Stroke) (d new : Drawing) (e : Undrawn) → Dra
     DrawsInto (drawing (these ++ those) d) (Err e) new
 first-into these those d new Full wanted = tt
 first-into these those d new Overflow wanted = drawing-append these those d ∙ ap (λ r. r >>= drawing those) wanted
+
+more-behind : (these those : List Stroke) (from : Drawing) (given : List Segment) → AreOfFirst these from given →
+    AreOfFirst (these ++ those) from given
+more-behind these those from given are = record {
+  first = are.first;
+  rest = are.rest ++ those;
+  parts = ap (λ v. v ++ those) are.parts ∙ append_assoc are.first are.rest those;
+  to = are.to;
+  draws = are.draws;
+  front = are.front;
+}
 
 pub first-refused : {T : Type 0} {after : T → Segment → T → Type 0} {refuses : T → Type 0} {these : List Stroke} (those : List Stroke)
     {pen pen' : Pen} {old new : T} {e : Undrawn} →
@@ -87,6 +112,7 @@ first-refused {T} {after} {refuses} {these} those {pen} {pen'} {old} {new} {e} d
         exact = first-into these those (held pen []) (held pen' draws.given) e draws.draws.exact;
         front = subst Fronts (sym (drawing-append these those (held pen []))) grows;
       };
+      of_first = more-behind these those (held pen []) draws.given draws.of_first;
       taken = draws.taken;
       full = draws.full;
     }
@@ -104,7 +130,7 @@ at_first = record {
   done =
       [];
   parts = refl;
-  draws = record { given = []; draws = record { exact = refl; front = tt }; taken = refl; full = tt };
+  draws = record { given = []; draws = record { exact = refl; front = tt }; of_first = tt; taken = refl; full = tt };
 }
 
 pub so_more : {T : Type 0} {after : T → Segment → T → Type 0} {refuses : T → Type 0} {all left : List Stroke} (these rest : List Stroke)
@@ -140,6 +166,10 @@ so_all {T} {after} {refuses} {all} {left} {pen} {pen'} {old} {new} none far =
 
 -- one stroke
 
+-- nothing is given
+none-first : (strokes : List Stroke) (from : Drawing) → AreOfFirst strokes from []
+none-first strokes from = record { first = []; rest = strokes; parts = refl; to = from; draws = refl; front = refl }
+
 -- it leaves the range: nothing is given
 pub overflows : {T : Type 0} {after : T → Segment → T → Type 0} {refuses : T → Type 0} (s : Stroke) (pen pen' : Pen) {old new : T} →
     drawn s (held pen []) ≡ Err overflow → new ≡ old → DrawsStrokes after refuses (s ∷ []) pen old (Err Overflow) pen' new
@@ -149,6 +179,7 @@ overflows s pen pen' out same = record {
     exact = ap (λ r. r >>= drawing []) out;
     front = by-refusal (drawing (s ∷ []) (held pen [])) (ap (λ r. r >>= drawing []) out);
   };
+  of_first = none-first (s ∷ []) (held pen []);
   taken = same;
   full = tt;
 }
@@ -165,7 +196,13 @@ any-front (Err e) = tt
 pub full_at_once : {T : Type 0} {after : T → Segment → T → Type 0} {refuses : T → Type 0} (s : Stroke) (pen pen' : Pen) {old new : T} →
     new ≡ old → refuses new → DrawsStrokes after refuses (s ∷ []) pen old (Err Full) pen' new
 full_at_once s pen pen' same full =
-    record { given = []; draws = record { exact = tt; front = any-front (drawing (s ∷ []) (held pen [])) }; taken = same; full = full }
+    record {
+      given = [];
+      draws = record { exact = tt; front = any-front (drawing (s ∷ []) (held pen [])) };
+      of_first = none-first (s ∷ []) (held pen []);
+      taken = same;
+      full = full;
+    }
 
 -- the contour is ended, or begun, and the segment itself is not taken
 pub full_behind : {T : Type 0} {after : T → Segment → T → Type 0} {refuses : T → Type 0} (s : Stroke) (pen pen' : Pen)
@@ -178,6 +215,14 @@ full_behind {T} {after} {refuses} s pen pen' first segment d {old} {mid} {new} i
     exact = tt;
     front = subst (λ (w : Result Drawing Refusal). IfOk w (λ e. IsFront first e.segments)) (sym (ap (λ r. r >>= drawing []) is))
         (subst (IsFront first) (sym all) (front-of first (segment ∷ [])));
+  };
+  of_first = record {
+    first = s ∷ [];
+    rest = [];
+    parts = refl;
+    to = d;
+    draws = ap (λ r. r >>= drawing []) is;
+    front = subst (IsFront first) (sym all) (front-of first (segment ∷ []));
   };
   taken = subst (Receives after old first) (sym same) begun;
   full = full;
@@ -192,6 +237,7 @@ pub stroke_drawn : {T : Type 0} {after : T → Segment → T → Type 0} {refuse
 stroke_drawn {T} {after} {refuses} s pen pen' first segment d {done} {old} {new} mid is all begun same = record {
   given = first ++ segment ∷ [];
   draws = record { exact = ap (λ r. r >>= drawing []) is ∙ ap Ok all; front = tt };
+  of_first = tt;
   taken = received-more after old mid new first segment begun same;
   full = tt;
 }

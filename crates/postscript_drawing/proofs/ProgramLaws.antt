@@ -16,14 +16,14 @@ use Rattle.postscript_drawing.specs.declared.pen.Pen.{Pen}
 use Rattle.postscript_drawing.specs.declared.stroke.Stroke.{Stroke}
 use Rattle.postscript_drawing.specs.declared.undrawn.Undrawn.{Undrawn}
 use Rattle.postscript_drawing.specs.declared.undrawn.Undrawn.TheVariants.{Overflow, Full}
-use Rattle.postscript_drawing.specs.DrawnProgram.{DrawsFront, IsUndrawn, IsWanting}
+use Rattle.postscript_drawing.specs.DrawnProgram.{DrawsFront, DrawsOfFirst, IsUndrawn, IsWanting, all_strokes, so_far}
 use Rattle.postscript_drawing.specs.Drawing.{Drawing, ◌>>=◌, blank_at, closed, closing, drawing, held}
 use Rattle.postscript_drawing.specs.Outcome.{DrawsStrokes, IsFront}
 use Rattle.postscript_drawing.specs.Operators.{strokes}
 use Rattle.postscript_drawing.specs.Outline.{drawing_of, finished, outlined_at}
 use Rattle.postscript_drawing.specs.Undrawn.{error_of}
 use Rattle.postscript_drawing.proofs.DrawsLaws.{SoFar, so_all}
-use Rattle.postscript_drawing.proofs.GivenLaws.{drawing-append, drawing-grows, front-of, front-through}
+use Rattle.postscript_drawing.proofs.GivenLaws.{drawing-append, drawing-grows, front-of, front-through, front-trans}
 use Rattle.postscript_type2.specs.declared.program.within.Within.{Within}
 use Rattle.postscript_type2.specs.declared.program.within.Within.TheVariants.{End as AtEnd}
 use Rattle.postscript_type2.specs.Program.Programs.{IsLastWidth, Pending}
@@ -36,8 +36,7 @@ pen_at origin = record { at = origin; is_open = false }
 
 -- the strokes of all operations
 abbrev pub strokes_of : List Answer → List Stroke
-strokes_of [] = []
-strokes_of (answer ∷ answers) = strokes answer.operator answer.operands ++ strokes_of answers
+strokes_of answers = all_strokes answers
 
 then-all : (r : Result Drawing Refusal) (all next : Drawing → Result Drawing Refusal) → ((d : Drawing) → all d ≡ next d) →
     r >>= all ≡ r >>= next
@@ -127,6 +126,44 @@ pub front-refused : {T : Type 0} {after : T → Segment → T → Type 0} {refus
     DrawsFront after origin old new answers
 front-refused {T} {after} {refuses} {origin} answers draws =
     record { given = draws.given; front = front-of-all draws.given origin answers draws.draws.front; taken = draws.taken }
+
+-- a front of what the first strokes draw, also where others behind them leave the range
+
+front-so : (rest : List Stroke) (d : Drawing) (given : List Segment) → IsFront given d.segments → IsFront given (so_far rest d)
+front-so [] d given front = front-trans given d.segments (closed d).segments front (closed-grows d.place d.is_open d.segments)
+front-so (s ∷ rest) d given front = front
+
+pub first-so-far : {T : Type 0} {after : T → Segment → T → Type 0} {refuses : T → Type 0} {origin : Point} {old now new : T} {pen : Pen}
+    (answers : List Answer) {left : List Stroke} → SoFar after refuses (strokes_of answers) left (pen_at origin) old pen now → new ≡ now →
+    DrawsOfFirst after origin old new answers
+first-so-far {T} {after} {refuses} {origin} {old} {now} {new} {pen} answers {left} far same =
+    let given = far.draws.given in
+    record {
+      first = far.done;
+      rest = left;
+      parts = far.parts;
+      to = held pen given;
+      draws = far.draws.draws.exact;
+      given = given;
+      front = front-so left (held pen given) given (subst (IsFront given) (append-nil given) (front-of given []));
+      taken = subst (Receives after old given) (sym same) far.draws.taken;
+    }
+
+pub first-of-refused : {T : Type 0} {after : T → Segment → T → Type 0} {refuses : T → Type 0} {origin : Point} {old new : T} {pen : Pen}
+    {e : Undrawn} (answers : List Answer) → DrawsStrokes after refuses (strokes_of answers) (pen_at origin) old (Err e) pen new →
+    DrawsOfFirst after origin old new answers
+first-of-refused {T} {after} {refuses} {origin} answers draws =
+    let are = draws.of_first in
+    record {
+      first = are.first;
+      rest = are.rest;
+      parts = are.parts;
+      to = are.to;
+      draws = are.draws;
+      given = draws.given;
+      front = front-so are.rest are.to draws.given are.front;
+      taken = draws.taken;
+    }
 
 -- why a program is not drawn
 

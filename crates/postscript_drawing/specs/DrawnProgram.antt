@@ -1,10 +1,13 @@
 -- What a program that is drawn into a sink comes to.
-use Rattle.std.specs.Prelude.{◌≡◌, ◌⊎◌, ℕ, ℤ, List, [], Option, Result, Ok, Err, IfOk}
+use Rattle.std.specs.Prelude.{◌≡◌, ◌⊎◌, ℕ, ℤ, List, [], ◌∷◌, ◌++◌, Option, Result, Ok, Err, IfOk}
 use Rattle.postscript_base.specs.RefusalOf.{refusal_of}
 use Rattle.postscript_base.specs.declared.error.Error.{Error as Cause}
 use Rattle.postscript_base.specs.declared.error.Error.TheVariants as causes
 use Rattle.postscript_drawing.specs.declared.error.Error.{Error}
 use Rattle.postscript_drawing.specs.declared.error.Error.TheVariants.{Font, Full, TooLong}
+use Rattle.postscript_drawing.specs.declared.stroke.Stroke.{Stroke}
+use Rattle.postscript_drawing.specs.Drawing.{Drawing, blank_at, closed, drawing}
+use Rattle.postscript_drawing.specs.Operators.{strokes}
 use Rattle.postscript_drawing.specs.Outcome.{IsFront}
 use Rattle.postscript_drawing.specs.Outline.{outlined_at}
 use Rattle.postscript_outline.specs.declared.point.Point.{Point}
@@ -27,6 +30,27 @@ pub record DrawsProgram {T : Type 0} (after : T → Segment → T → Type 0) (o
 pub record DrawsFront {T : Type 0} (after : T → Segment → T → Type 0) (origin : Point) (old new : T) (answers : List Answer) : Type 0 where
   pub given : List Segment
   pub front : IfOk (outlined_at origin answers UsedUp) (λ segments. IsFront given segments)
+  pub taken : Receives after old given new
+
+-- the strokes of operations, one after another
+abbrev pub all_strokes : List Answer → List Stroke
+all_strokes [] = []
+all_strokes (answer ∷ answers) = strokes answer.operator answer.operands ++ all_strokes answers
+
+-- the segments of a drawing behind which these strokes are left: where none are, the contour is ended too
+abbrev pub so_far : (rest : List Stroke) → Drawing → List Segment
+so_far [] d = (closed d).segments
+so_far (stroke ∷ rest) d = d.segments
+
+-- The sink has taken a front of what the first of the strokes draw, which leave no range, whatever those behind them do.
+pub record DrawsOfFirst {T : Type 0} (after : T → Segment → T → Type 0) (origin : Point) (old new : T) (answers : List Answer) : Type 0 where
+  pub first : List Stroke
+  pub rest : List Stroke
+  pub parts : all_strokes answers ≡ first ++ rest
+  pub to : Drawing
+  pub draws : drawing first (blank_at origin) ≡ Ok to
+  pub given : List Segment
+  pub front : IsFront given (so_far rest to)
   pub taken : Receives after old given new
 
 -- Memory runs out, the sink takes no more, or nothing is left of the limit.

@@ -1,5 +1,5 @@
 -- What comes of a drawing: it is what is to be drawn, or is refused as that is.
-use Rattle.std.specs.Prelude.{◌≡◌, ◌⊎◌, List, [], length, take, Result, Ok, Err, IfOk, OnErr}
+use Rattle.std.specs.Prelude.{◌≡◌, ◌⊎◌, List, [], ◌++◌, length, take, Result, Ok, Err, IfOk, OnErr}
 use Rattle.postscript_base.specs.declared.error.Error.{Error}
 use Rattle.postscript_base.specs.declared.error.Error.TheVariants as errors
 use Rattle.postscript_base.specs.Refusal.{Refusal, overflow}
@@ -42,10 +42,20 @@ abbrev pub IsFullWhere : {T : Type 0} (refuses : T → Type 0) → Result (Unit 
 IsFullWhere refuses (Err Full) new = refuses new
 IsFullWhere refuses answered new = Unit {0}
 
+-- Segments are a front of what the first of these strokes draw, which leave no range, whatever those behind them do.
+pub record AreOfFirst (strokes : List Stroke) (from : Drawing) (given : List Segment) : Type 0 where
+  pub first : List Stroke
+  pub rest : List Stroke
+  pub parts : strokes ≡ first ++ rest
+  pub to : Drawing
+  pub draws : drawing first from ≡ Ok to
+  pub front : IsFront given to.segments
+
 -- A pen draws strokes from where it stands, and a sink has taken the segments, one after another.
 pub record DrawsStrokes {T : Type 0} (after : T → Segment → T → Type 0) (refuses : T → Type 0) (strokes : List Stroke) (pen : Pen) (old : T)
     (answered : Result (Unit {0}) Undrawn) (pen' : Pen) (new : T) : Type 0 where
   pub given : List Segment
   pub draws : DrawsTo (drawing strokes (held pen [])) answered (held pen' given)
+  pub of_first : OnErr answered (AreOfFirst strokes (held pen []) given)
   pub taken : Receives after old given new
   pub full : IsFullWhere refuses answered new

@@ -39,8 +39,7 @@ impl Pen {
     /// Operands that are too few for another stroke draw nothing. No operation of a run has such operands
     /// (`laws::runs_fit`).
     ///
-    /// On an error the sink has received the segments before it. No clause states this if a coordinate leaves the
-    /// range.
+    /// On an error the sink has received some first segments, and none of a stroke that leaves the range.
     ///
     /// # Errors
     ///
@@ -53,7 +52,7 @@ impl Pen {
         operands: &[Operand],
         sink: &mut S,
     ) -> Stroked
-        // The sink receives segments of the strokes, and on success all of them (`DrawsStrokes`).
+        // The sink receives first segments of the strokes, and on success all (`DrawsStrokes`).
         ensures { DrawsStrokes S.after S.refuses (the_strokes operator operands.now) self.old (S.state sink.old) result self.new
             (S.state sink.new) }
     {

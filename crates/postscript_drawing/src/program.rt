@@ -1,6 +1,6 @@
 //! Drawing of programs into sinks.
 ghost use Rattle.std.specs.Prelude.{◌≡◌, ◌≢◌, ◌<◌, Err, IfOk, IfErr, OnErr};
-ghost use Rattle.postscript_drawing.specs.DrawnProgram.{DrawsFront, DrawsProgram, IsProgramRefused, IsSpent};
+ghost use Rattle.postscript_drawing.specs.DrawnProgram.{DrawsFront, DrawsOfFirst, DrawsProgram, IsProgramRefused, IsSpent};
 ghost use Rattle.postscript_drawing.specs.declared.error.Error.TheVariants as errors;
 ghost use Rattle.postscript_type2.specs.Program.Limit.{cost};
 ghost use Rattle.postscript_type2.specs.Program.Programs.{ended_over};
@@ -21,7 +21,7 @@ pub const LIMIT: u64 = 20_000_000;
 /// The limit bounds the time, and `limit` is set to the units left. `Program::step_within` describes how the run spends
 /// it. A run that costs less than the limit is never stopped.
 ///
-/// On an error the sink has received the segments before it. No clause states this if a coordinate leaves the range.
+/// On an error the sink has received some first segments of the run, and none of a stroke that leaves the range.
 ///
 /// # Errors
 ///
@@ -40,6 +40,8 @@ pub fn draw_program<S: Sink>(
     ensures why { IfErr result (λ e. IsProgramRefused origin program.old limit.new e) }
     // On an error, if all coordinates stay in the range, the sink has received some first segments.
     ensures front { OnErr result (DrawsFront S.after origin (S.state sink.old) (S.state sink.new) program.old.answers) }
+    // On an error it has received some first segments, and none of a stroke that leaves the range.
+    ensures given { OnErr result (DrawsOfFirst S.after origin (S.state sink.old) (S.state sink.new) program.old.answers) }
     // On `Full` the sink is in a state in which it may be full (`refuses`).
     ensures full { result ≡ Err errors.Full → S.refuses (S.state sink.new) }
     // On success the program is at its end, with the operands that `endchar` took.
