@@ -19,14 +19,15 @@ use Rattle.postscript_view.specs.declared.font.Glyph.{Glyph}
 use Rattle.postscript_drawing.specs.Accents.{IsAccent, IsTold, run_by}
 use Rattle.postscript_drawing.specs.Components.{IsComponent}
 use Rattle.postscript_base.specs.Refusal.{Refusal}
-use Rattle.postscript_drawing.specs.DrawnProgram.{DrawsFront, IsUndrawn, IsWanting}
-use Rattle.postscript_drawing.specs.Drawing.{Drawing, ◌>>=◌, blank_at, closed}
+use Rattle.postscript_drawing.specs.DrawnProgram.{DrawsFront, DrawsOfFirst, IsUndrawn, IsWanting}
+use Rattle.postscript_drawing.specs.Drawing.{Drawing, ◌>>=◌, blank_at, closed, drawing}
 use Rattle.postscript_drawing.specs.Outcome.{IsFront}
 use Rattle.postscript_drawing.specs.Given.{GivesComponent, GivesComponents, GivesGlyph, GivesOwn, GivesOwnFront}
 use Rattle.postscript_drawing.specs.Outline.{drawing_of, finished, outlined_at}
 use Rattle.postscript_drawing.specs.Drawn.{DrawsAt, DrawsComponent, DrawsComponents, HasOwn, IsDrawnAs, Takes, zero_point}
 use Rattle.postscript_drawing.specs.Refused.{AreRefused, IsAccented, IsComponentRefused, IsGlyphRefused, IsNested, IsUndrawnGlyph, IsUnread}
 use Rattle.postscript_drawing.proofs.GivenLaws.{front-of}
+use Rattle.postscript_drawing.proofs.ProgramLaws.{outlined-so, strokes_of}
 use Rattle.postscript_drawing.specs.declared.accent.Accent.{Accent}
 use Rattle.postscript_drawing.specs.declared.glyph.Own.{Own}
 use Rattle.postscript_drawing.specs.declared.error.Error.{Error}
@@ -193,12 +194,46 @@ whole-front {T} {after} {old} {new} origin answers end segments drawn taken =
     by-drawing (Ok d) (Finished taken width) is =
         let same : (closed d).segments ≡ segments = cc in subst (IsFront segments) (append-nil segments ∙ sym same) (front-of segments [])
 
+-- the drawing whose contour is ended there
+behind-end : (r : Result Drawing Refusal) (end : End) (segments : List Segment) → r >>= finished end ≡ Ok segments →
+    (to : Drawing) × (r ≡ Ok to) × (segments ≡ (closed to).segments)
+behind-end (Err e) end segments is = absurd (refused is)
+  where
+    refused : Err e ≡ Ok segments → ⊥
+    refused is = cc
+behind-end (Ok d) (Fault e) segments is = absurd (refused is)
+  where
+    refused : Err e ≡ Ok segments → ⊥
+    refused is = cc
+behind-end (Ok d) UsedUp segments is = (d, refl, cc)
+behind-end (Ok d) (Returned st) segments is = (d, refl, cc)
+behind-end (Ok d) (Finished taken width) segments is = (d, refl, cc)
+
+-- all strokes are among the first that leave no range
+pub whole-first : {T : Type 0} {after : T → Segment → T → Type 0} {old new : T} (origin : Point) (answers : List Answer) (end : End)
+    (segments : List Segment) → outlined_at origin answers end ≡ Ok segments → Receives after old segments new →
+    DrawsOfFirst after origin old new answers
+whole-first {T} {after} {old} {new} origin answers end segments drawn taken =
+    let all = strokes_of answers in
+    let to = behind-end (drawing all (blank_at origin)) end segments (sym (outlined-so origin answers end) ∙ drawn) in
+    record {
+      first = all;
+      rest = [];
+      parts = sym (append-nil all);
+      to = to.0;
+      draws = to.1;
+      given = segments;
+      front = subst (IsFront segments) (append-nil segments ∙ to.2) (front-of segments []);
+      taken = taken;
+    }
+
 pub own-front : {A : Type 0} {T : Type 0} (after : T → Segment → T → Type 0) (old new : T) (r : Result A Error) (font : FontView) (i : ℕ)
     (glyph : Glyph) (origin : Point) → HasRun font i glyph.part.now (run_by glyph) →
-    OnErr r (DrawsFront after origin old new (run_by glyph).answers) → OnErr r (GivesOwn after origin old new font i)
-own-front after old new (Ok own) font i glyph origin has front = tt
-own-front after old new (Err e) font i glyph origin has front =
-    inr (record { part = glyph.part.now; run = run_by glyph; has = has; front = front })
+    OnErr r (DrawsFront after origin old new (run_by glyph).answers) → OnErr r (DrawsOfFirst after origin old new (run_by glyph).answers) →
+    OnErr r (GivesOwn after origin old new font i)
+own-front after old new (Ok own) font i glyph origin has front of_first = tt
+own-front after old new (Err e) font i glyph origin has front of_first =
+    inr (record { part = glyph.part.now; run = run_by glyph; has = has; front = front; of_first = of_first })
 
 -- of a glyph that is drawn by itself
 pub own-whole : {T : Type 0} {after : T → Segment → T → Type 0} {old new : T} (font : FontView) (glyph : ℕ) (origin : Point)
@@ -211,6 +246,7 @@ own-whole font glyph origin segments width accent own taken =
       run = own.run;
       has = own.has;
       front = whole-front origin own.run.answers own.run.end segments own.draws taken;
+      of_first = whole-first origin own.run.answers own.run.end segments own.draws taken;
     }
 
 pub component-front : {T : Type 0} {after : T → Segment → T → Type 0} {old new : T} (font : FontView) (code glyph : ℕ) (origin : Point) →

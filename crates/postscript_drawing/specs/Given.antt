@@ -10,16 +10,17 @@ use Rattle.postscript_view.specs.declared.private_dict.PrivateDict.{PrivateDict}
 use Rattle.postscript_drawing.specs.Accents.{IsAccentOf}
 use Rattle.postscript_drawing.specs.Components.{IsComponent}
 use Rattle.postscript_drawing.specs.Drawn.{DrawsAt, DrawsComponent, Takes, zero_point}
-use Rattle.postscript_drawing.specs.DrawnProgram.{DrawsFront}
+use Rattle.postscript_drawing.specs.DrawnProgram.{DrawsFront, DrawsOfFirst}
 use Rattle.postscript_drawing.specs.declared.accent.Accent.{Accent}
 
--- A front of what the operations of a glyph's own run draw.
+-- A front of what the operations of a glyph's own run draw, and of what the first of their strokes draw, which leave no range.
 pub record GivesOwnFront {T : Type 0} (after : T → Segment → T → Type 0) (origin : Point) (old new : T) (font : FontView)
     (glyph : ℕ) : Type 0 where
   pub part : PrivateDict
   pub run : Run
   pub has : HasRun font glyph part run
   pub front : DrawsFront after origin old new run.answers
+  pub of_first : DrawsOfFirst after origin old new run.answers
 
 -- of a glyph by itself: nothing, or such a front
 abbrev pub GivesOwn : {T : Type 0} (after : T → Segment → T → Type 0) (origin : Point) (old new : T) → FontView → (glyph : ℕ) → Type 0

@@ -2,7 +2,7 @@
 ghost use Rattle.std.specs.Prelude.{◌≡◌, ◌≢◌, ◌⊎◌, ◌<◌, Err, List, [], IfOk, IfErr, OnErr, OnOk};
 ghost use Rattle.postscript_base.specs.declared.error.Error.TheVariants as causes;
 ghost use Rattle.postscript_drawing.specs.Accents.{IsTold, run_by};
-ghost use Rattle.postscript_drawing.specs.DrawnProgram.{DrawsFront, IsUndrawn, IsWanting};
+ghost use Rattle.postscript_drawing.specs.DrawnProgram.{DrawsFront, DrawsOfFirst, IsUndrawn, IsWanting};
 ghost use Rattle.postscript_drawing.specs.Drawn.{DrawsAt, DrawsComponent, DrawsComponents, DrawsGlyph, HasOwn, IsDrawnAs, Takes};
 ghost use Rattle.postscript_drawing.specs.Given.{GivesComponent, GivesComponents, GivesGlyph, GivesOwn};
 ghost use Rattle.postscript_drawing.specs.Refused.{AreRefused, IsComponentRefused, IsGlyphRefused, IsUndrawnGlyph, IsUnread};
@@ -86,7 +86,7 @@ fn outlined(alloc: Global, font: &FontView<'_>, glyph: usize, limit: &mut u64) -
 /// than the limit, the error is never `TooLong`.
 ///
 /// On an error the sink has received some first segments: none, some of the glyph's own run, or all of these and some
-/// of its components (`specs/Given.antt`). No clause states this if a coordinate leaves the range.
+/// of its components (`specs/Given.antt`). It has received none of a stroke that leaves the range.
 ///
 /// # Errors
 ///
@@ -108,7 +108,7 @@ pub fn draw_glyph<S: Sink>(
     ensures drawn { IfOk result (λ width. DrawsGlyph S.after (S.state sink.old) (S.state sink.new) font.now glyph width) }
     // The error gives a cause that holds (`IsUndrawnGlyph`, specs/Refused.antt).
     ensures why { IfErr result (λ e. IsUndrawnGlyph font.now glyph limit.new e) }
-    // On an error, if all coordinates stay in the range, the sink has received some first segments.
+    // On an error the sink has received some first segments, and none of a stroke out of range.
     ensures front { OnErr result (GivesGlyph S.after (S.state sink.old) (S.state sink.new) font.now glyph) }
     // On `Full` the sink is in a state in which it may be full (`refuses`).
     ensures full { result ≡ Err errors.Full → S.refuses (S.state sink.new) }
@@ -191,6 +191,7 @@ fn draw_run<S: Sink>(
     ensures why { IfErr result (λ e. IsWanting limit.new e ⊎ IsUndrawn origin e (run_by glyph.now).answers (run_by glyph.now).end
         ⊎ IsUnread e (run_by glyph.now)) }
     ensures front { OnErr result (DrawsFront S.after origin (S.state sink.old) (S.state sink.new) (run_by glyph.now).answers) }
+    ensures given { OnErr result (DrawsOfFirst S.after origin (S.state sink.old) (S.state sink.new) (run_by glyph.now).answers) }
     ensures full { result ≡ Err errors.Full → S.refuses (S.state sink.new) }
 {
     runs_end_so();
@@ -225,7 +226,7 @@ pub fn draw_components<S: Sink>(
     ensures suffices { SufficesForComponents font.now accent.now limit.old → result ≢ Err errors.TooLong }
     // The error gives a cause that holds (`IsWanting`, or `AreRefused` in specs/Refused.antt).
     ensures why { IfErr result (λ e. IsWanting limit.new e ⊎ AreRefused font.now accent.now e) }
-    // On an error, if all coordinates stay in the range, the sink has received some first segments.
+    // On an error the sink has received some first segments, and none of a stroke out of range.
     ensures front { OnErr result (GivesComponents S.after (S.state sink.old) (S.state sink.new) font.now accent.now) }
     // On `Full` the sink is in a state in which it may be full (`refuses`).
     ensures full { result ≡ Err errors.Full → S.refuses (S.state sink.new) }

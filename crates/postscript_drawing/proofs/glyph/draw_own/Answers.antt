@@ -30,7 +30,7 @@ returns-in-Some-clause-front g c =
     let has = has-run c.args.font.now c.args.glyph c.in-Some.found c.in-Some.ensures.found c.in-Some.ensures.subroutines in
     own-front g.S.Sink.after (g.S.Sink.state c.args.sink.now)
     (g.S.Sink.state c.draw_run.new.sink) c.draw_run.result c.args.font.now c.args.glyph c.in-Some.found c.args.origin has
-    c.draw_run.ensures.front
+    c.draw_run.ensures.front c.draw_run.ensures.given
 
 pub returns-in-Some-clause-paid : goal.returns-in-Some-clause-paid
 returns-in-Some-clause-paid g c =

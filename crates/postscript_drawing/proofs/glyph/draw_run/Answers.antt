@@ -4,7 +4,7 @@ use Rattle.postscript_type2.specs.Program.Programs.{told_at_end}
 use Rattle.postscript_type2.specs.Program.Routines.{lent}
 use Rattle.postscript_type2.specs.Program.Runs.{taken_by}
 use Rattle.postscript_drawing.specs.Accents.{HasNoCodes, run_by}
-use Rattle.postscript_drawing.proofs.Owns.{on-err, passed-on, told-so, whole-front}
+use Rattle.postscript_drawing.proofs.Owns.{on-err, passed-on, told-so, whole-first, whole-front}
 use Rattle.postscript_drawing.proofs.glyph.draw_run.Goals as goal
 
 pub returns-in_err-accent-clause-why : goal.returns-in_err-accent-clause-why
@@ -28,3 +28,9 @@ returns-in_err-accent-clause-front g c =
     let run = run_by c.args.glyph.now in
     let drawn = c.in_ok-width.ensures.drawn in
     on-err c.from_residual-in_err-accent.result (whole-front c.args.origin run.answers run.end drawn.segments (search rules) drawn.taken)
+
+pub returns-in_err-accent-clause-given : goal.returns-in_err-accent-clause-given
+returns-in_err-accent-clause-given g c =
+    let run = run_by c.args.glyph.now in
+    let drawn = c.in_ok-width.ensures.drawn in
+    on-err c.from_residual-in_err-accent.result (whole-first c.args.origin run.answers run.end drawn.segments (search rules) drawn.taken)
