@@ -152,12 +152,12 @@ draws-both after old middle new (Ok done) font accent base rest = (
 draws-both after old middle new (Err e) font accent base rest = tt
 
 -- the accent as a component is refused
-pub accent-refused : {A : Type 0} (left : ℕ) (r : Result A Error) (font : FontView) (accent : Accent) →
-    IfErr r (λ e. IsWanting left e ⊎ IsComponentRefused font accent.accent (point accent.dx accent.dy) e) → IfErr r
+pub accent-refused : {A : Type 0} (left : ℕ) (r : Result A Error) (font : FontView) (accent : Accent) (base : List Segment) →
+    DrawsComponent font accent.base zero_point base → IfErr r (λ e. IsWanting left e ⊎ IsComponentRefused font accent.accent (point accent.dx accent.dy) e) → IfErr r
     (λ e. IsWanting left e ⊎ AreRefused font accent e)
-accent-refused left (Ok done) font accent why = tt
-accent-refused left (Err e) font accent (inl wanting) = inl wanting
-accent-refused left (Err e) font accent (inr why) = inr (inr why)
+accent-refused left (Ok done) font accent base draws why = tt
+accent-refused left (Err e) font accent base draws (inl wanting) = inl wanting
+accent-refused left (Err e) font accent base draws (inr why) = inr (inr (record { base = base; draws_base = draws; refused = why }))
 
 -- the components of an accented glyph are refused
 pub components-refused : (left : ℕ) (font : FontView) (glyph : ℕ) (origin : Point) (segments : List Segment) (width : Option ℤ)

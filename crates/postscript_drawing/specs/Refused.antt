@@ -2,6 +2,7 @@
 use Rattle.std.specs.Prelude.{◌≡◌, ◌⊎◌, ℕ, List}
 use Rattle.postscript_outline.specs.Points.{point}
 use Rattle.postscript_outline.specs.declared.point.Point.{Point}
+use Rattle.postscript_outline.specs.declared.segment.Segment.{Segment}
 use Rattle.postscript_type2.specs.Program.Runs.{Run, taken_by}
 use Rattle.postscript_view.specs.Advances.{HasRun}
 use Rattle.postscript_view.specs.Glyphs.{HasGlyph}
@@ -10,7 +11,7 @@ use Rattle.postscript_view.specs.declared.private_dict.PrivateDict.{PrivateDict}
 use Rattle.postscript_drawing.specs.Accents.{HasNoCodes, IsAccentOf}
 use Rattle.postscript_drawing.specs.DrawnProgram.{IsUndrawn, IsWanting}
 use Rattle.postscript_drawing.specs.Components.{HasNoComponent, IsComponent}
-use Rattle.postscript_drawing.specs.Drawn.{zero_point}
+use Rattle.postscript_drawing.specs.Drawn.{DrawsComponent, zero_point}
 use Rattle.postscript_drawing.specs.declared.accent.Accent.{Accent}
 use Rattle.postscript_drawing.specs.declared.error.Error.{Error}
 use Rattle.postscript_drawing.specs.declared.error.Error.TheVariants.{NoCode, NoSuchGlyph, NestedAccent}
@@ -59,10 +60,15 @@ abbrev pub IsComponentRefused : FontView → (code : ℕ) → (origin : Point) �
 IsComponentRefused font code origin e = HasNoComponent e font code ⊎ IsComponentUndrawn font code origin e
     ⊎ ((e ≡ NestedAccent code) × IsNested font code)
 
--- why the components are refused: the base, or the accent
+-- The accent is refused as a component, and the base is drawn.
+pub record IsAccentRefused (font : FontView) (accent : Accent) (e : Error) : Type 0 where
+  pub base : List Segment
+  pub draws_base : DrawsComponent font accent.base zero_point base
+  pub refused : IsComponentRefused font accent.accent (point accent.dx accent.dy) e
+
+-- why the components are refused: the base, or behind it the accent
 abbrev pub AreRefused : FontView → Accent → Error → Type 0
-AreRefused font accent e = IsComponentRefused font accent.base zero_point e
-    ⊎ IsComponentRefused font accent.accent (point accent.dx accent.dy) e
+AreRefused font accent e = IsComponentRefused font accent.base zero_point e ⊎ IsAccentRefused font accent e
 
 -- Why the components of a glyph are refused.
 pub record HasComponentsRefused (font : FontView) (glyph : ℕ) (e : Error) : Type 0 where

@@ -206,7 +206,7 @@ fn draw_run<S: Sink>(
 ///
 /// # Errors
 ///
-/// - The errors of [`draw_glyph`] for the base or the accent.
+/// - The errors of [`draw_glyph`] for the base or the accent. If both have errors, it is the base's.
 pub fn draw_components<S: Sink>(
     alloc: Global,
     font: &FontView<'_>,

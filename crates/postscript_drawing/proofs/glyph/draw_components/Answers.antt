@@ -35,7 +35,8 @@ returns-clause-why g c =
     let accent = c.args.accent.now in
     let P : Point → Type 0 = λ origin. IfErr c.draw_component-2.result
     (λ e. IsWanting c.draw_component-2.new.limit e ⊎ IsComponentRefused font accent.accent origin e) in
-    accent-refused c.draw_component-2.new.limit c.draw_component-2.result font accent
+    let base = c.in_ok-draw_component.ensures.drawn in
+    accent-refused c.draw_component-2.new.limit c.draw_component-2.result font accent base.0 base.1
     (subst P c.place_of.ensures c.draw_component-2.ensures.why)
 
 pub returns-in_err-draw_component-clause-front : goal.returns-in_err-draw_component-clause-front
