@@ -64,3 +64,6 @@ returns-clause-suffices g c = λ suffices.
     c.draw_component-2.ensures.suffices
     (suffices-behind c.args.font.now c.args.accent.now c.args.limit.now c.draw_component.new.limit suffices
     c.in_ok-draw_component.ensures.paid)
+
+pub returns-in_err-draw_component-clause-named : goal.returns-in_err-draw_component-clause-named
+returns-in_err-draw_component-clause-named g c = inl c.draw_component.ensures.named
