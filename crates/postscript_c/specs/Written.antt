@@ -15,7 +15,7 @@ use Rattle.postscript_write.specs.Refusals.{IsRefusedBy, IsSubsetRefusedBy}
 use Rattle.postscript_write.specs.SameGlyphs.{GlyphsKept, KeepsGlyphs}
 use Rattle.postscript_write.specs.Sources.{AreThere, IsWritten, every}
 use Rattle.postscript_write.specs.declared.error.Error.{Error}
-use Rattle.postscript_write.specs.declared.error.Error.TheVariants.{Refused, Glyph, SeveralFonts, MissingGlyph, MissingPart, MissingName, NoGlyphs, TooLarge}
+use Rattle.postscript_write.specs.declared.error.Error.TheVariants.{Refused, Glyph, SeveralFonts, MissingGlyph, MissingPart, MissingName, LongGlyph, NoGlyphs, TooLarge}
 
 -- the number of a refusal: that of the cause where the font is refused
 abbrev pub written_code : Error → ℕ
@@ -25,6 +25,7 @@ written_code SeveralFonts = 41
 written_code (MissingGlyph glyph) = 31
 written_code (MissingPart glyph) = 42
 written_code (MissingName glyph) = 38
+written_code (LongGlyph glyph) = 45
 written_code NoGlyphs = 43
 written_code TooLarge = 45
 
@@ -37,6 +38,7 @@ refusal_of (Glyph glyph cause) = refusal glyph (pos (code cause))
 refusal_of (MissingGlyph glyph) = refusal glyph (pos 0)
 refusal_of (MissingPart glyph) = refusal glyph (pos 0)
 refusal_of (MissingName glyph) = refusal glyph (pos 0)
+refusal_of (LongGlyph glyph) = refusal glyph (pos 0)
 refusal_of (Refused cause) = refusal 0 (pos 0)
 refusal_of SeveralFonts = refusal 0 (pos 0)
 refusal_of NoGlyphs = refusal 0 (pos 0)

@@ -35,7 +35,7 @@ fn written_status(e: &Error) -> i32
         Error::MissingPart(_) => NO_PART,
         Error::MissingName(_) => NO_NAME,
         Error::NoGlyphs => NO_GLYPHS,
-        Error::TooLarge => TOO_LARGE,
+        Error::LongGlyph(_) | Error::TooLarge => TOO_LARGE,
     }
 }
 
@@ -55,9 +55,10 @@ fn refusal_of(e: &Error) -> PsfRefusal
 {
     match e {
         Error::Glyph(glyph, cause) => of(*glyph, status(cause)),
-        Error::MissingGlyph(glyph) | Error::MissingPart(glyph) | Error::MissingName(glyph) => of(
-            *glyph, 0,
-        ),
+        Error::MissingGlyph(glyph)
+        | Error::MissingPart(glyph)
+        | Error::MissingName(glyph)
+        | Error::LongGlyph(glyph) => of(*glyph, 0),
         _ => of(0, 0),
     }
 }

@@ -388,3 +388,31 @@ fn operators_written_once(rt: HostRuntime) {
         39,
     );
 }
+
+/// A font up to the CharStrings INDEX. Its global subroutine 2 runs 3,840 bytes: 16 times subroutine 1, which runs 16
+/// times the 15 bytes of subroutine 0.
+const CALLS: &str = "01000401 000101010241 00010101051c006e11 0000 0003 01 01113253 \
+    8b0c128b0c128b0c128b0c128b0c120b \
+    201d201d201d201d201d201d201d201d201d201d201d201d201d201d201d201d0b \
+    211d211d211d211d211d211d211d211d211d211d211d211d211d211d211d211d0b ";
+
+/// A charstring that calls subroutine 2 seventeen times, so that it has 65,281 bytes without calls. And one that calls it
+/// once more, so that it has 69,121, more than the 65,535 that a charstring may have.
+const CALLERS: [&str; 2] = [
+    "0001 01 0124 221d221d221d221d221d221d221d221d221d221d221d221d221d221d221d221d221d0e",
+    "0001 01 0126 221d221d221d221d221d221d221d221d221d221d221d221d221d221d221d221d221d221d0e",
+];
+
+/// A font is not written if a charstring is too long without calls.
+#[test]
+fn long_charstrings(rt: HostRuntime) {
+    let alloc = rt.alloc();
+    let bytes = joined(&rt, alloc, CALLS, CALLERS[0]);
+    let flat = flat_font(alloc, bytes.as_slice()).expect(&rt, "a flat font");
+    has_glyphs(&rt, alloc, flat.as_slice(), 1);
+    let bytes = joined(&rt, alloc, CALLS, CALLERS[1]);
+    let flat = flat_font(alloc, bytes.as_slice());
+    holds(&rt, matches!(flat, Err(Error::LongGlyph(0))), "too long");
+    let kept = subset_keeping(alloc, bytes.as_slice(), &[0]);
+    holds(&rt, matches!(kept, Err(Error::LongGlyph(0))), "too long");
+}

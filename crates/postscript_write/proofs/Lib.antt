@@ -56,6 +56,7 @@ pub mod Counts
 pub mod Little
 pub mod Spare
 pub mod Sourced
+pub mod LongGlyphs
 pub mod TextsEnd
 pub mod TextsCut
 pub mod NamedEnds

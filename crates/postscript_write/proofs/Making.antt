@@ -25,7 +25,7 @@ use Rattle.postscript_write.specs.RefusedGlyphs.{IsFaultless}
 use Rattle.postscript_write.specs.Sizes.{IsLarge}
 use Rattle.postscript_write.specs.Steps.{IsNotOpened, RefusedBy, RefusedFor}
 use Rattle.postscript_write.specs.declared.error.Error.{Error}
-use Rattle.postscript_write.specs.declared.error.Error.TheVariants.{Refused, Glyph, SeveralFonts, MissingGlyph, MissingPart, MissingName, NoGlyphs, TooLarge}
+use Rattle.postscript_write.specs.declared.error.Error.TheVariants.{Refused, Glyph, SeveralFonts, MissingGlyph, MissingPart, MissingName, LongGlyph, NoGlyphs, TooLarge}
 
 pub made : (bytes flat : List ℕ) (old new : View) (source : Option ℕ) (i number : ℕ) (code : List ℕ) → SameParts old.parts new.parts →
     slice_get new.char_strings i ≡ Some code →
@@ -73,6 +73,7 @@ refused_by font sources numbers flats i (Refused cause) less h before = h
 refused_by font sources numbers flats i SeveralFonts less h before = absurd h
 refused_by font sources numbers flats i (MissingGlyph glyph) less h before = absurd h
 refused_by font sources numbers flats i (MissingPart glyph) less h before = absurd h
+refused_by font sources numbers flats i (LongGlyph glyph) less h before = absurd h
 refused_by font sources numbers flats i (MissingName glyph) less h before = absurd h
 refused_by font sources numbers flats i NoGlyphs less h before = absurd h
 refused_by font sources numbers flats i TooLarge less h before = absurd h
@@ -133,6 +134,7 @@ is_refused sources bytes font (Refused cause) is h = λ n. inr (font, is, h n)
 is_refused sources bytes font SeveralFonts is h = absurd h
 is_refused sources bytes font (MissingGlyph glyph) is h = absurd h
 is_refused sources bytes font (MissingPart glyph) is h = (font, is, h)
+is_refused sources bytes font (LongGlyph glyph) is h = (font, is, h)
 is_refused sources bytes font (MissingName glyph) is h = (font, is, h)
 is_refused sources bytes font NoGlyphs is h = absurd h
 is_refused sources bytes font TooLarge is h = (font, is, h)
@@ -143,6 +145,7 @@ not_opened sources bytes (Refused cause) h = λ n. inl (h n)
 not_opened sources bytes SeveralFonts h = h
 not_opened sources bytes (MissingGlyph glyph) h = absurd h
 not_opened sources bytes (MissingPart glyph) h = absurd h
+not_opened sources bytes (LongGlyph glyph) h = absurd h
 not_opened sources bytes (MissingName glyph) h = absurd h
 not_opened sources bytes NoGlyphs h = absurd h
 not_opened sources bytes TooLarge h = absurd h
@@ -176,6 +179,10 @@ on_ok (Err e) is = tt
 pub if_ok : {A E : Type 0} {P Q : A → Type 0} (r : Result A E) → ((a : A) → P a → Q a) → IfOk r P → IfOk r Q
 if_ok (Ok a) f h = f a h
 if_ok (Err e) f h = h
+
+pub if_ok_both : {A E : Type 0} {P Q R : A → Type 0} (r : Result A E) → ((a : A) → P a → Q a → R a) → IfOk r P → IfOk r Q → IfOk r R
+if_ok_both (Ok a) f h k = f a h k
+if_ok_both (Err e) f h k = h
 
 pub if_err : {A E : Type 0} {P Q : E → Type 0} (r : Result A E) → ((e : E) → P e → Q e) → IfErr r P → IfErr r Q
 if_err (Ok a) f h = h

@@ -13,7 +13,7 @@ use Rattle.postscript_write.specs.Components.{IsUntold}
 use Rattle.postscript_write.specs.Sources.{AreThere, is_kept}
 use Rattle.postscript_write.specs.Steps.{IsNotChosen}
 use Rattle.postscript_write.specs.declared.error.Error.{Error}
-use Rattle.postscript_write.specs.declared.error.Error.TheVariants.{Refused, Glyph, SeveralFonts, MissingGlyph, MissingPart, MissingName, NoGlyphs, TooLarge}
+use Rattle.postscript_write.specs.declared.error.Error.TheVariants.{Refused, Glyph, SeveralFonts, MissingGlyph, MissingPart, MissingName, LongGlyph, NoGlyphs, TooLarge}
 use Rattle.postscript_write.proofs.Accented.{component-there, or-left, or-right, or-split}
 use Rattle.postscript_write.proofs.Marks.{apart, set_more}
 use Rattle.postscript_write.proofs.Places.{nat_cases}
@@ -263,6 +263,7 @@ untold-of font from added (MissingGlyph glyph) are h =
 untold-of font from added (Glyph glyph cause) are h = absurd h
 untold-of font from added SeveralFonts are h = absurd h
 untold-of font from added (MissingPart glyph) are h = absurd h
+untold-of font from added (LongGlyph glyph) are h = absurd h
 untold-of font from added (MissingName glyph) are h = absurd h
 untold-of font from added NoGlyphs are h = absurd h
 untold-of font from added TooLarge are h = absurd h

@@ -15,7 +15,7 @@ use Rattle.postscript_write.specs.Refusals.{FontRefusedBy, IsChoiceRefusedBy, Is
 use Rattle.postscript_write.specs.Sources.{AreThere, is_kept, kept_of}
 use Rattle.postscript_write.specs.Steps.{IsNotChosen, IsNotClosed, IsNotOpened}
 use Rattle.postscript_write.specs.declared.error.Error.{Error}
-use Rattle.postscript_write.specs.declared.error.Error.TheVariants.{Refused, Glyph, SeveralFonts, MissingGlyph, MissingPart, MissingName, NoGlyphs, TooLarge}
+use Rattle.postscript_write.specs.declared.error.Error.TheVariants.{Refused, Glyph, SeveralFonts, MissingGlyph, MissingPart, MissingName, LongGlyph, NoGlyphs, TooLarge}
 use Rattle.postscript_write.proofs.Making.{is_refused}
 
 abbrev pub Choice : Type 0
@@ -52,6 +52,7 @@ of-closed named closed choice bytes (Refused cause) are h = h
 of-closed named closed choice bytes SeveralFonts are h = h
 of-closed named closed choice bytes (MissingGlyph glyph) are h = absurd h.2
 of-closed named closed choice bytes (MissingPart glyph) are h = (closed, are, h)
+of-closed named closed choice bytes (LongGlyph glyph) are h = (closed, are, h)
 of-closed named closed choice bytes (MissingName glyph) are h = (closed, are, h)
 of-closed named closed choice bytes NoGlyphs are h = absurd h.2
 of-closed named closed choice bytes TooLarge are h = (closed, are, h)
@@ -73,6 +74,7 @@ not-opened named choice bytes (Refused cause) h = λ n. inl (h n)
 not-opened named choice bytes SeveralFonts h = h
 not-opened named choice bytes (MissingGlyph glyph) h = absurd h
 not-opened named choice bytes (MissingPart glyph) h = absurd h
+not-opened named choice bytes (LongGlyph glyph) h = absurd h
 not-opened named choice bytes (MissingName glyph) h = absurd h
 not-opened named choice bytes NoGlyphs h = absurd h
 not-opened named choice bytes TooLarge h = absurd h
@@ -90,6 +92,7 @@ not-closed named choice bytes font (MissingGlyph glyph) opened h = (view_shown f
 not-closed named choice bytes font (Glyph glyph cause) opened h = absurd h
 not-closed named choice bytes font SeveralFonts opened h = absurd h
 not-closed named choice bytes font (MissingPart glyph) opened h = absurd h
+not-closed named choice bytes font (LongGlyph glyph) opened h = absurd h
 not-closed named choice bytes font (MissingName glyph) opened h = absurd h
 not-closed named choice bytes font NoGlyphs opened h = absurd h
 not-closed named choice bytes font TooLarge opened h = absurd h
@@ -109,6 +112,7 @@ not-chosen named closed choice bytes n (MissingGlyph glyph) there h = absurd (no
 not-chosen named closed choice bytes n (Glyph glyph cause) there h = absurd h
 not-chosen named closed choice bytes n SeveralFonts there h = absurd h
 not-chosen named closed choice bytes n (MissingPart glyph) there h = absurd h
+not-chosen named closed choice bytes n (LongGlyph glyph) there h = absurd h
 not-chosen named closed choice bytes n (MissingName glyph) there h = absurd h
 not-chosen named closed choice bytes n NoGlyphs there h = absurd h
 not-chosen named closed choice bytes n TooLarge there h = absurd h
@@ -128,6 +132,7 @@ choice-not-opened named bytes (Refused cause) h = λ n. inl (h n)
 choice-not-opened named bytes SeveralFonts h = h
 choice-not-opened named bytes (MissingGlyph glyph) h = absurd h
 choice-not-opened named bytes (MissingPart glyph) h = h
+choice-not-opened named bytes (LongGlyph glyph) h = h
 choice-not-opened named bytes (MissingName glyph) h = h
 choice-not-opened named bytes NoGlyphs h = absurd h
 choice-not-opened named bytes TooLarge h = h
@@ -143,6 +148,7 @@ choice-not-closed named bytes font (MissingGlyph glyph) opened h = (view_shown f
 choice-not-closed named bytes font (Glyph glyph cause) opened h = h
 choice-not-closed named bytes font SeveralFonts opened h = absurd h
 choice-not-closed named bytes font (MissingPart glyph) opened h = h
+choice-not-closed named bytes font (LongGlyph glyph) opened h = h
 choice-not-closed named bytes font (MissingName glyph) opened h = h
 choice-not-closed named bytes font NoGlyphs opened h = absurd h
 choice-not-closed named bytes font TooLarge opened h = h
@@ -154,6 +160,7 @@ choice-not-chosen named closed bytes n (MissingGlyph glyph) there h = absurd (no
 choice-not-chosen named closed bytes n (Glyph glyph cause) there h = h
 choice-not-chosen named closed bytes n SeveralFonts there h = absurd h
 choice-not-chosen named closed bytes n (MissingPart glyph) there h = h
+choice-not-chosen named closed bytes n (LongGlyph glyph) there h = h
 choice-not-chosen named closed bytes n (MissingName glyph) there h = h
 choice-not-chosen named closed bytes n NoGlyphs there h = absurd h
 choice-not-chosen named closed bytes n TooLarge there h = h

@@ -1,5 +1,5 @@
 -- Why a font is not written. Running out of memory, `Refused Memory`, may come in the place of any other answer.
-use Rattle.std.specs.Prelude.{◌≡◌, ◌≢◌, ◌⊎◌, ℕ, ◌<◌, ◌≤◌, List, [], length, slice_index_or}
+use Rattle.std.specs.Prelude.{◌≡◌, ◌≢◌, ◌⊎◌, ℕ, ◌<◌, ◌≤◌, List, [], length, Some, None, slice_index_or}
 use Rattle.postscript_base.specs.Tape.Outcome.{Got, RefusedAs}
 use Rattle.postscript_base.specs.declared.error.Error as causes
 use Rattle.postscript_base.specs.declared.error.Error.TheVariants.{Memory}
@@ -10,7 +10,7 @@ use Rattle.postscript_write.specs.Components.{AreClosed}
 use Rattle.postscript_write.specs.Glyphs.{AreCodesOf, AreNumbersOf, Sources}
 use Rattle.postscript_write.specs.Sizes.{IsLarge}
 use Rattle.postscript_write.specs.declared.error.Error.{Error}
-use Rattle.postscript_write.specs.declared.error.Error.TheVariants.{Refused, Glyph, SeveralFonts, MissingGlyph, MissingPart, MissingName, NoGlyphs, TooLarge}
+use Rattle.postscript_write.specs.declared.error.Error.TheVariants.{Refused, Glyph, SeveralFonts, MissingGlyph, MissingPart, MissingName, LongGlyph, NoGlyphs, TooLarge}
 use Rattle.postscript_write.specs.RefusedGlyphs.{IsRefusedFirst, IsPartless, IsNameless, HasSet, HasEncoding, AreSound}
 
 -- With the codes of these glyphs the font is too large to be written.
@@ -21,11 +21,29 @@ pub record IsTooLarge (bytes : List ℕ) (font : View) (sources : Sources) : Typ
   pub are_codes : AreCodesOf font sources numbers codes
   pub large : IsLarge bytes font codes
 
+-- Of these codes this is the first one that has more bytes than a charstring may have (Technical Note 5177, Appendix B), and this glyph
+-- is its source.
+pub record IsFirstLong (sources : Sources) (codes : List (List ℕ)) (glyph : ℕ) : Type 0 where
+  pub place : ℕ
+  pub there : place < length codes
+  pub is : slice_index_or sources place None ≡ Some glyph
+  pub long : 65535 < length (slice_index_or codes place [])
+  pub before : (i : ℕ) → i < place → length (slice_index_or codes i []) ≤ 65535
+
+-- with the codes of these glyphs that of this glyph is the first one that is too long
+pub record IsLongGlyph (bytes : List ℕ) (font : View) (sources : Sources) (glyph : ℕ) : Type 0 where
+  pub numbers : List ℕ
+  pub codes : List (List ℕ)
+  pub are_numbers : AreNumbersOf bytes font sources numbers
+  pub are_codes : AreCodesOf font sources numbers codes
+  pub first : IsFirstLong sources codes glyph
+
 -- What a refusal says of the font that glyphs are taken from. `TooLarge` comes only where nothing is wrong with it.
 abbrev pub FontRefusedBy : List ℕ → View → Sources → Error → Type 0
 FontRefusedBy bytes font sources (Glyph glyph cause) = IsRefusedFirst bytes font sources glyph cause
 FontRefusedBy bytes font sources (Refused cause) = cause ≢ Memory → (HasSet bytes font → ⊥) ⊎ (HasEncoding bytes font → ⊥)
 FontRefusedBy bytes font sources (MissingPart glyph) = IsPartless bytes font sources glyph
+FontRefusedBy bytes font sources (LongGlyph glyph) = IsLongGlyph bytes font sources glyph
 FontRefusedBy bytes font sources (MissingName glyph) = IsNameless bytes font sources glyph
 FontRefusedBy bytes font sources TooLarge = AreSound bytes font sources × IsTooLarge bytes font sources
 FontRefusedBy bytes font sources SeveralFonts = ⊥

@@ -1,5 +1,5 @@
 -- How many bytes a font may have that is written (Technical Note 5176, sections 3 and 5: its offsets have at most four bytes).
-use Rattle.std.specs.Prelude.{ℕ, ◌+◌, ◌*◌, ◌≤◌, List, Vec, length}
+use Rattle.std.specs.Prelude.{ℕ, ◌+◌, ◌*◌, ◌<◌, ◌≤◌, List, [], Vec, length, slice_index_or}
 use Rattle.std.specs.List.{sum_by}
 use Rattle.std.specs.declared.alloc.Global.{Global}
 use Rattle.postscript_view.specs.Contents.{View}
@@ -21,3 +21,11 @@ IsLarge bytes font codes =
 -- with the codes of the new font the old one is not too large
 abbrev pub IsSmall : (bytes flat : List ℕ) → Type 0
 IsSmall bytes flat = (old new : View) → IsLaidOut bytes 0 old → IsLaidOut flat 0 new → IsLarge bytes old new.char_strings → ⊥
+
+-- no code has more bytes than a charstring may have (Technical Note 5177, Appendix B)
+abbrev pub AreShort : List (List ℕ) → Type 0
+AreShort codes = (i : ℕ) → i < length codes → length (slice_index_or codes i []) ≤ 65535
+
+-- the font that begins the bytes has no charstring of more than 65,535 bytes
+abbrev pub HasShortCodes : (flat : List ℕ) → Type 0
+HasShortCodes flat = (font : View) × IsLaidOut flat 0 font × AreShort font.char_strings

@@ -31,6 +31,10 @@ pub enum Error {
     /// The charset has no SID or CID for the glyph with this number.
     #[error("glyph {0} has no name")]
     MissingName(usize),
+    /// The charstring of the glyph with this number has more than 65,535 bytes without calls (Technical Note 5177,
+    /// Appendix B).
+    #[error("glyph {0}: its charstring has more than 65535 bytes without calls")]
+    LongGlyph(usize),
     /// The list of glyphs is empty.
     #[error("no glyphs are named")]
     NoGlyphs,

@@ -15,7 +15,7 @@ ghost use Rattle.postscript_write.specs.Refusals.{IsChoiceRefusedBy, IsRefusedBy
 ghost use Rattle.postscript_write.specs.Room.{IsRead};
 ghost use Rattle.postscript_write.specs.SameGlyphs.{GlyphsKept, KeepsGlyphs};
 ghost use Rattle.postscript_write.specs.Selected.{AreLow, SelectsParts};
-ghost use Rattle.postscript_write.specs.Sizes.{IsSmall};
+ghost use Rattle.postscript_write.specs.Sizes.{HasShortCodes, IsSmall};
 ghost use Rattle.postscript_write.specs.Sources.{AreThere, IsWritten, choice_by, chosen as the_chosen, every as the_every, keeping as the_keeping};
 ghost use Rattle.postscript_write.specs.Steps.{IsNotOpened};
 ghost use Rattle.postscript_write.specs.Whole.{IsWholeFont};
@@ -56,6 +56,7 @@ fn only_font<'l>(alloc: Global, bytes: &'l [u8]) -> Result<FontView<'l>>
 /// - `Glyph`: the charstring of a glyph fails. The error has the first such glyph and the cause.
 /// - `Refused`: the font, its charset or its encoding is malformed, or out of memory.
 /// - `MissingPart`: FDSelect gives a glyph no Font DICT.
+/// - `LongGlyph`: a charstring has more than 65,535 bytes without calls. The error has the first such glyph.
 /// - `SeveralFonts`: the font set does not have exactly one font.
 /// - `TooLarge`: the new charstrings, the names, the strings, and four times the input have 2,000,000,000 bytes or more
 ///   together.
@@ -74,6 +75,8 @@ pub fn flat_font(alloc: Global, bytes: &[u8]) -> Result<Vec<u8>>
     ensures ros { IfOk result (λ flat. BeginsWithRos flat.items) }
     // In a CID-keyed font, FDSelect gives each glyph a Font DICT that the font has.
     ensures selects { IfOk result (λ flat. SelectsParts flat.items) }
+    // No charstring of the new font has more than 65,535 bytes.
+    ensures short { IfOk result (λ flat. HasShortCodes flat.items) }
     // The sizes stay below the limit of `TooLarge`.
     ensures small { IfOk result (λ flat. IsSmall bytes.now flat.items) }
     // If the lenient reading accepts the old font, it accepts the new one.
@@ -126,6 +129,7 @@ fn subset_by(alloc: Global, bytes: &[u8], named: &[usize], retain_gids: bool) ->
     ensures once { IfOk result (λ flat. TellsOnce flat.items) }
     ensures ros { IfOk result (λ flat. BeginsWithRos flat.items) }
     ensures selects { IfOk result (λ flat. SelectsParts flat.items) }
+    ensures short { IfOk result (λ flat. HasShortCodes flat.items) }
     ensures small { IfOk result (λ flat. IsSmall bytes.now flat.items) }
     ensures lenient { IfOk result (λ flat. HasLenientFont bytes.now → HasLenientFont flat.items) }
     ensures one { OnOk result (the_fonts bytes.now 0 ≡ Got 1 0) }
@@ -177,6 +181,8 @@ pub fn subset(alloc: Global, bytes: &[u8], named: &[usize]) -> Result<Vec<u8>>
     ensures ros { IfOk result (λ flat. BeginsWithRos flat.items) }
     // In a CID-keyed font, FDSelect gives each glyph a Font DICT that the font has.
     ensures selects { IfOk result (λ flat. SelectsParts flat.items) }
+    // No charstring of the new font has more than 65,535 bytes.
+    ensures short { IfOk result (λ flat. HasShortCodes flat.items) }
     // The sizes stay below the limit of `TooLarge`.
     ensures small { IfOk result (λ flat. IsSmall bytes.now flat.items) }
     // If the lenient reading accepts the old font, it accepts the new one.
@@ -217,6 +223,8 @@ pub fn subset_keeping(alloc: Global, bytes: &[u8], named: &[usize]) -> Result<Ve
     ensures ros { IfOk result (λ flat. BeginsWithRos flat.items) }
     // In a CID-keyed font, FDSelect gives each glyph a Font DICT that the font has.
     ensures selects { IfOk result (λ flat. SelectsParts flat.items) }
+    // No charstring of the new font has more than 65,535 bytes.
+    ensures short { IfOk result (λ flat. HasShortCodes flat.items) }
     // The sizes stay below the limit of `TooLarge`.
     ensures small { IfOk result (λ flat. IsSmall bytes.now flat.items) }
     // If the lenient reading accepts the old font, it accepts the new one.

@@ -1,5 +1,5 @@
 //! The charstrings of glyphs without calls.
-ghost use Rattle.std.specs.Prelude.{◌≡◌, ◌≢◌, ◌⊎◌, ◌<◌, ℕ, [], ◌∷◌, Some, length, IfOk, IfErr, OnOk};
+ghost use Rattle.std.specs.Prelude.{◌≡◌, ◌≢◌, ◌⊎◌, ◌<◌, ℕ, [], ◌∷◌, Some, None, length, slice_index_or, IfNone, IfOk, IfErr, IfSome, OnOk};
 ghost use Rattle.postscript_base.specs.declared.error.Error.TheVariants as causes;
 ghost use Rattle.postscript_type2.specs.Program.Routines.{texts};
 ghost use Rattle.postscript_write.specs.declared.error.Error.TheVariants as errors;
@@ -7,7 +7,8 @@ ghost use Rattle.postscript_view.specs.Value.{view_shown};
 ghost use Rattle.postscript_base.specs.Index.Lent.{items_of};
 ghost use Rattle.postscript_write.specs.Glyphs.{AreCodesOf, AreGlyphs, AreNumbersOf, ShowsPartFor, IsCodeFor, IsCodeOf, IsGlyph, code_text};
 ghost use Rattle.postscript_view.specs.Glyphs.{HasPartNumber};
-ghost use Rattle.postscript_write.specs.Refusals.{FontRefusedBy};
+ghost use Rattle.postscript_write.specs.Refusals.{FontRefusedBy, IsFirstLong};
+ghost use Rattle.postscript_write.specs.Sizes.{AreShort};
 ghost use Rattle.postscript_write.specs.Steps.{RefusedBy, RefusedFor};
 
 use crate::error::{Error, Result};
@@ -137,4 +138,20 @@ pub(crate) fn codes_of(
         flats.push(flat)?;
     }
     Ok(flats)
+}
+
+/// The source of the first charstring that has more bytes than a charstring may have (Technical Note 5177, Appendix B).
+pub(crate) fn long_glyph(sources: &[Option<usize>], codes: &[Vec<u8>]) -> Option<usize>
+    requires many { length codes.now ≡ length sources.now }
+    requires empty { (i : ℕ) → i < length sources.now → slice_index_or sources.now i None ≡ None →
+        length (slice_index_or (texts codes.now) i []) ≡ 1 }
+    ensures long { IfSome result (λ glyph. IsFirstLong sources.now (texts codes.now) glyph) }
+    ensures short { IfNone result (AreShort (texts codes.now)) }
+{
+    for i in 0..codes.len() {
+        if codes[i].len() > 65_535 {
+            return sources[i];
+        }
+    }
+    None
 }

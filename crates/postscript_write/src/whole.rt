@@ -18,12 +18,12 @@ ghost use Rattle.postscript_write.specs.Readings.{HasLenientFont};
 ghost use Rattle.postscript_write.specs.Refusals.{FontRefusedBy};
 ghost use Rattle.postscript_write.specs.Room.{IsRead};
 ghost use Rattle.postscript_write.specs.Selected.{AreLow, SelectsParts};
-ghost use Rattle.postscript_write.specs.Sizes.{IsLarge};
+ghost use Rattle.postscript_write.specs.Sizes.{HasShortCodes, IsLarge};
 ghost use Rattle.postscript_write.specs.Whole.{IsWholeFont};
 ghost use Rattle.postscript_write.specs.declared.error.Error.TheVariants as errors;
 
 use crate::error::{Error, Result, of_memory};
-use crate::glyphs::{codes_of, numbers_of};
+use crate::glyphs::{codes_of, long_glyph, numbers_of};
 use crate::layout::written;
 use crate::numbering::{identifiers_of, numbered};
 use crate::sizes::is_large;
@@ -121,6 +121,7 @@ pub(crate) fn font_of(
     ensures once { IfOk result (λ flat. TellsOnce flat.items) }
     ensures ros { IfOk result (λ flat. BeginsWithRos flat.items) }
     ensures selects { IfOk result (λ flat. SelectsParts flat.items) }
+    ensures short { IfOk result (λ flat. HasShortCodes flat.items) }
     ensures small { IfOk result (λ flat. (new : View) → IsLaidOut flat.items 0 new →
         IsLarge font.now.bytes.now (view_shown font.now) new.char_strings → ⊥) }
     ensures lenient { IfOk result (λ flat. HasLenientFont font.now.bytes.now → HasLenientFont flat.items) }
@@ -130,6 +131,9 @@ pub(crate) fn font_of(
     let encoding = font.encoding()?;
     let numbers = numbers_of(alloc, font, sources)?;
     let codes = codes_of(alloc, font, sources, &numbers)?;
+    if let Some(glyph) = long_glyph(sources, &codes) {
+        return Err(Error::LongGlyph(glyph));
+    }
     if is_large(font, &codes) {
         return Err(Error::TooLarge);
     }

@@ -122,10 +122,13 @@ returns-in-Ok-clause-selects c =
     let made = returns-in-Ok-clause-made c in
     let numbers = from.numbers.now in
     let counted = c.requires.numbers.many in
-    let many = c.requires.codes.many in
-    (made.0, made.1.laid, λ keyed glyph less.
-    let there : glyph < length numbers = omega (arith, less, ap length made.1.written.char_strings, many, counted) in
-    (get_or numbers glyph 0, made.1.written.selected keyed glyph there, (made.1.written.parts glyph there).there))
+    let many = c.requires.codes.many in (
+      made.0,
+      made.1.laid,
+      λ keyed glyph less.
+          let there : glyph < length numbers = omega (arith, less, ap length made.1.written.char_strings, many, counted) in
+          (get_or numbers glyph 0, made.1.written.selected keyed glyph there, (made.1.written.parts glyph there).there),
+    )
 
 pub returns-in-Ok-clause-codes : goal.returns-in-Ok-clause-codes
 returns-in-Ok-clause-codes c = λ new is.
