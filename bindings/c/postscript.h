@@ -93,7 +93,7 @@ enum {
     PSF_SEVERAL_FONTS = 41,               /* the CFF table has several fonts, or none */
     PSF_NO_PART = 42,                     /* FDSelect gives a glyph of a CID-keyed font no Font DICT */
     PSF_NO_GLYPHS = 43,                   /* no glyphs were named */
-    PSF_TOO_LARGE = 45,                   /* the output would be too large */
+    PSF_TOO_LARGE = 45,                   /* the output, or a charstring of it, would be too large */
     PSF_TOO_LONG = 46,                    /* a glyph, or the whole font, costs more than the limit */
     PSF_NO_CODE = 47,                     /* a seac glyph names no codes from 0 to 255 */
     PSF_NO_ACCENTS = 48,                  /* a seac glyph in a CID-keyed font, whose glyphs have no names */
@@ -288,7 +288,8 @@ int32_t psf_glyph_operations(const uint8_t *cff, size_t length, const psf_font *
  * advance, codes, and name or CID.
  * The font must pass psf_font_fits with this limit, otherwise the call returns PSF_TOO_LONG. A good limit is 20 * PSF_LIMIT.
  * Sets *count to the size on PSF_OK and PSF_NO_ROOM; on all other errors sets *refusal instead. Other errors: PSF_REFUSED_GLYPH,
- * PSF_SEVERAL_FONTS, PSF_NO_PART, PSF_NO_NAME, PSF_TOO_LARGE, and from 1 to 16. */
+ * PSF_SEVERAL_FONTS, PSF_NO_PART, PSF_NO_NAME, PSF_TOO_LARGE (also with a glyph whose charstring would have more than 65,535
+ * bytes), and from 1 to 16. */
 int32_t psf_font_flat(const uint8_t *cff, size_t length, uint64_t limit, uint8_t *flat, size_t room, size_t *count,
                       psf_refusal *refusal);
 

@@ -103,7 +103,7 @@ pub enum Error {
     NoPart = 42,
     /// No glyphs were named.
     NoGlyphs = 43,
-    /// The output would be too large.
+    /// The output, or a charstring of it, would be too large.
     TooLarge = 45,
     /// A glyph, or the whole font, costs more than the limit.
     TooLong = 46,
