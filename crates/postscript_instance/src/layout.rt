@@ -6,7 +6,7 @@ ghost use Rattle.postscript_instance.specs.Refusals.{IsLate};
 use crate::error::{Error, Result};
 use crate::indices::{put_index, put_integer, put_operation, put_short, put_single};
 use crate::naming::{Identifiers, Naming};
-use crate::privates::private_of;
+use crate::privates::{private_of, put_readable};
 use postscript_cff2::Font;
 use postscript_variable_font::Place;
 use std::alloc::Global;
@@ -34,20 +34,21 @@ impl Places {
     };
 }
 
-/// Appends FontMatrix as it is in the CFF2 Top DICT, if there is one.
-fn put_matrix(out: &mut Vec<u8>, font: &Font<'_>) -> Result<()>
+/// Appends FontMatrix as it is in the CFF2 Top DICT, if there is one that can be read.
+fn put_matrix(alloc: Global, out: &mut Vec<u8>, font: &Font<'_>) -> Result<()>
     ensures late { IfErr result (λ e. IsLate e) }
 {
-    if let Some(entry) = font.dictionary.last(FONT_MATRIX) {
-        let operands = font
-            .dictionary
-            .bytes
-            .get(entry.start..entry.place)
-            .unwrap_or(&[]);
-        out.extend_from_slice(operands)?;
-        out.extend_from_slice(&[0x0c, 0x07])?;
+    match font.dictionary.last(FONT_MATRIX) {
+        Some(entry) => {
+            let operands = font
+                .dictionary
+                .bytes
+                .get(entry.start..entry.place)
+                .unwrap_or(&[]);
+            put_readable(alloc, out, operands, &[0x0c, 0x07])
+        }
+        None => Ok(()),
     }
-    Ok(())
 }
 
 /// The Top DICT of a CID-keyed font. Its first two strings, Adobe and Identity, are its registry and its ordering.
@@ -61,7 +62,7 @@ fn keyed_dictionary(
 {
     let mut top = Vec::new(alloc);
     top.extend_from_slice(&[0x1c, 0x01, 0x87, 0x1c, 0x01, 0x88, 0x8b, 0x0c, 0x1e])?;
-    put_matrix(&mut top, font)?;
+    put_matrix(alloc, &mut top, font)?;
     put_operation(&mut top, glyphs, &[0x0c, 0x22])?;
     put_operation(&mut top, places.char_set, &[0x0f])?;
     put_operation(&mut top, places.select, &[0x0c, 0x25])?;
@@ -80,7 +81,7 @@ fn named_dictionary(
     ensures late { IfErr result (λ e. IsLate e) }
 {
     let mut top = Vec::new(alloc);
-    put_matrix(&mut top, font)?;
+    put_matrix(alloc, &mut top, font)?;
     put_operation(&mut top, places.char_set, &[0x0f])?;
     put_operation(&mut top, places.char_strings, &[0x11])?;
     put_integer(&mut top, private)?;

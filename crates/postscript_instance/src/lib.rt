@@ -12,6 +12,7 @@ mod naming;
 mod numbers;
 mod pieces;
 mod privates;
+mod reals;
 mod rooms;
 mod rounding;
 mod statics;

@@ -3,12 +3,15 @@
 ghost use Rattle.std.specs.Prelude.{◌<◌, IfErr, length};
 ghost use Rattle.postscript_instance.specs.Refusals.{IsLate};
 
-use crate::error::Result;
+use crate::error::{Error, Result};
 use crate::numbers::put_number;
 use crate::pieces::OPERANDS;
+use crate::reals::put_real;
+use postscript_base::Error as Cause;
 use postscript_cff2::{Dictionary, Font, PrivateDict, integer_at, operand_size, operator_size};
 use postscript_type2::Operand;
 use postscript_variable_font::Place;
+use postscript_view::tables::operations_of;
 use std::alloc::Global;
 
 /// The operators vsindex and blend.
@@ -62,6 +65,44 @@ fn operand_at(bytes: &[u8], place: usize) -> (Number, usize)
         None if bytes[place] == 30 => (Number::Real(place, end), end),
         None => (Number::Unknown, end),
     }
+}
+
+/// The operands of a DICT, with at most 18 significant digits in each real.
+fn readable(alloc: Global, operands: &[u8]) -> Result<Vec<u8>>
+    ensures late { IfErr result (λ e. IsLate e) }
+{
+    let mut out = Vec::new(alloc);
+    let mut place = 0usize;
+    while place < operands.len() {
+        let (number, end) = operand_at(operands, place);
+        let bytes = operands.get(place..end).unwrap_or(&[]);
+        match number {
+            Number::Real(_, _) => put_real(alloc, &mut out, bytes)?,
+            _ => out.extend_from_slice(bytes)?,
+        }
+        place = end;
+    }
+    Ok(out)
+}
+
+/// Appends an operation of a DICT. Digits of a real after the 18th significant one are cut off. If the operands still
+/// cannot be read, the operation is left out, so the operator has its default.
+pub(crate) fn put_readable(
+    alloc: Global,
+    out: &mut Vec<u8>,
+    operands: &[u8],
+    operator: &[u8],
+) -> Result<()>
+    ensures late { IfErr result (λ e. IsLate e) }
+{
+    let mut text = readable(alloc, operands)?;
+    text.extend_from_slice(operator)?;
+    match operations_of(alloc, &text) {
+        Ok(_dictionary) => out.extend_from_slice(&text)?,
+        Err(Cause::Memory) => return Err(Error::Font(Cause::Memory)),
+        Err(_) => {}
+    }
+    Ok(())
 }
 
 /// A number plus its deltas, each scaled.
@@ -128,22 +169,21 @@ impl<'m> Reader<'m> {
         Ok(Some(text))
     }
 
-    /// Appends the operands as they are encoded, or as whole numbers if one was blended. Returns `false` if one is
-    /// unsupported.
-    fn put_operands(&mut self, alloc: Global) -> Result<bool>
+    /// The operands as they are encoded, or as whole numbers if one was blended. `None` if one is unsupported.
+    fn operands(&self, alloc: Global) -> Result<Option<Vec<u8>>>
         ensures late { IfErr result (λ e. IsLate e) }
     {
         if let Some(text) = self.spelled(alloc)? {
-            self.out.extend_from_slice(&text)?;
-            return Ok(true);
+            return Ok(Some(text));
         }
         let Some(edges) = edges(alloc, &self.stack)? else {
-            return Ok(false);
+            return Ok(None);
         };
+        let mut text = Vec::new(alloc);
         for edge in &edges {
-            put_number(&mut self.out, Operand::from_int(*edge))?;
+            put_number(&mut text, Operand::from_int(*edge))?;
         }
-        Ok(true)
+        Ok(Some(text))
     }
 
     /// Appends a hint with its operands, unless one is unsupported.
@@ -153,10 +193,10 @@ impl<'m> Reader<'m> {
         if self.stack.is_empty() || self.stack.len() > OPERANDS {
             return Ok(());
         }
-        if self.put_operands(alloc)? {
-            self.out.extend_from_slice(operator)?;
+        match self.operands(alloc)? {
+            Some(operands) => put_readable(alloc, &mut self.out, &operands, operator),
+            None => Ok(()),
         }
-        Ok(())
     }
 
     /// Blends numbers. The last operand is their count. Before it are the numbers and their deltas, one for each

@@ -295,7 +295,8 @@ fn table_at(
 ///
 /// The Private DICTs have the hints of the CFF2 ones, as zones and stem widths. Blended hints are rounded to the
 /// nearest whole unit, and up if it is halfway. In zones and lists of widths each edge is rounded. A hint is left out
-/// if it blends numbers that are not whole, or if it does not fit into 16 bits.
+/// if it blends numbers that are not whole, or if it does not fit into 16 bits. Reals of hints and of FontMatrix are cut
+/// off after 18 significant digits. An operator whose numbers still cannot be read is left out.
 ///
 /// The table is read back after writing. The clauses cover the glyphs, their widths, nominal widths, Font DICTs and
 /// names. FontMatrix and the hints have no clause, but tests (`postscript_variable_vectors`).

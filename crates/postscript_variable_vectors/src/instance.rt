@@ -443,6 +443,36 @@ fn hints_at_places(rt: HostRuntime) {
     }
 }
 
+/// The same table with BlueScale 0.03712345678912345678, which has 19 significant digits.
+fn with_long_real<R: Abort>(rt: &R, alloc: Global) -> Vec<u8> {
+    let long = [
+        0x1e, 0xa0, 0x37, 0x12, 0x34, 0x56, 0x78, 0x91, 0x23, 0x45, 0x67, 0x8f,
+    ];
+    let mut bytes = Vec::new(alloc);
+    bytes.extend_from_slice(&HINTED[..84]).expect(rt, "memory");
+    bytes.extend_from_slice(&long).expect(rt, "memory");
+    bytes.extend_from_slice(&HINTED[89..]).expect(rt, "memory");
+    // the offset of the item variation store, the size of the Private DICT, and Subrs are 7 more
+    for (place, byte) in [(22, 0x6d), (60, 0xac), (98, 0xac)] {
+        if let Some(slot) = bytes.get_mut(place) {
+            *slot = byte;
+        }
+    }
+    bytes
+}
+
+/// A real with more digits than a reader takes. The first 18 significant digits stay.
+#[test]
+fn long_reals(rt: HostRuntime) {
+    let source = with_long_real(&rt, rt.alloc());
+    let bytes = called(&rt, rt.alloc(), &source, &NAMES, 0);
+    let wanted = [
+        0xdb, 0x0b, 0x1e, 0xa0, 0x37, 0x12, 0x34, 0x56, 0x78, 0x91, 0x23, 0x45, 0x67, 0xff, 0x0c,
+        0x09, 0x8b, 0x14, 0x8b, 0x15,
+    ];
+    holds(&rt, bytes.ends_with(&wanted), "18 digits of BlueScale");
+}
+
 /// The names of glyphs, and the same table in whole units, since all its numbers are whole.
 #[test]
 fn names_of_glyphs(rt: HostRuntime) {
