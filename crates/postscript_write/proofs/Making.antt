@@ -20,10 +20,10 @@ use Rattle.postscript_view.specs.declared.font.FontView.{FontView}
 use Rattle.postscript_write.specs.Fonts.{IsMade}
 use Rattle.postscript_write.specs.Glyphs.{AreCodesOf, AreNumbersOf, ShowsPart, ShowsPartFor, IsCodeFor, Sources, run_in}
 use Rattle.postscript_write.specs.Parts.{SameParts}
-use Rattle.postscript_write.specs.Refusals.{FontRefusedBy, IsRefusedBy}
+use Rattle.postscript_write.specs.Refusals.{NeedsNoName, FontRefusedBy, IsRefusedBy}
 use Rattle.postscript_write.specs.RefusedGlyphs.{IsFaultless}
 use Rattle.postscript_write.specs.Sizes.{IsLarge}
-use Rattle.postscript_write.specs.Steps.{IsNotOpened, RefusedBy, RefusedFor}
+use Rattle.postscript_write.specs.Steps.{IsNotNumbered, IsNotOpened, RefusedBy, RefusedFor}
 use Rattle.postscript_write.specs.declared.error.Error.{Error}
 use Rattle.postscript_write.specs.declared.error.Error.TheVariants.{Refused, Glyph, SeveralFonts, MissingGlyph, MissingPart, MissingName, LongGlyph, NoGlyphs, TooLarge}
 
@@ -81,10 +81,10 @@ refused_by font sources numbers flats i TooLarge less h before = absurd h
 -- a glyph without a part
 pub partless : (font : FontView) (sources : Sources) (i : ℕ) (e : Error) → i < length sources →
     ((glyph : ℕ) × (slice_index_or sources i None ≡ Some glyph) × (e ≡ MissingPart glyph) × ((part : ℕ) → HasPartNumber font glyph
-    part → ⊥)) → FontRefusedBy font.bytes.now (view_shown font) sources e
+    part → ⊥)) → IsNotNumbered font.bytes.now (view_shown font) sources e
 partless font sources i e less h =
     let many : length (parts_shown font.parts.items) ≡ length font.parts.items = length-map font.parts.items part_shown in
-    subst (λ e. FontRefusedBy font.bytes.now (view_shown font) sources e) (sym h.2) (record {
+    subst (λ e. IsNotNumbered font.bytes.now (view_shown font) sources e) (sym h.2) (record {
       one = (i, less, h.1);
       partless = λ there number has. h.3 number (record {
         glyph_there = there;
@@ -93,6 +93,31 @@ partless font sources i e less h =
             (length (items_of font.char_strings)) h.0 number)) many has.selected;
       });
     })
+
+-- no part is told of a glyph
+pub not_numbered : (bytes : List ℕ) (font : View) (sources : Sources) (e : Error) → IsNotNumbered bytes font sources e →
+    FontRefusedBy bytes font sources e
+not_numbered bytes font sources (Glyph glyph cause) h = absurd h
+not_numbered bytes font sources (Refused cause) h = λ other. absurd (other h)
+not_numbered bytes font sources SeveralFonts h = absurd h
+not_numbered bytes font sources (MissingGlyph glyph) h = absurd h
+not_numbered bytes font sources (MissingPart glyph) h = h
+not_numbered bytes font sources (LongGlyph glyph) h = absurd h
+not_numbered bytes font sources (MissingName glyph) h = absurd h
+not_numbered bytes font sources NoGlyphs h = absurd h
+not_numbered bytes font sources TooLarge h = absurd h
+
+-- where a glyph without a name is not the cause, the refusal names none
+pub names_none : (P : Error → Type 0) → ((glyph : ℕ) → P (MissingName glyph) → ⊥) → (e : Error) → P e → NeedsNoName e
+names_none P never (Glyph glyph cause) h = tt
+names_none P never (Refused cause) h = tt
+names_none P never SeveralFonts h = tt
+names_none P never (MissingGlyph glyph) h = tt
+names_none P never (MissingPart glyph) h = tt
+names_none P never (LongGlyph glyph) h = tt
+names_none P never (MissingName glyph) h = never glyph h
+names_none P never NoGlyphs h = tt
+names_none P never TooLarge h = tt
 
 -- a glyph without a name
 pub nameless : (font : FontView) (set : CharSetView) (sources : Sources) (i : ℕ) (e : Error) →

@@ -93,3 +93,8 @@ IsSubsetRefusedBy named sources bytes (MissingGlyph glyph) = OfFont bytes (λ ol
 IsSubsetRefusedBy named sources bytes SeveralFonts = IsRefusedBy (sources named) bytes SeveralFonts
 IsSubsetRefusedBy named sources bytes (Refused cause) = IsRefusedBy (sources named) bytes (Refused cause)
 IsSubsetRefusedBy named sources bytes e = (closed : List ℕ) × AreClosed bytes named closed × IsRefusedBy (sources closed) bytes e
+
+-- a refusal that names no glyph without a name
+abbrev pub NeedsNoName : Error → Type 0
+NeedsNoName (MissingName glyph) = ⊥
+NeedsNoName _ = Unit {0}

@@ -7,9 +7,9 @@ use Rattle.postscript_view.specs.Contents.{View}
 use Rattle.postscript_view.specs.declared.char_set.CharSetView.{CharSetView}
 use Rattle.postscript_view.specs.declared.font.FontView.{FontView}
 use Rattle.postscript_write.specs.Refusals.{HasOtherFonts, IsFirstPast, IsRefusedAs}
-use Rattle.postscript_write.specs.RefusedGlyphs.{IsFirstRefused, IsRunRefused}
+use Rattle.postscript_write.specs.RefusedGlyphs.{IsFirstRefused, IsPartless, IsRunRefused}
 use Rattle.postscript_write.specs.declared.error.Error.{Error}
-use Rattle.postscript_write.specs.declared.error.Error.TheVariants.{Refused, Glyph, SeveralFonts, MissingGlyph}
+use Rattle.postscript_write.specs.declared.error.Error.TheVariants.{Refused, Glyph, SeveralFonts, MissingGlyph, MissingPart}
 
 -- of opening the only font of a set
 abbrev pub IsNotOpened : List ℕ → Error → Type 0
@@ -40,3 +40,9 @@ abbrev pub RefusedBy : View → Sources → (numbers : List ℕ) → Error → T
 RefusedBy font sources numbers (Glyph glyph cause) = IsFirstRefused font sources numbers glyph cause
 RefusedBy font sources numbers (Refused cause) = cause ≡ Memory
 RefusedBy font sources numbers _ = ⊥
+
+-- of the numbers of the parts of glyphs: one has no part
+abbrev pub IsNotNumbered : List ℕ → View → Sources → Error → Type 0
+IsNotNumbered bytes font sources (MissingPart glyph) = IsPartless bytes font sources glyph
+IsNotNumbered bytes font sources (Refused cause) = cause ≡ Memory
+IsNotNumbered bytes font sources _ = ⊥

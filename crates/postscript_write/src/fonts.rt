@@ -11,7 +11,7 @@ ghost use Rattle.postscript_write.specs.Drawings.{DrawsKept, KeepsDrawings};
 ghost use Rattle.postscript_write.specs.Making.{IsCutFont, IsFontBy, IsKeptFont};
 ghost use Rattle.postscript_write.specs.Once.{BeginsWithRos, TellsOnce};
 ghost use Rattle.postscript_write.specs.Readings.{HasLenientFont};
-ghost use Rattle.postscript_write.specs.Refusals.{IsChoiceRefusedBy, IsRefusedBy, IsSubsetRefusedBy};
+ghost use Rattle.postscript_write.specs.Refusals.{IsChoiceRefusedBy, IsRefusedBy, IsSubsetRefusedBy, NeedsNoName};
 ghost use Rattle.postscript_write.specs.Room.{IsRead};
 ghost use Rattle.postscript_write.specs.SameGlyphs.{GlyphsKept, KeepsGlyphs};
 ghost use Rattle.postscript_write.specs.Selected.{AreLow, SelectsParts};
@@ -85,6 +85,8 @@ pub fn flat_font(alloc: Global, bytes: &[u8]) -> Result<Vec<u8>>
     ensures one { OnOk result (the_fonts bytes.now 0 ≡ Got 1 0) }
     // An error is justified by the font set, the font or the first bad glyph, or it is `Memory`.
     ensures refused { IfErr result (λ e. IsRefusedBy the_every bytes.now e) }
+    // The error is not `MissingName`: glyphs that keep their numbers need no name.
+    ensures names { IfErr result NeedsNoName }
 {
     let font = only_font(alloc, bytes)?;
     let sources = every(alloc, font.char_strings.len())?;
@@ -134,6 +136,7 @@ fn subset_by(alloc: Global, bytes: &[u8], named: &[usize], retain_gids: bool) ->
     ensures lenient { IfOk result (λ flat. HasLenientFont bytes.now → HasLenientFont flat.items) }
     ensures one { OnOk result (the_fonts bytes.now 0 ≡ Got 1 0) }
     ensures refused { IfErr result (λ e. IsSubsetRefusedBy named.now (choice_by retain_gids) bytes.now e) }
+    ensures names { IfErr result (λ e. retain_gids ≡ true → NeedsNoName e) }
     ensures there { OnOk result ((font : View) → IsLaidOut bytes.now 0 font → AreThere named.now (length font.char_strings)) }
     ensures none { named.now ≡ [] → result ≡ Err errors.NoGlyphs }
 {
@@ -233,6 +236,8 @@ pub fn subset_keeping(alloc: Global, bytes: &[u8], named: &[usize]) -> Result<Ve
     ensures one { OnOk result (the_fonts bytes.now 0 ≡ Got 1 0) }
     // An error is justified by the list, the font or the first bad kept glyph, or is `Memory`.
     ensures refused { IfErr result (λ e. IsSubsetRefusedBy named.now the_keeping bytes.now e) }
+    // The error is not `MissingName`: glyphs that keep their numbers need no name.
+    ensures names { IfErr result NeedsNoName }
     // A success means that the font has all named glyphs.
     ensures there { OnOk result ((font : View) → IsLaidOut bytes.now 0 font → AreThere named.now (length font.char_strings)) }
     // Without named glyphs the error is `NoGlyphs`.

@@ -7,9 +7,9 @@ ghost use Rattle.postscript_view.specs.Value.{view_shown};
 ghost use Rattle.postscript_base.specs.Index.Lent.{items_of};
 ghost use Rattle.postscript_write.specs.Glyphs.{AreCodesOf, AreGlyphs, AreNumbersOf, ShowsPartFor, IsCodeFor, IsCodeOf, IsGlyph, code_text};
 ghost use Rattle.postscript_view.specs.Glyphs.{HasPartNumber};
-ghost use Rattle.postscript_write.specs.Refusals.{FontRefusedBy, IsFirstLong};
+ghost use Rattle.postscript_write.specs.Refusals.{IsFirstLong};
 ghost use Rattle.postscript_write.specs.Sizes.{AreShort};
-ghost use Rattle.postscript_write.specs.Steps.{RefusedBy, RefusedFor};
+ghost use Rattle.postscript_write.specs.Steps.{IsNotNumbered, RefusedBy, RefusedFor};
 
 use crate::error::{Error, Result};
 use postscript_base::Error as Cause;
@@ -41,7 +41,7 @@ pub(crate) fn numbers_of(
 ) -> Result<Vec<usize>>
     ensures numbers { IfOk result (λ numbers. AreNumbersOf font.now.bytes.now (view_shown font.now) sources.now numbers.items) }
     ensures there { OnOk result (AreGlyphs sources.now (length (items_of font.now.char_strings))) }
-    ensures refused { IfErr result (λ e. FontRefusedBy font.now.bytes.now (view_shown font.now) sources.now e) }
+    ensures refused { IfErr result (λ e. IsNotNumbered font.now.bytes.now (view_shown font.now) sources.now e) }
 {
     let mut numbers = Vec::with_capacity(alloc, sources.len())?;
     for i in 0..sources.len() {

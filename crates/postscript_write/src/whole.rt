@@ -1,5 +1,5 @@
 //! Makes a font of glyphs of another one.
-ghost use Rattle.std.specs.Prelude.{◌≡◌, ◌≢◌, ◌<◌, ◌^◌, IfOk, IfErr, length};
+ghost use Rattle.std.specs.Prelude.{◌≡◌, ◌≢◌, ◌<◌, ◌^◌, IfOk, IfErr, length, true};
 ghost use Rattle.postscript_base.specs.Tape.Outcome.{Got};
 ghost use Rattle.postscript_base.specs.declared.error.Error.TheVariants as causes;
 ghost use Rattle.postscript_type2.specs.Program.Routines.{texts};
@@ -15,7 +15,7 @@ ghost use Rattle.postscript_write.specs.Making.{IsFontBy};
 ghost use Rattle.postscript_write.specs.Once.{BeginsWithRos, TellsOnce};
 ghost use Rattle.postscript_write.specs.ReadBack.{IsReadAs};
 ghost use Rattle.postscript_write.specs.Readings.{HasLenientFont};
-ghost use Rattle.postscript_write.specs.Refusals.{FontRefusedBy};
+ghost use Rattle.postscript_write.specs.Refusals.{FontRefusedBy, NeedsNoName};
 ghost use Rattle.postscript_write.specs.Room.{IsRead};
 ghost use Rattle.postscript_write.specs.Selected.{AreLow, SelectsParts};
 ghost use Rattle.postscript_write.specs.Sizes.{HasShortCodes, IsLarge};
@@ -97,6 +97,7 @@ fn list_of(
     ensures sources { IfOk result
         (λ identifiers. AreSourcesFor retain_gids set.now (length (items_of font.now.char_strings)) sources.now identifiers) }
     ensures refused { IfErr result (λ e. FontRefusedBy font.now.bytes.now (view_shown font.now) sources.now e) }
+    ensures names { IfErr result (λ e. retain_gids ≡ true → NeedsNoName e) }
 {
     if retain_gids {
         return Ok(None);
@@ -126,6 +127,7 @@ pub(crate) fn font_of(
         IsLarge font.now.bytes.now (view_shown font.now) new.char_strings → ⊥) }
     ensures lenient { IfOk result (λ flat. HasLenientFont font.now.bytes.now → HasLenientFont flat.items) }
     ensures refused { IfErr result (λ e. FontRefusedBy font.now.bytes.now (view_shown font.now) sources.now e) }
+    ensures names { IfErr result (λ e. retain_gids ≡ true → NeedsNoName e) }
 {
     let set = font.char_set()?;
     let encoding = font.encoding()?;

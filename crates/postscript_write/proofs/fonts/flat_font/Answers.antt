@@ -1,15 +1,16 @@
-use Rattle.std.proofs.Common.{sym, ◌≡◌, ◌∙◌, ap, subst, List, length, arith}
+use Rattle.std.proofs.Common.{refl, sym, ◌≡◌, ◌∙◌, ap, subst, List, length, arith}
 use Rattle.std.specs.Prelude.{IfOk, Option, ℕ}
 use Rattle.postscript_view.specs.Value.{view_shown}
 use Rattle.postscript_write.specs.Making.{IsKeptFont}
 use Rattle.postscript_write.specs.Readings.{HasLenientFont}
 use Rattle.postscript_write.specs.Refusals.{FontRefusedBy}
+use Rattle.postscript_write.specs.Steps.{IsNotOpened}
 use Rattle.postscript_write.specs.Sources.{every}
 use Rattle.std.proofs.lemmas.Result.{err_from_is_err_and}
 use Rattle.postscript_write.proofs.ReadAgain.{small_so}
 use Rattle.postscript_write.proofs.Drawings.{flat-drawn}
 use Rattle.postscript_write.proofs.SameGlyphs.{flat-same}
-use Rattle.postscript_write.proofs.Making.{if_err, if_ok, is_refused, memory_bytes, not_opened, on_ok}
+use Rattle.postscript_write.proofs.Making.{if_err, if_ok, is_refused, memory_bytes, names_none, not_opened, on_ok}
 use Rattle.postscript_base.specs.Index.Lent.{items_of}
 use Rattle.postscript_write.specs.Identified.{KeepNumbers}
 use Rattle.postscript_write.proofs.Sourced.{every_kept, every_long}
@@ -82,3 +83,11 @@ returns-clause-small c =
 
 pub returns-clause-same : goal.returns-clause-same
 returns-clause-same c = flat-same c.font_of.result c.args.bytes.now (returns-clause-written c)
+
+pub returns-in_err-font-clause-names : goal.returns-in_err-font-clause-names
+returns-in_err-font-clause-names c =
+    let error = err_from_is_err_and c.from_residual.result c.from_residual.ensures.1 in
+    rw (error.1, error.2) (names_none (IsNotOpened c.args.bytes.now) (λ glyph h. h) _ c.in_err-font.ensures.refused)
+
+pub returns-clause-names : goal.returns-clause-names
+returns-clause-names c = if_err c.font_of.result (λ e names. names refl) c.font_of.ensures.names

@@ -6,10 +6,10 @@ use Rattle.postscript_drawing.specs.Components.{glyphs_of}
 use Rattle.postscript_write.specs.Components.{IsOpened}
 use Rattle.postscript_write.specs.Readings.{HasLenientFont}
 use Rattle.postscript_write.specs.Sources.{AreThere, choice_by}
-use Rattle.postscript_write.specs.Steps.{IsNotChosen}
+use Rattle.postscript_write.specs.Steps.{IsNotChosen, IsNotClosed, IsNotOpened}
 use Rattle.postscript_write.specs.declared.error.Error.{Error}
 use Rattle.postscript_write.proofs.ReadAgain.{one_view, small_so}
-use Rattle.postscript_write.proofs.Making.{if_ok, on_ok}
+use Rattle.postscript_write.proofs.Making.{if_ok, names_none, on_ok}
 use Rattle.postscript_write.proofs.Subsets.{closed-so, not-chosen, not-closed, not-opened, subset-made, subset-refused}
 use Rattle.postscript_base.specs.Index.Lent.{items_of}
 use Rattle.postscript_write.specs.Identified.{AreSources}
@@ -96,3 +96,18 @@ returns-clause-small c =
     if_ok c.font_of.result (λ flat small. small_so c.in_ok-font.font c.args.bytes.now flat.items c.in_ok-font.ensures.is
     c.in_ok-font.ensures.bytes small)
     c.font_of.ensures.small
+
+pub returns-in_err-font-clause-names : goal.returns-in_err-font-clause-names
+returns-in_err-font-clause-names c =
+    let error = err_from_is_err_and c.from_residual.result c.from_residual.ensures.1 in
+    rw (error.1, error.2) (λ kept. names_none (IsNotOpened c.args.bytes.now) (λ glyph h. h) _ c.in_err-font.ensures.refused)
+
+pub returns-in_err-closed-clause-names : goal.returns-in_err-closed-clause-names
+returns-in_err-closed-clause-names c =
+    let error = err_from_is_err_and c.from_residual-in_err-closed.result c.from_residual-in_err-closed.ensures.1 in
+    rw (error.1, error.2) (λ kept. names_none (IsNotClosed c.in_ok-font.font c.args.named.now) (λ glyph h. h) _ c.in_err-closed.ensures.refused)
+
+pub returns-in_err-sources-clause-names : goal.returns-in_err-sources-clause-names
+returns-in_err-sources-clause-names c =
+    let error = err_from_is_err_and c.from_residual-in_err-sources.result c.from_residual-in_err-sources.ensures.1 in
+    rw (error.1, error.2) (λ kept. names_none (IsNotChosen c.deref.result.now c.len.result) (λ glyph h. h) _ c.in_err-sources.ensures.refused)

@@ -1,4 +1,6 @@
+use Rattle.std.proofs.Common.{refl}
 use Rattle.postscript_write.proofs.Drawings.{keeping-drawn}
+use Rattle.postscript_write.proofs.Making.{if_err}
 use Rattle.postscript_write.proofs.SameGlyphs.{keeping-same}
 use Rattle.postscript_write.proofs.fonts.subset_keeping.Goals as goal
 
@@ -7,3 +9,6 @@ returns-clause-drawn c = keeping-drawn c.subset_by.result c.args.named.now c.arg
 
 pub returns-clause-same : goal.returns-clause-same
 returns-clause-same c = keeping-same c.subset_by.result c.args.named.now c.args.bytes.now c.subset_by.ensures.written
+
+pub returns-clause-names : goal.returns-clause-names
+returns-clause-names c = if_err c.subset_by.result (λ e names. names refl) c.subset_by.ensures.names

@@ -4,9 +4,10 @@ use Rattle.std.proofs.lemmas.Result.{err_from_is_err_and}
 use Rattle.postscript_type2.specs.Program.Routines.{texts}
 use Rattle.postscript_view.specs.Value.{view_shown}
 use Rattle.postscript_write.specs.Glyphs.{AreCodesOf}
-use Rattle.postscript_write.specs.Refusals.{IsFirstLong}
+use Rattle.postscript_write.specs.Refusals.{IsFirstLong, NeedsNoName}
 use Rattle.postscript_write.specs.Sizes.{AreShort, IsLarge}
-use Rattle.postscript_write.proofs.Making.{if_err, if_ok, if_ok_both, memory_refused, too_large}
+use Rattle.postscript_write.specs.Steps.{IsNotNumbered, RefusedBy}
+use Rattle.postscript_write.proofs.Making.{if_err, if_ok, if_ok_both, memory_refused, names_none, not_numbered, too_large}
 use Rattle.postscript_write.proofs.LongGlyphs.{empty_one, too_long}
 use Rattle.postscript_write.proofs.Rests.{texts_many}
 use Rattle.postscript_write.proofs.whole.font_of.Goals as goal
@@ -80,3 +81,33 @@ returns-clause-small c =
     (λ flat are new laid large. small
     (subst (IsLarge bytes font) (are new laid ∙ ap (λ (cs : List (Vec ℕ Global)). texts cs) c.deref-5.ensures.value) large))
     c.put_together.ensures.codes
+
+pub returns-in_err-set-clause-names : goal.returns-in_err-set-clause-names
+returns-in_err-set-clause-names c =
+    let error = err_from_is_err_and c.from_residual.result c.from_residual.ensures.1 in
+    rw (error.1, error.2) (λ kept. tt)
+
+pub returns-in_err-encoding-clause-names : goal.returns-in_err-encoding-clause-names
+returns-in_err-encoding-clause-names c =
+    let error = err_from_is_err_and c.from_residual-in_err-encoding.result c.from_residual-in_err-encoding.ensures.1 in
+    rw (error.1, error.2) (λ kept. tt)
+
+pub returns-in_err-numbers-clause-names : goal.returns-in_err-numbers-clause-names
+returns-in_err-numbers-clause-names c =
+    let error = err_from_is_err_and c.from_residual-in_err-numbers.result c.from_residual-in_err-numbers.ensures.1 in
+    rw (error.1, error.2) (λ kept. names_none (IsNotNumbered c.args.font.now.bytes.now (view_shown c.args.font.now) c.args.sources.now) (λ glyph h. h) _
+    c.in_err-numbers.ensures.refused)
+
+pub returns-in_err-numbers-clause-refused : goal.returns-in_err-numbers-clause-refused
+returns-in_err-numbers-clause-refused c =
+    let error = err_from_is_err_and c.from_residual-in_err-numbers.result c.from_residual-in_err-numbers.ensures.1 in
+    rw (error.1, error.2) (not_numbered c.args.font.now.bytes.now (view_shown c.args.font.now) c.args.sources.now _ c.in_err-numbers.ensures.refused)
+
+pub returns-in_err-codes-clause-names : goal.returns-in_err-codes-clause-names
+returns-in_err-codes-clause-names c =
+    let error = err_from_is_err_and c.from_residual-in_err-codes.result c.from_residual-in_err-codes.ensures.1 in
+    rw (error.1, error.2) (λ kept. names_none (RefusedBy (view_shown c.args.font.now) c.args.sources.now c.deref.result.now) (λ glyph h. h) _
+    c.in_err-codes.ensures.refused)
+
+pub returns-clause-names : goal.returns-clause-names
+returns-clause-names c = if_err c.put_together.result (λ e memory kept. subst NeedsNoName (sym memory) tt) c.put_together.ensures.memory
