@@ -1,5 +1,5 @@
 -- The parts of a font that is written stand where its dictionary says.
-use Rattle.std.proofs.Common.{◌≡◌, ◌≢◌, refl, sym, ap, subst, ◌∙◌, ℕ, pos, ◌<◌, ◌≤◌, ◌^◌, List, [], ◌∷◌, length, get_or, Option, Some, None, Vec, true, arith, rules}
+use Rattle.std.proofs.Common.{◌≡◌, refl, sym, ap, subst, ◌∙◌, ℕ, pos, ◌<◌, ◌≤◌, ◌^◌, List, [], ◌∷◌, length, get_or, Option, Some, None, Vec, true, arith, rules}
 use Rattle.std.specs.Option.{option_or, unwrap_or}
 use Rattle.std.specs.Prelude.{All, IsSome, slice_get}
 use Rattle.std.specs.declared.alloc.Global.{Global}
@@ -28,7 +28,7 @@ use Rattle.postscript_write.specs.Once.{IsToldOnce, TellsRosFirst}
 use Rattle.postscript_write.specs.Parts.{naming}
 use Rattle.postscript_write.specs.Pieces.{place_of}
 use Rattle.postscript_write.specs.Privates.{IsOwnPrivate, place_of_private, private_offset, private_text}
-use Rattle.postscript_write.specs.Renumbered.{all_renamed}
+use Rattle.postscript_write.specs.Renumbered.{IsKept, all_renamed}
 use Rattle.postscript_write.specs.Room.{IsRead}
 use Rattle.postscript_write.specs.Texts.{TextStands}
 use Rattle.postscript_write.specs.Written.{IsPutTogether}
@@ -39,7 +39,7 @@ use Rattle.postscript_write.proofs.Distinct.{distinct_named, ros_not_named}
 use Rattle.postscript_write.proofs.NamedEnds.{own_look, place_held}
 use Rattle.postscript_write.proofs.Operators.{is_none_of}
 use Rattle.postscript_write.proofs.PartsWritten.{HasPartsLike, keyed_parts, plain_parts}
-use Rattle.postscript_write.proofs.PlacesNamed.{named_by, not_private, not_renamed, stays_renamed, whole_is}
+use Rattle.postscript_write.proofs.PlacesNamed.{named_by, kept_of, not_renamed, stays_renamed, whole_is}
 use Rattle.postscript_write.proofs.Put.{array_named, array_piece, char_strings_named, codes_stand, dictionaries_stand, each_held, named, none_by, pieces, place, private_named, private_piece, privates_stand, tables_stand}
 use Rattle.postscript_write.proofs.Says.{font_says, places_are}
 use Rattle.postscript_write.proofs.TablesStand.{TablesStand}
@@ -65,7 +65,7 @@ module _ {font : FontView} {glyphs : Glyphs} {codes : List (List ℕ)} {out : Li
     (t : TablesStand font glyphs (named w) out) where
   -- of the operators that are not renamed the dictionary says what the places do
   pub look_named : {x : Option (List Decimal)} (operator : Operator) → named_by (named w) operator ≡ x →
-      (IsKeyed font.dictionary → operator ≢ Private) → is_none_of operator naming ≡ true →
+      IsKept font.dictionary operator → is_none_of operator naming ≡ true →
       look t.new operator ≡ option_or x (look font.dictionary operator)
   look_named {x = x} operator is apart none =
       own_look (named w) t.named t.new operator t.placed is
@@ -74,7 +74,7 @@ module _ {font : FontView} {glyphs : Glyphs} {codes : List (List ℕ)} {out : Li
       (not_renamed glyphs.strings font.dictionary operator none))
 
   pub ros_is : look t.new ROS ≡ look font.dictionary ROS
-  ros_is = look_named ROS (none_by w ROS refl) (λ _. not_private ROS refl) refl
+  ros_is = look_named ROS (none_by w ROS refl) (kept_of font.dictionary ROS refl refl refl) refl
 
   pub keyed_is : SelectsExactly font glyphs → (IsSome glyphs.select → IsCidKeyed t.new) × (IsCidKeyed t.new → IsSome glyphs.select)
   keyed_is exactly = (λ some. subst IsSome (sym ros_is) (exactly.0 some), λ keyed. exactly.1 (subst IsSome ros_is keyed))
@@ -95,7 +95,8 @@ module _ {font : FontView} {glyphs : Glyphs} {codes : List (List ℕ)} {out : Li
       let there : slice_get (parts_shown font.parts.items) 0 ≡ Some part = ap (λ ps. slice_get ps 0) one in
       let same = only_one glyphs.select w.privates (place w Private) unselected many in
       record {
-        is = look_named Private (private_named w ∙ ap (λ ps. named_by ps Private) same) (λ has. let never = subst IsSome no_ros has in absurd (cc)) refl;
+        is = look_named Private (private_named w ∙ ap (λ ps. named_by ps Private) same) (record { private = λ has. let never = subst IsSome no_ros has in absurd (cc); select = λ _. (λ same. absurd (cc), λ same. absurd (cc)) })
+            refl;
         held = subst (All IsHeld) same (each_held w).1.1.1.0;
         own = own.each 0 part there;
         many = many;
@@ -139,7 +140,7 @@ module _ {font : FontView} {glyphs : Glyphs} {codes : List (List ℕ)} {out : Li
 
   char_strings : IsRead font → AreCharStrings out t.new codes
   char_strings read =
-      let same = look_named CharStringType (none_by w CharStringType refl) (λ _. not_private CharStringType refl) refl in
+      let same = look_named CharStringType (none_by w CharStringType refl) (kept_of font.dictionary CharStringType refl refl refl) refl in
       let type = read.laid.char_strings.type in
       let is = char_strings_there in
       record {

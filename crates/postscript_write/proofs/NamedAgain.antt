@@ -1,5 +1,5 @@
 -- Operators of the dictionary that is written name strings by their new identifiers.
-use Rattle.std.proofs.Common.{◌≡◌, ◌≢◌, ◌⊎◌, refl, sym, ap, ◌∙◌, inl, inr, ℕ, pos, ◌<◌, ◌==◌, nat_lt, List, [], ◌∷◌, map, Option, Some, None, Bool, true, false, if◌then◌else◌, arith}
+use Rattle.std.proofs.Common.{◌≡◌, ◌⊎◌, refl, sym, ap, ◌∙◌, inl, inr, ℕ, pos, ◌<◌, ◌==◌, nat_lt, List, [], ◌∷◌, map, Option, Some, None, Bool, true, false, if◌then◌else◌, arith}
 use Rattle.std.specs.Option.{option_and_then, option_or}
 use Rattle.std.specs.Ordering.{eq_by_cmp}
 use Rattle.std.specs.Prelude.{flat_map, option_map}
@@ -13,19 +13,19 @@ use Rattle.postscript_base.specs.Compact1.DictionaryLaw.{last_of}
 use Rattle.postscript_base.specs.Compact1.Number.{whole}
 use Rattle.postscript_base.specs.Compact1.Operators.{operator_cmp}
 use Rattle.postscript_base.specs.declared.compact1.operator.Operator.{Operator}
-use Rattle.postscript_base.specs.declared.compact1.operator.Operator.TheVariants.{Private}
+use Rattle.postscript_base.specs.declared.compact1.operator.Operator.TheVariants.{FDArray, FDSelect, Private}
 use Rattle.postscript_base.proofs.DictionaryMaps.{operators_total}
 use Rattle.postscript_write.specs.Pieces.{place_at}
 use Rattle.postscript_write.specs.Dictionaries.{IsPlaced, operation_of}
 use Rattle.postscript_write.specs.Parts.{IsAmong, naming}
-use Rattle.postscript_write.specs.Renumbered.{IsRenamed, all_renamed, new_identifier, renamed_if}
+use Rattle.postscript_write.specs.Renumbered.{IsKept, IsRenamed, all_renamed, new_identifier, renamed_if}
 use Rattle.postscript_write.specs.Strings.{identifier_from, identifier_in}
 use Rattle.postscript_write.specs.declared.dictionaries.Place.{Place}
 use Rattle.postscript_write.specs.declared.strings.Strings.{Strings}
 use Rattle.std.proofs.lemmas.List.{map-append}
 use Rattle.postscript_write.proofs.Operators.{each_is}
 use Rattle.postscript_write.proofs.Placing.{same_operator}
-use Rattle.postscript_write.proofs.PlacesNamed.{last_append, look_renamed, named_by, not_private, one_renamed, stays, whole_is}
+use Rattle.postscript_write.proofs.PlacesNamed.{kept_of, last_append, look_renamed, named_by, one_renamed, stays, whole_is}
 
 or_same : {A : Type 0} (x : Option A) → option_or x x ≡ x
 or_same None = refl
@@ -90,14 +90,20 @@ module _ (strings : Strings) (old : Dictionary) (operator : Operator) where
 abbrev pub AreApart : List Place → Type 0
 AreApart places = (operator : Operator) → IsAmong operator naming → named_by places operator ≡ None
 
-apart_private : (operator : Operator) → IsAmong operator naming → operator ≢ Private
-apart_private operator is =
-    not_private operator (is_false (eq_by_cmp operator_cmp operator Private)
+is_false : (b : Bool) → (if b then false else true) ≡ true → b ≡ false
+is_false true e = absurd (cc)
+is_false false e = refl
+
+-- an operator that names a string stays
+apart_kept : (map : Dictionary) (operator : Operator) → IsAmong operator naming → IsKept map operator
+apart_kept map operator is =
+    kept_of map operator
+    (is_false (eq_by_cmp operator_cmp operator Private)
     (each_is (λ o. if eq_by_cmp operator_cmp o Private then false else true) naming refl operator is))
-  where
-    is_false : (b : Bool) → (if b then false else true) ≡ true → b ≡ false
-    is_false true e = absurd (cc)
-    is_false false e = refl
+    (is_false (eq_by_cmp operator_cmp operator FDArray)
+    (each_is (λ o. if eq_by_cmp operator_cmp o FDArray then false else true) naming refl operator is))
+    (is_false (eq_by_cmp operator_cmp operator FDSelect)
+    (each_is (λ o. if eq_by_cmp operator_cmp o FDSelect then false else true) naming refl operator is))
 
 same_number : (m n : ℕ) → m ≡ n → (m == n) ≡ true
 same_number m n is = grind (arith, nat_tests)
@@ -120,7 +126,7 @@ module _ (strings : Strings) (old named new : Dictionary) (places : List Place) 
       look new operator ≡ option_or (named_by (renamed_if strings operator (identifier_in old operator)) operator) (look old operator)
   says operator is =
       stays named new places operator placed (apart operator is)
-      ∙ look_renamed old named (all_renamed strings old) operator renamed (λ _. apart_private operator is)
+      ∙ look_renamed old named (all_renamed strings old) operator renamed (apart_kept old operator is)
       ∙ ap (λ x. option_or x (look old operator)) (of_all strings old operator naming is)
 
   -- where the new identifier is the old one, the operands stay

@@ -34,7 +34,7 @@ use Rattle.postscript_write.proofs.LaidOut.{array_there, char_strings_there, has
 use Rattle.postscript_write.proofs.NamedEnds.{array_ends, char_set_ends, encoding_ends, offset_is, own_look, select_ends}
 use Rattle.postscript_write.proofs.PartsWritten.{has_dictionary}
 use Rattle.postscript_write.proofs.Pieces.{all_end as texts_end, texts_in}
-use Rattle.postscript_write.proofs.PlacesNamed.{named_by, not_private, whole_is}
+use Rattle.postscript_write.proofs.PlacesNamed.{named_by, kept_of, whole_is}
 use Rattle.postscript_write.proofs.PrivatesStand.{EndsBehind, all_end, one_dictionary, private_ends}
 use Rattle.postscript_write.proofs.Put.{dictionaries_stand, encoding_named, end_is, each_held, named, pieces, place, select_named, set_named, some_tables, stand}
 use Rattle.postscript_write.proofs.Rests.{none_fit}
@@ -138,11 +138,11 @@ module _ {font : FontView} {glyphs : Glyphs} {codes : List (List ℕ)} {out : Li
   pub encoding_look : look t.new Encoding ≡ option_or
       (named_by (standard_place glyphs.standard ++ place_of (piece_if Encoding glyphs.encoding) w.put.start) Encoding)
       (look font.dictionary Encoding)
-  encoding_look = look_named w t Encoding (encoding_named w) (λ _. not_private Encoding refl) refl
+  encoding_look = look_named w t Encoding (encoding_named w) (kept_of font.dictionary Encoding refl refl refl) refl
 
   pub set_look : look t.new CharSet ≡ option_or (named_by (place_of (piece_if CharSet glyphs.char_set) (place w CharSet)) CharSet)
       (look font.dictionary CharSet)
-  set_look = look_named w t CharSet (set_named w) (λ _. not_private CharSet refl) refl
+  set_look = look_named w t CharSet (set_named w) (kept_of font.dictionary CharSet refl refl refl) refl
 
   set_end : place w CharSet + length (text_of glyphs.char_set) ≡ length out
   set_end = texts_end (texts_in (pieces w)) w.put.start ∙ end_is w

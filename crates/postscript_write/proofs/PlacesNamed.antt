@@ -13,14 +13,15 @@ use Rattle.postscript_base.specs.Compact1.Number.{whole}
 use Rattle.postscript_base.specs.Compact1.Operation.{Operation}
 use Rattle.postscript_base.specs.Compact1.Operators.{operator_cmp}
 use Rattle.postscript_base.specs.declared.compact1.operator.Operator.{Operator}
-use Rattle.postscript_base.specs.declared.compact1.operator.Operator.TheVariants.{Private}
+use Rattle.postscript_base.specs.declared.compact1.operator.Operator.TheVariants.{FDArray, FDSelect, Private}
 use Rattle.postscript_base.proofs.Decimals.{IsSameValue-sym, IsSameValue-trans}
 use Rattle.postscript_base.proofs.Operands.{finds_operands, none_if_none, whole_if_some, whole_operand}
-use Rattle.postscript_view.specs.Sizes.{IsKeyed}
+use Rattle.std.proofs.lemmas.Cmp.{eq_by_cmp_equiv}
+use Rattle.postscript_base.proofs.DictionaryMaps.{operators_total}
 use Rattle.postscript_write.specs.Pieces.{place_at}
 use Rattle.postscript_write.specs.Dictionaries.{IsPlaced, operation_of}
 use Rattle.postscript_write.specs.Parts.{naming}
-use Rattle.postscript_write.specs.Renumbered.{IsRenamed, all_renamed, new_identifier, renamed_if}
+use Rattle.postscript_write.specs.Renumbered.{IsKept, IsRenamed, all_renamed, new_identifier, renamed_if}
 use Rattle.postscript_write.specs.Strings.{identifier_in}
 use Rattle.postscript_write.specs.declared.dictionaries.Place.{Place}
 use Rattle.postscript_write.specs.declared.strings.Strings.{Strings}
@@ -113,18 +114,25 @@ pub stays : (old new : Dictionary) (places : List Place) (operator : Operator) �
     named_by places operator ≡ None → look new operator ≡ look old operator
 stays old new places operator placed none = placed operator ∙ ap (λ x. option_or x (look old operator)) none
 
-pub not_private : (operator : Operator) → eq_by_cmp operator_cmp operator Private ≡ false → operator ≢ Private
-not_private operator different same =
-    let both : eq_by_cmp operator_cmp operator Private ≡ true = subst (λ o. eq_by_cmp operator_cmp o Private ≡ true) (sym same) refl in
-    let never : false ≡ true = sym different ∙ both in
+pub not_same : (operator other : Operator) → eq_by_cmp operator_cmp operator other ≡ false → operator ≢ other
+not_same operator other different same =
+    let itself : eq_by_cmp operator_cmp operator other ≡ true = subst (λ o. eq_by_cmp operator_cmp operator o ≡ true) same
+    ((eq_by_cmp_equiv operators_total).refl operator) in
+    let never : false ≡ true = sym different ∙ itself in
     absurd (cc)
+
+-- an operator that is none of these stays
+pub kept_of : (map : Dictionary) (operator : Operator) → eq_by_cmp operator_cmp operator Private ≡ false →
+    eq_by_cmp operator_cmp operator FDArray ≡ false → eq_by_cmp operator_cmp operator FDSelect ≡ false → IsKept map operator
+kept_of map operator private array select =
+    record { private = λ _. not_same operator Private private; select = λ _. (not_same operator FDArray array, not_same operator FDSelect select) }
 
 -- the same of the dictionary of a font under its new strings
 pub look_renamed : (old new : Dictionary) (places : List Place) (operator : Operator) → IsRenamed old places new →
-    (IsKeyed old → operator ≢ Private) → look new operator ≡ option_or (named_by places operator) (look old operator)
+    IsKept old operator → look new operator ≡ option_or (named_by places operator) (look old operator)
 look_renamed old new places operator is apart =
     is.placed operator ∙ ap (option_or (named_by places operator)) (is.unnamed.same operator apart)
 
 pub stays_renamed : (old new : Dictionary) (places : List Place) (operator : Operator) → IsRenamed old places new →
-    (IsKeyed old → operator ≢ Private) → named_by places operator ≡ None → look new operator ≡ look old operator
+    IsKept old operator → named_by places operator ≡ None → look new operator ≡ look old operator
 stays_renamed old new places operator is apart none = stays is.kept new places operator is.placed none ∙ is.unnamed.same operator apart

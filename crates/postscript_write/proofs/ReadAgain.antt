@@ -1,5 +1,6 @@
 -- What is written is the font that it was to be.
-use Rattle.std.proofs.Common.{◌≡◌, sym, ap, subst, ◌∙◌, ℕ, List, [], length, slice_get, slice_index_or, Bool, true, false, None, arith}
+use Rattle.std.proofs.Common.{◌≡◌, ◌<◌, refl, sym, ap, subst, ◌∙◌, ℕ, List, [], length, slice_get, slice_index_or, Bool, true, false, Option, Some, None, Vec, arith}
+use Rattle.std.specs.declared.alloc.Global.{Global}
 use Rattle.std.proofs.lemmas.Option.{slice_get-get_or}
 use Rattle.std.specs.Option.{is_some}
 use Rattle.postscript_base.specs.Compact1.Defaults.{look}
@@ -16,6 +17,7 @@ use Rattle.postscript_view.specs.declared.font.FontView.{FontView}
 use Rattle.postscript_view.proofs.LayoutLaws.{reads_layout}
 use Rattle.postscript_write.specs.Fonts.{HasGlyphsOf}
 use Rattle.postscript_write.specs.Glyphs.{AreCodesOf, AreNumbersOf, Sources}
+use Rattle.postscript_write.specs.Identified.{AreSourcesFor}
 use Rattle.postscript_write.specs.Making.{IsFontBy}
 use Rattle.postscript_write.specs.Naming.{GivesWay, KeepsCodes, SameName, SameNames}
 use Rattle.postscript_write.specs.ReadBack.{AreStrings, HasCodes, IsReadAs}
@@ -48,18 +50,34 @@ strings_as false sources old old_set new new_set are = record {
   needed = are.needed;
 }
 
+-- glyphs keep their numbers
+abbrev pub KeepThem : Sources → Type 0
+KeepThem sources = (i : ℕ) → i < length sources → (glyph : ℕ) → slice_index_or sources i None ≡ Some glyph → glyph ≡ i
+
+-- a glyph that keeps its number has the name that it had, and so has an empty one
+own_name : (old new : CharSetView) (source : Option ℕ) (i : ℕ) → ((glyph : ℕ) → source ≡ Some glyph → glyph ≡ i) → SameName old source new i →
+    SameName old (Some i) new i
+own_name old new None i keep same = same
+own_name old new (Some glyph) i keep same = subst (λ n. SameName old (Some n) new i) (keep glyph refl) same
+
+pub keep_them : (kept : Bool) (set : CharSetView) (glyphs : ℕ) (sources : Sources) (identifiers : Option (Vec ℕ Global)) →
+    AreSourcesFor kept set glyphs sources identifiers → kept ≡ true → KeepThem sources
+keep_them true set glyphs sources None are is = λ i less glyph at. are.each i glyph less at
+keep_them true set glyphs sources (Some identifiers) are is = absurd are
+keep_them false set glyphs sources identifiers are is = absurd (cc)
+
 module _ (sources : Sources) (bytes : List ℕ) (old : View) (old_set : CharSetView) (encoding : EncodingView) (numbers : List ℕ)
     (codes : List (List ℕ)) (flat : List ℕ) (new : View) (was : IsEncodingOf encoding bytes old.tables.dictionary) where
-  codes_as : (new_set : CharSetView) → SameNames old_set sources new_set → HasCodes true encoding flat new.tables.dictionary →
+  codes_as : (new_set : CharSetView) → SameNames old_set sources new_set → KeepThem sources → HasCodes true encoding flat new.tables.dictionary →
       KeepsCodes sources bytes old flat new old_set new_set
-  codes_as new_set names has = record {
+  codes_as new_set names keep has = record {
     old_encoding = encoding;
     new_encoding = has.encoding;
     was = was;
     is = has.is;
-    codes = λ code glyph less same.
+    codes = λ code glyph less.
         keeps_code encoding has.encoding (has.same has.encoding has.is) old_set new_set code glyph
-        (subst (λ source. SameName old_set source new_set glyph) same (names glyph less));
+        (own_name old_set new_set (slice_index_or sources glyph None) glyph (keep glyph less) (names glyph less));
   }
 
   way_as : HasCodes false encoding flat new.tables.dictionary → GivesWay bytes old flat new
@@ -84,19 +102,19 @@ module _ (sources : Sources) (bytes : List ℕ) (old : View) (old_set : CharSetV
             (numbers_are.each i less) (codes_are.each i less) (written.parts i (omega (arith, less, numbered)));
       }
 
-  pub font_as : (kept : Bool) → IsCharSetOf old_set bytes old.tables.dictionary (length old.char_strings) →
+  pub font_as : (kept : Bool) → (kept ≡ true → KeepThem sources) → IsCharSetOf old_set bytes old.tables.dictionary (length old.char_strings) →
       AreNumbersOf bytes old sources numbers → AreCodesOf old sources numbers codes →
       IsReadAs kept sources old old_set encoding numbers codes flat new → IsFontBy kept sources bytes old flat new
-  font_as true has_set numbers_are codes_are is =
+  font_as true keep has_set numbers_are codes_are is =
       let names = is.names in
       let strings = names.same names.set names.is in
       record {
         made = glyphs_as true numbers_are codes_are is;
         sets = record { old_set = old_set; new_set = names.set; was = has_set; is = names.is };
         strings = strings;
-        codes = codes_as names.set strings.glyphs is.same_codes;
+        codes = codes_as names.set strings.glyphs (keep refl) is.same_codes;
       }
-  font_as false has_set numbers_are codes_are is =
+  font_as false keep has_set numbers_are codes_are is =
       let names = is.names in
       record {
         made = glyphs_as false numbers_are codes_are is;

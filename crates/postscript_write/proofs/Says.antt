@@ -11,7 +11,7 @@ use Rattle.postscript_base.specs.Compact1.Defaults.{default_of, look}
 use Rattle.postscript_base.specs.Compact1.Dictionary.{Dictionary}
 use Rattle.postscript_base.specs.Compact1.Operators.{operator_cmp}
 use Rattle.postscript_base.specs.declared.compact1.operator.Operator.{Operator}
-use Rattle.postscript_base.specs.declared.compact1.operator.Operator.TheVariants.{Encoding, Private, Subrs}
+use Rattle.postscript_base.specs.declared.compact1.operator.Operator.TheVariants.{Encoding, FDArray, FDSelect, Private, Subrs}
 use Rattle.postscript_write.specs.Pieces.{Piece, named_places, place_at, places, standard_place}
 use Rattle.postscript_write.specs.Dictionaries.{IsPlaced, operation_of}
 use Rattle.postscript_write.specs.LeftOut.{IsLess}
@@ -25,7 +25,7 @@ use Rattle.postscript_write.specs.declared.strings.Strings.{Strings}
 use Rattle.postscript_write.proofs.Operators.{among}
 use Rattle.postscript_write.proofs.Pieces.{AreAmong, AreOf, all_among}
 use Rattle.postscript_write.proofs.Placing.{same_operator}
-use Rattle.postscript_write.proofs.PlacesNamed.{named_by, not_private, stays}
+use Rattle.postscript_write.proofs.PlacesNamed.{named_by, kept_of, stays}
 
 some_among : (operators : List Operator) (places : List Place) (operator : Operator) (operands : List Decimal) → AreOf operators places →
     named_by places operator ≡ Some operands → IsAmong operator operators
@@ -112,16 +112,23 @@ pub font_says : (strings : Strings) (old named new : Dictionary) (places : List 
 font_says strings old named new places are renamed placed operator =
     elim (says_else placing named new places placed are operator) [
       | inl same ↦ elim (says_else naming renamed.kept named (all_renamed strings old) renamed.placed (renamed_are strings old) operator) [
-        | inl also ↦ kept (eq_by_cmp operator_cmp operator Private) refl (same ∙ also)
+        | inl also ↦ kept (eq_by_cmp operator_cmp operator Private) (eq_by_cmp operator_cmp operator FDArray)
+            (eq_by_cmp operator_cmp operator FDSelect) refl refl refl (same ∙ also)
         | inr is ↦ inr (among_right operator placing naming is)
       ]
       | inr is ↦ inr (among_left operator placing naming is)
     ]
   where
-    kept : (b : Bool) → eq_by_cmp operator_cmp operator Private ≡ b → look new operator ≡ look renamed.kept operator →
+    kept : (b d e : Bool) → eq_by_cmp operator_cmp operator Private ≡ b → eq_by_cmp operator_cmp operator FDArray ≡ d →
+        eq_by_cmp operator_cmp operator FDSelect ≡ e → look new operator ≡ look renamed.kept operator →
         (look new operator ≡ look old operator) ⊎ IsAmong operator (placing ++ naming)
-    kept true is same = inr (among_left operator placing naming (inr (inr (inr (inl (same_operator operator Private is))))))
-    kept false is same = inl (same ∙ renamed.unnamed.same operator (λ _. not_private operator is))
+    kept true d e is array select same =
+        inr (among_left operator placing naming (inr (inr (inr (inl (same_operator operator Private is))))))
+    kept false true e is array select same =
+        inr (among_left operator placing naming (inr (inr (inr (inr (inl (same_operator operator FDArray array)))))))
+    kept false false true is array select same =
+        inr (among_left operator placing naming (inr (inr (inr (inr (inr (inl (same_operator operator FDSelect select))))))))
+    kept false false false is array select same = inl (same ∙ renamed.unnamed.same operator (kept_of old operator is array select))
 
 -- and so does a font dictionary
 pub own_says : (old new : Dictionary) (private : Option OwnPrivate) (n : ℕ) → IsPlaced old (place_of_private private n) new →

@@ -1,16 +1,19 @@
--- Where the char set stands that is written, and that a CID-keyed font names no private dictionary but in its font dictionaries.
-use Rattle.std.proofs.Common.{◌≡◌, refl, ap, subst, ◌∙◌, ℕ, ◌≤◌, List, Option, Some, None, Vec, arith}
+-- Where the char set stands that is written, and that a CID-keyed font names no private dictionary but in its font dictionaries,
+-- and another one neither font dictionaries nor FDSelect.
+use Rattle.std.proofs.Common.{◌≡◌, refl, sym, true, ap, subst, ◌∙◌, ℕ, ◌≤◌, List, Option, Some, None, Vec, arith}
 use Rattle.std.specs.Option.{option_or}
 use Rattle.std.specs.Prelude.{All, IsSome}
 use Rattle.std.specs.declared.alloc.Global.{Global}
 use Rattle.postscript_base.specs.Compact1.Defaults.{look}
 use Rattle.postscript_base.specs.Compact1.Dictionary.{Dictionary}
-use Rattle.postscript_base.specs.declared.compact1.operator.Operator.TheVariants.{CharSet, Private}
-use Rattle.postscript_view.specs.Cids.{IsCidKeyed}
+use Rattle.postscript_base.specs.declared.compact1.operator.Operator.{Operator}
+use Rattle.postscript_base.specs.declared.compact1.operator.Operator.TheVariants.{CharSet, FDArray, FDSelect, Private}
 use Rattle.postscript_view.specs.declared.font.FontView.{FontView}
 use Rattle.postscript_write.specs.Pieces.{piece_if, place_of, text_of}
 use Rattle.postscript_write.specs.Dictionaries.{IsHeld}
+use Rattle.postscript_write.specs.Fonts.{NamesItsParts}
 use Rattle.postscript_write.specs.LaidOut.{SelectsExactly}
+use Rattle.postscript_write.specs.Parts.{naming}
 use Rattle.postscript_write.specs.ReadBack.{HasCharSetText}
 use Rattle.postscript_write.specs.Texts.{TextStands}
 use Rattle.postscript_write.specs.Written.{IsPutTogether}
@@ -19,8 +22,9 @@ use Rattle.postscript_write.specs.declared.layout.Private.{Private as OwnPrivate
 use Rattle.postscript_write.proofs.LaidOut.{keyed_is, ros_is}
 use Rattle.postscript_write.proofs.NamedEnds.{offset_is, own_look, place_held}
 use Rattle.postscript_write.proofs.NoByteBeside.{set_look}
+use Rattle.postscript_write.proofs.Operators.{is_none_of}
 use Rattle.postscript_write.proofs.PlacesNamed.{named_by, not_renamed}
-use Rattle.postscript_write.proofs.Put.{each_held, named, place, private_named, private_piece, some_tables, stand}
+use Rattle.postscript_write.proofs.Put.{array_named, array_piece, each_held, named, place, private_named, private_piece, select_named, some_tables, stand}
 use Rattle.postscript_write.proofs.TablesStand.{TablesStand}
 
 set_stands : (old new : Dictionary) (out : List ℕ) (text : Option (Vec ℕ Global)) (place : ℕ) →
@@ -38,6 +42,16 @@ none_private : (select : Option (Vec ℕ Global)) (privates : List (Option OwnPr
 none_private None privates n some = absurd (cc)
 none_private (Some select) privates n some = refl
 
+none_array : (select : Option (Vec ℕ Global)) (dictionaries : List (List ℕ)) (n : ℕ) → (IsSome select → ⊥) →
+    named_by (place_of (array_piece select dictionaries) n) FDArray ≡ None
+none_array None dictionaries n none = refl
+none_array (Some select) dictionaries n none = absurd (none refl)
+
+none_select : (select : Option (Vec ℕ Global)) (n : ℕ) → (IsSome select → ⊥) →
+    named_by (place_of (piece_if FDSelect select) n) FDSelect ≡ None
+none_select None n none = refl
+none_select (Some select) n none = absurd (none refl)
+
 module _ {font : FontView} {glyphs : Glyphs} {codes : List (List ℕ)} {out : List ℕ} (w : IsPutTogether font glyphs codes out)
     (t : TablesStand font glyphs (named w) out) where
   pub set_there : HasCharSetText font.dictionary glyphs.char_set out t.new
@@ -46,10 +60,24 @@ module _ {font : FontView} {glyphs : Glyphs} {codes : List (List ℕ)} {out : Li
       set_stands font.dictionary t.new out glyphs.char_set (place w CharSet) (set_look w t) (each_held w).1.1.1.1.1.0 (omega (arith, start))
       (stand w).1.1.1.1.1.0
 
-  pub unnamed_there : SelectsExactly font glyphs → IsCidKeyed t.new → look t.new Private ≡ None
-  unnamed_there exactly keyed =
-      own_look (named w) t.named t.new Private t.placed (private_named w ∙ none_private glyphs.select w.privates (place w Private)
-      ((keyed_is w t exactly).1 keyed))
-      ∙ t.renamed.placed Private
-      ∙ ap (λ x. option_or x (look t.renamed.kept Private)) (not_renamed glyphs.strings font.dictionary Private refl)
-      ∙ t.renamed.unnamed.gone (subst IsSome (ros_is w t) keyed)
+  -- what the places do not name, and what the dictionary of the font is left without
+  look_none : (operator : Operator) → named_by (named w) operator ≡ None → is_none_of operator naming ≡ true →
+      look t.renamed.kept operator ≡ None → look t.new operator ≡ None
+  look_none operator none other gone =
+      own_look (named w) t.named t.new operator t.placed none
+      ∙ t.renamed.placed operator
+      ∙ ap (λ x. option_or x (look t.renamed.kept operator)) (not_renamed glyphs.strings font.dictionary operator other)
+      ∙ gone
+
+  pub unnamed_there : SelectsExactly font glyphs → NamesItsParts t.new
+  unnamed_there exactly = record {
+    keyed = λ keyed. look_none Private
+        (private_named w ∙ none_private glyphs.select w.privates (place w Private) ((keyed_is w t exactly).1 keyed)) refl
+        (t.renamed.unnamed.gone (subst IsSome (ros_is w t) keyed));
+    plain = λ plain.
+        let none : IsSome glyphs.select → ⊥ = λ some. plain ((keyed_is w t exactly).0 some) in
+        let gone = t.renamed.unnamed.plain (λ keyed. plain (subst IsSome (sym (ros_is w t)) keyed)) in (
+          look_none FDArray (array_named w ∙ none_array glyphs.select w.put.dictionaries (place w FDArray) none) refl gone.0,
+          look_none FDSelect (select_named w ∙ none_select glyphs.select (place w FDSelect) none) refl gone.1,
+        );
+  }

@@ -110,4 +110,4 @@ module _ (font : FontView) (glyphs : Glyphs) (kept : Bool) (set : CharSetView) (
       has.encoding again.0
       (encoding_stays kept has.encoding encoding font.bytes.now flat font.dictionary new.tables.dictionary has.is_encoding is_encoding
       is.same_codes)
-      again.1 is.unnamed
+      again.1 is.unnamed.keyed

@@ -57,10 +57,15 @@ pub record Repeats (old new : View) : Type 0 where
 abbrev pub NamesNoPrivateIfKeyed : Dictionary → Type 0
 NamesNoPrivateIfKeyed map = IsCidKeyed map → look map operators.Private ≡ None
 
+-- That of another font names neither font dictionaries nor FDSelect.
+pub record NamesItsParts (map : Dictionary) : Type 0 where
+  pub keyed : NamesNoPrivateIfKeyed map
+  pub plain : (IsCidKeyed map → ⊥) → (look map operators.FDArray ≡ None) × (look map operators.FDSelect ≡ None)
+
 -- The new font is made of these glyphs of the old one, in this order, and has no others. Besides it says what the old one says.
 pub record HasGlyphsOf (sources : Sources) (bytes : List ℕ) (old : View) (flat : List ℕ) (new : View) : Type 0 where
   pub header : HasHeader flat
   pub repeats : Repeats old new
-  pub unnamed : NamesNoPrivateIfKeyed new.tables.dictionary
+  pub unnamed : NamesItsParts new.tables.dictionary
   pub many : length new.char_strings ≡ length sources
   pub glyphs : (i : ℕ) → i < length sources → IsMade bytes old (slice_index_or sources i None) flat new i

@@ -27,7 +27,7 @@ pub record IsCutFont (sources : Sources) (bytes : List ℕ) (old : View) (flat :
   pub strings : SameStrings (is_some (look old.tables.dictionary ROS)) sources old sets.old_set new sets.new_set
   pub encoding : GivesWay bytes old flat new
 
--- Kept: the glyphs have the numbers that they had. Strings stay, and names or CIDs of all glyphs; and those of this list keep their codes.
+-- Kept: the glyphs have the numbers that they had. Strings stay, and names or CIDs of all glyphs, and their codes.
 pub record IsKeptFont (sources : Sources) (bytes : List ℕ) (old : View) (flat : List ℕ) (new : View) : Type 0 where
   pub made : HasGlyphsOf sources bytes old flat new
   pub sets : HaveCharSets bytes old flat new

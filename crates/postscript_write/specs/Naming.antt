@@ -44,12 +44,12 @@ pub record GivesWay (bytes : List ℕ) (old : View) (flat : List ℕ) (new : Vie
   pub is : IsEncodingOf new_encoding flat new.tables.dictionary
   pub codes : new_encoding.codes ≡ codes_for old_encoding.codes
 
--- A glyph that keeps its number has the codes that it had.
+-- Each glyph has the codes that it had, also one that is empty now.
 pub record KeepsCodes (sources : Sources) (bytes : List ℕ) (old : View) (flat : List ℕ) (new : View)
     (old_set new_set : CharSetView) : Type 0 where
   pub old_encoding : EncodingView
   pub new_encoding : EncodingView
   pub was : IsEncodingOf old_encoding bytes old.tables.dictionary
   pub is : IsEncodingOf new_encoding flat new.tables.dictionary
-  pub codes : (code glyph : ℕ) → glyph < length sources → slice_index_or sources glyph None ≡ Some glyph →
+  pub codes : (code glyph : ℕ) → glyph < length sources →
       Gives old_encoding old_set code glyph ↔ Gives new_encoding new_set code glyph

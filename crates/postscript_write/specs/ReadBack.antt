@@ -13,7 +13,7 @@ use Rattle.postscript_view.specs.Layout.{IsLaidOut}
 use Rattle.postscript_view.specs.Select.{IsSelected, offset_of}
 use Rattle.postscript_view.specs.declared.char_set.CharSetView.{CharSetView}
 use Rattle.postscript_view.specs.declared.encoding.EncodingView.{EncodingView}
-use Rattle.postscript_write.specs.Fonts.{HasHeader, NamesNoPrivateIfKeyed, Repeats}
+use Rattle.postscript_write.specs.Fonts.{HasHeader, NamesItsParts, Repeats}
 use Rattle.postscript_write.specs.Glyphs.{ShowsPart, Sources}
 use Rattle.postscript_write.specs.Naming.{SameEncoding, codes_for}
 use Rattle.postscript_write.specs.Strings.{AreNamedAs, AreNeeded, KeepsStrings, NameSame}
@@ -79,4 +79,4 @@ pub record IsReadAs (kept : Bool) (sources : Sources) (old : View) (old_set : Ch
   pub written : IsAsWritten numbers codes old flat new
   pub names : HasNames (keeps_strings kept old.tables.dictionary) sources old old_set flat new
   pub same_codes : HasCodes kept encoding flat new.tables.dictionary
-  pub unnamed : NamesNoPrivateIfKeyed new.tables.dictionary
+  pub unnamed : NamesItsParts new.tables.dictionary

@@ -5,7 +5,7 @@ use Rattle.std.specs.Option.{unwrap_or}
 use Rattle.postscript_base.specs.Compact1.Defaults.{look}
 use Rattle.postscript_base.specs.Compact1.Dictionary.{Dictionary}
 use Rattle.postscript_base.specs.declared.compact1.operator.Operator.{Operator}
-use Rattle.postscript_base.specs.declared.compact1.operator.Operator.TheVariants.{Private}
+use Rattle.postscript_base.specs.declared.compact1.operator.Operator.TheVariants.{FDArray, FDSelect, Private}
 use Rattle.postscript_view.specs.Sizes.{IsKeyed}
 use Rattle.postscript_write.specs.Pieces.{place_at}
 use Rattle.postscript_write.specs.Dictionaries.{IsPlaced}
@@ -32,10 +32,17 @@ renamed_if strings operator None = []
 abbrev pub all_renamed : Strings → Dictionary → List Place
 all_renamed strings map = flat_map (λ operator. renamed_if strings operator (identifier_in map operator)) naming
 
--- The dictionary of a CID-keyed font names no private dictionary: its font dictionaries do. Else a dictionary says the same.
+-- an operator that stays: in a CID-keyed font not Private, in another one neither FDArray nor FDSelect
+pub record IsKept (old : Dictionary) (operator : Operator) : Type 0 where
+  pub private : IsKeyed old → operator ≢ Private
+  pub select : (IsKeyed old → ⊥) → (operator ≢ FDArray) × (operator ≢ FDSelect)
+
+-- The dictionary of a CID-keyed font names no private dictionary: its font dictionaries do. That of another font names no font
+-- dictionaries and no FDSelect. Else a dictionary says the same.
 pub record IsUnnamed (old new : Dictionary) : Type 0 where
-  pub same : (operator : Operator) → (IsKeyed old → operator ≢ Private) → look new operator ≡ look old operator
+  pub same : (operator : Operator) → IsKept old operator → look new operator ≡ look old operator
   pub gone : IsKeyed old → look new Private ≡ None
+  pub plain : (IsKeyed old → ⊥) → (look new FDArray ≡ None) × (look new FDSelect ≡ None)
 
 -- So it is written, and with these places.
 pub record IsRenamed (old : Dictionary) (places : List Place) (new : Dictionary) : Type 0 where

@@ -470,7 +470,7 @@ fn renamed(alloc: Global, dictionary: &Operations, strings: &Strings) -> Result<
 }
 
 /// The Top DICT with `ROS` first. In a CID-keyed font an offset of a Private DICT is left out, since the Font DICTs have
-/// them (section 18).
+/// them (section 18). In any other font offsets of Font DICTs and of FDSelect are left out, since it has none.
 fn without_private(alloc: Global, font: &FontView<'_>, text: &[u8]) -> Result<Vec<u8>>
     ensures unnamed { IfOk result (λ out. IsDictionary text.now 0 font.now.dictionary →
         (kept : Dictionary) × IsDictionary out.items 0 kept × IsUnnamed font.now.dictionary kept) }
@@ -481,7 +481,11 @@ fn without_private(alloc: Global, font: &FontView<'_>, text: &[u8]) -> Result<Ve
     if font.is_cid_keyed() {
         return ros_first(alloc, text, &[Operator::ROS, Operator::Private]);
     }
-    ros_first(alloc, text, &[Operator::ROS])
+    ros_first(
+        alloc,
+        text,
+        &[Operator::ROS, Operator::FDArray, Operator::FDSelect],
+    )
 }
 
 /// The Top DICT with new SIDs. In a CID-keyed font it has no Private DICT.

@@ -11,12 +11,12 @@ use Rattle.postscript_write.proofs.Little.{are_little}
 use Rattle.postscript_write.proofs.NamesBack.{names_back}
 use Rattle.postscript_write.proofs.NoByteBeside.{dictionary_is}
 use Rattle.postscript_write.proofs.Put.{tables_stand}
-use Rattle.postscript_write.proofs.ReadAgain.{font_as, one_view}
+use Rattle.postscript_write.proofs.ReadAgain.{font_as, keep_them, one_view}
 use Rattle.postscript_write.proofs.SetStands.{set_there, unnamed_there}
 use Rattle.postscript_write.proofs.Spare.{has_room}
 use Rattle.postscript_write.proofs.WholeAgain.{stays_whole}
 use Rattle.postscript_write.proofs.WrittenBack.{as_written, codes_there, other_codes_there}
-use Rattle.postscript_write.specs.Fonts.{NamesNoPrivateIfKeyed}
+use Rattle.postscript_write.specs.Fonts.{NamesItsParts}
 use Rattle.postscript_write.specs.Given.{AreGiven}
 use Rattle.postscript_write.specs.GivenNumbers.{AreTheirNumbers}
 use Rattle.postscript_write.specs.Numbered.{AreGlyphsFor}
@@ -75,7 +75,7 @@ returns-in-Ok-clause-made c =
             laid.view.tables.dictionary c.requires.sources found.encoding
             (codes_there w t laid.view laid.laid from.encoding.now c.requires.encoding)
             (other_codes_there w t laid.view laid.laid from.encoding.now c.requires.encoding);
-        unnamed = subst NamesNoPrivateIfKeyed (dictionary_is w t laid.view laid.laid) (unnamed_there w t found.selects);
+        unnamed = subst NamesItsParts (dictionary_is w t laid.view laid.laid) (unnamed_there w t found.selects);
       },
     )
 
@@ -87,7 +87,8 @@ returns-in-Ok-clause-font c =
       made.1.laid,
       font_as from.sources.now from.font.now.bytes.now (view_shown from.font.now) from.set.now from.encoding.now from.numbers.now
           (texts from.codes.now) c.in-Ok.flat.items made.0 c.requires.encoding
-          from.retain_gids c.requires.set c.requires.numbers c.requires.codes made.1,
+          from.retain_gids (keep_them from.retain_gids from.set.now _ from.sources.now c.args.identifiers.now c.requires.sources)
+          c.requires.set c.requires.numbers c.requires.codes made.1,
     )
 
 pub returns-in-Ok-clause-whole : goal.returns-in-Ok-clause-whole
