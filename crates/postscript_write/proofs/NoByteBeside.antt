@@ -36,7 +36,7 @@ use Rattle.postscript_write.proofs.PartsWritten.{has_dictionary}
 use Rattle.postscript_write.proofs.Pieces.{all_end as texts_end, texts_in}
 use Rattle.postscript_write.proofs.PlacesNamed.{named_by, kept_of, whole_is}
 use Rattle.postscript_write.proofs.PrivatesStand.{EndsBehind, all_end, one_dictionary, private_ends}
-use Rattle.postscript_write.proofs.Put.{dictionaries_stand, encoding_named, end_is, each_held, named, pieces, place, select_named, set_named, some_tables, stand}
+use Rattle.postscript_write.proofs.Put.{privates_stand, dictionaries_stand, encoding_named, end_is, each_held, named, pieces, place, select_named, set_named, some_tables, stand}
 use Rattle.postscript_write.proofs.Rests.{none_fit}
 use Rattle.postscript_write.proofs.TablesStand.{TablesStand, tables_length, tables_there}
 
@@ -74,7 +74,7 @@ module _ {font : FontView} {glyphs : Glyphs} {codes : List (List ℕ)} {out : Li
   keyed_each : (items : List (List ℕ)) → IsRead font → IsSome glyphs.select → NamesIndex font.bytes.now font.dictionary FDArray items →
       ArePartsOf font.bytes.now items (parts_shown font.parts.items) →
       (length w.privates ≡ length w.put.dictionaries) × ((k : ℕ) (own : Dictionary) → k < length w.put.dictionaries → IsDictionary
-      (get_or w.put.dictionaries k []) 0 own → EndsBehind own (get_or w.privates k None) (private_offset (place w Private) w.privates k))
+      (get_or w.put.dictionaries k []) 0 own → EndsBehind out own (get_or w.privates k None) (private_offset (place w Private) w.privates k))
   keyed_each items read some names are =
       let start : ℕ = place w Private in
       let parts = parts_shown font.parts.items in
@@ -90,38 +90,41 @@ module _ {font : FontView} {glyphs : Glyphs} {codes : List (List ℕ)} {out : Li
             let private : Option OwnPrivate = get_or w.privates k None in
             let unnamed = λ (e : private ≡ None). subst (λ m. first_two_of (look (unwrap_or m font.dictionary) Private) ≡ None) has.font
             (w.none_named k has.part has.there e) in
-            subst (λ m. EndsBehind m private (private_offset start w.privates k)) same
-            (private_ends has.map new.0 private (private_offset start w.privates k) (new.2 Private) (fonts.held k within) unnamed),
+            subst (λ m. EndsBehind out m private (private_offset start w.privates k)) same
+            (private_ends out has.map new.0 has.part private (private_offset start w.privates k) (new.2 Private) (fonts.held k within) unnamed
+            (privates_stand w k (let many = own.many in omega (arith, within, long, many))) (own.each k has.part has.there)),
       )
 
   privates_end : (parts : List PrivateDict) → IsRead font → SelectsExactly font glyphs → AreParts out t.new parts →
-      PrivatesEnd t.new parts (place w Private) (place w FDArray)
+      PrivatesEnd out t.new parts (place w Private) (place w FDArray)
   privates_end parts read exactly are = by are
     where
       at : ℕ
       at = place w Private
 
       single : (part : PrivateDict) (ps : List (Option OwnPrivate)) → part.font ≡ None → length ps ≡ 1 →
-          EndsBehind t.new (get_or ps 0 None) at → PrivatesEnd t.new (part ∷ []) at (at + length (privates_text ps))
+          EndsBehind out t.new (get_or ps 0 None) at → PrivatesEnd out t.new (part ∷ []) at (at + length (privates_text ps))
       single part [] no_font many ends = absurd (omega (arith, many))
       single part (p ∷ q ∷ ps) no_font many ends = absurd (omega (arith, many))
       single part (p ∷ []) no_font many ends =
-          (_, subst (λ f. EndsBehind (unwrap_or f t.new) p at) (sym no_font) ends, omega (arith, length-append (private_text p) []))
+          (_, subst (λ f. EndsBehind out (unwrap_or f t.new) p at) (sym no_font) ends, omega (arith, length-append (private_text p) []))
 
       plain : look font.dictionary ROS ≡ None → (part : PrivateDict) → part.font ≡ None → (IsSome glyphs.select → ⊥) →
           AreParts font.bytes.now font.dictionary (parts_shown font.parts.items) →
-          PrivatesEnd t.new (part ∷ []) at (at + length (privates_text w.privates))
+          PrivatesEnd out t.new (part ∷ []) at (at + length (privates_text w.privates))
       plain none part no_font unselected (OfFont was no_ros is one) =
           let has = has_only w t was read unselected none is.1 one in
           single part w.privates no_font has.many
-          (private_ends font.dictionary t.new (get_or w.privates 0 None) at has.is has.held has.none)
+          (private_ends out font.dictionary t.new was (get_or w.privates 0 None) at has.is has.held has.none
+          (let first : private_offset at w.privates 0 ≡ at = omega arith in let many = has.many in
+          subst (λ n. TextStands (private_text (get_or w.privates 0 None)) out n) first (privates_stand w 0 (omega (arith, many)))) has.own)
       plain none part no_font unselected (OfFontDictionaries items has_ros names old) =
           let never = subst IsSome none has_ros in absurd (cc)
 
-      by : AreParts out t.new parts → PrivatesEnd t.new parts at (at + length (privates_text w.privates))
+      by : AreParts out t.new parts → PrivatesEnd out t.new parts at (at + length (privates_text w.privates))
       by (OfFont part no_ros is list) =
           let unselected = λ (some : IsSome glyphs.select). let never = subst IsSome no_ros ((keyed_is w t exactly).0 some) in absurd (cc) in
-          subst (λ ps. PrivatesEnd t.new ps at (at + length (privates_text w.privates))) (sym list)
+          subst (λ ps. PrivatesEnd out t.new ps at (at + length (privates_text w.privates))) (sym list)
           (plain (sym (ros_is w t) ∙ no_ros) part is.1 unselected read.laid.parts)
       by (OfFontDictionaries items has_ros names parts_are) =
           let some = (keyed_is w t exactly).1 has_ros in

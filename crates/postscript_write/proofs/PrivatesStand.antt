@@ -13,21 +13,25 @@ use Rattle.postscript_compact1.specs.FontSet.Parts.{HasTwo}
 use Rattle.postscript_view.specs.Contents.{PrivateDict}
 use Rattle.postscript_view.specs.Layout.{ArePartsOf}
 use Rattle.postscript_write.specs.Dictionaries.{IsHeld}
-use Rattle.postscript_write.specs.Privates.{place_of_private, private_offset, private_text, privates_text}
+use Rattle.postscript_write.specs.Privates.{IsOwnPrivate, place_of_private, private_offset, private_text, privates_text}
+use Rattle.postscript_write.specs.Once.{IsToldOnce}
+use Rattle.postscript_write.specs.Texts.{TextStands}
 use Rattle.postscript_write.specs.Whole.{PrivateEnds, PrivatesEnd}
 use Rattle.postscript_write.specs.declared.layout.Private.{Private}
+use Rattle.postscript_write.proofs.Standing.{stands_slice}
 use Rattle.postscript_write.proofs.PlacesNamed.{named_by, whole_is}
 
 -- the private dictionary that a dictionary names ends behind its text
-abbrev pub EndsBehind : Dictionary → Option Private → (offset : ℕ) → Type 0
-EndsBehind map private offset = PrivateEnds map offset (offset + length (private_text private))
+abbrev pub EndsBehind : (out : List ℕ) → Dictionary → Option Private → (offset : ℕ) → Type 0
+EndsBehind out map private offset = PrivateEnds out map offset (offset + length (private_text private))
 
-pub private_ends : (old new : Dictionary) (private : Option Private) (offset : ℕ) →
+pub private_ends : (out : List ℕ) (old new : Dictionary) (part : PrivateDict) (private : Option Private) (offset : ℕ) →
     look new operators.Private ≡ option_or (named_by (place_of_private private offset) operators.Private)
     (look old operators.Private) → All IsHeld (place_of_private private offset) →
-    (private ≡ None → first_two_of (look old operators.Private) ≡ None) → EndsBehind new private offset
-private_ends old new None offset is held none = inl (ap first_two_of is ∙ none refl, omega arith)
-private_ends old new (Some private) offset is held none =
+    (private ≡ None → first_two_of (look old operators.Private) ≡ None) → TextStands (private_text private) out offset → IsOwnPrivate part private →
+    EndsBehind out new private offset
+private_ends out old new part None offset is held none stands own = inl (ap first_two_of is ∙ none refl, omega arith)
+private_ends out old new part (Some private) offset is held none stands own =
     let text : List ℕ = private.text.items in
     let one : IsHeld (record { operator = operators.Private; size = Some (length text); offset = offset }) = held 0
     (record { operator = operators.Private; size = Some (length text); offset = offset }) (omega arith) in
@@ -35,7 +39,7 @@ private_ends old new (Some private) offset is held none =
     let low : offset < 2 ^ 31 = one.1.1.0 in
     let two : HasTwo new operators.Private (pos (length text))
     (pos offset) = (whole (pos (length text)), whole (pos offset), ap first_two_of is, whole_is (length text) few, whole_is offset low) in
-    inr (length text, two, refl)
+    inr (length text, two, refl, subst IsToldOnce (sym (stands_slice text stands)) own.3)
 
 same_got : {A : Type 0} (x y : A) (n : ℕ) → Got x n ≡ Got y n → x ≡ y
 same_got x y n e = cc
@@ -47,9 +51,9 @@ one_dictionary text a b x y = same_got a b (length text) (sym (reads_dictionarie
 pub all_end : (map : Dictionary) (out : List ℕ) (texts : List (List ℕ)) (parts : List PrivateDict) (privates : List (Option Private))
     (start : ℕ) → ArePartsOf out texts parts →
     length privates ≡ length texts →
-    ((k : ℕ) (own : Dictionary) → k < length texts → IsDictionary (get_or texts k []) 0 own → EndsBehind own (get_or privates k None)
+    ((k : ℕ) (own : Dictionary) → k < length texts → IsDictionary (get_or texts k []) 0 own → EndsBehind out own (get_or privates k None)
     (private_offset start privates k)) →
-    PrivatesEnd map parts start (start + length (privates_text privates))
+    PrivatesEnd out map parts start (start + length (privates_text privates))
 all_end map out [] [] [] start are many each = omega arith
 all_end map out [] [] (p ∷ ps) start are many each = absurd (omega (arith, many))
 all_end map out [] (part ∷ parts) privates start are many each = absurd are
@@ -60,12 +64,12 @@ all_end map out (text ∷ texts) (part ∷ parts) (p ∷ ps) start are many each
     let font : part.font ≡ Some own = are.2.1 in
     let behind : ℕ = start + length (private_text p) in
     let zeroth : private_offset start (p ∷ ps) 0 ≡ start = omega arith in
-    let first = subst (λ n. EndsBehind own p n) zeroth (each 0 own (omega arith) are.1) in
+    let first = subst (λ n. EndsBehind out own p n) zeroth (each 0 own (omega arith) are.1) in
     let later = λ (k : ℕ) (map : Dictionary) (less : k < length texts) (is : IsDictionary (get_or texts k []) 0 map).
     let next : private_offset start (p ∷ ps) (suc k) ≡ private_offset behind ps k = omega
     (arith, length-append (private_text p) (privates_text (take k ps))) in
-    subst (λ n. EndsBehind map (get_or ps k None) n) next (each (suc k) map (omega (arith, less)) is) in
+    subst (λ n. EndsBehind out map (get_or ps k None) n) next (each (suc k) map (omega (arith, less)) is) in
     let rest = all_end map out texts parts ps behind are.3 (omega (arith, many)) later in
     let end : behind + length (privates_text ps) ≡ start + length (privates_text (p ∷ ps)) = omega
     (arith, length-append (private_text p) (privates_text ps)) in
-    (behind, subst (λ f. PrivateEnds (unwrap_or f map) start behind) (sym font) first, subst (λ n. PrivatesEnd map parts behind n) end rest)
+    (behind, subst (λ f. PrivateEnds out (unwrap_or f map) start behind) (sym font) first, subst (λ n. PrivatesEnd out map parts behind n) end rest)

@@ -1,6 +1,6 @@
 -- No byte stands beside the parts of a font: where each begins, and where it ends (Technical Note 5176, sections 2, 5, 7 to 10, 12 to 16,
 -- 18 and 19).
-use Rattle.std.specs.Prelude.{◌≡◌, ◌⊎◌, ℕ, ◌+◌, ◌-◌, ◌*◌, ◌%◌, ◌<◌, ◌≤◌, pos, List, [], ◌∷◌, length, drop, Some, None}
+use Rattle.std.specs.Prelude.{◌≡◌, ◌⊎◌, ℕ, ◌+◌, ◌-◌, ◌*◌, ◌%◌, ◌<◌, ◌≤◌, pos, List, [], ◌∷◌, length, take, drop, Some, None}
 use Rattle.std.specs.Option.{unwrap_or}
 use Rattle.postscript_base.specs.Compact1.Defaults.{look, first_two_of}
 use Rattle.postscript_base.specs.Compact1.Dictionary.{Dictionary}
@@ -13,6 +13,7 @@ use Rattle.postscript_view.specs.Cids.{IsCidKeyed}
 use Rattle.postscript_view.specs.Layout.{IsLaidOut}
 use Rattle.postscript_view.specs.Contents.{PrivateDict, View}
 use Rattle.postscript_view.specs.Select.{offset_of}
+use Rattle.postscript_write.specs.Once.{IsToldOnce}
 
 -- An INDEX begins at a place and ends at its last offset. Its offsets begin with 1 and do not fall, so that each byte is of an item.
 abbrev pub IndexEnds : List ℕ → (place next : ℕ) → Type 0
@@ -80,11 +81,12 @@ abbrev pub KeyedEnds : Dictionary → Operator → (ends : ℕ → ℕ → Type 
 KeyedEnds map operator ends place next =
     ((IsCidKeyed map → ⊥) × (next ≡ place)) ⊎ (IsCidKeyed map × (offset_of map operator ≡ Some place) × ends place next)
 
--- the private dictionary that a dictionary names, of its size, where it names one
-abbrev pub PrivateEnds : Dictionary → (place next : ℕ) → Type 0
-PrivateEnds map place next =
+-- the private dictionary that a dictionary names, of its size, where it names one: it tells each operator once
+abbrev pub PrivateEnds : List ℕ → Dictionary → (place next : ℕ) → Type 0
+PrivateEnds bytes map place next =
     ((first_two_of (look map operators.Private) ≡ None) × (next ≡ place))
-    ⊎ ((size : ℕ) × HasTwo map operators.Private (pos size) (pos place) × (next ≡ place + size))
+    ⊎ ((size : ℕ) × HasTwo map operators.Private (pos size) (pos place) × (next ≡ place + size)
+    × IsToldOnce (take size (drop place bytes)))
 
 -- a part that each font has
 abbrev pub NamedEnds : Dictionary → Operator → (ends : ℕ → ℕ → Type 0) → (place next : ℕ) → Type 0
@@ -92,10 +94,10 @@ NamedEnds map operator ends place next = (offset_of map operator ≡ Some place)
 
 -- The private dictionaries stand one behind another, in the order of the parts. The dictionary of the font names that of the only part
 -- of a font that is not CID-keyed.
-abbrev pub PrivatesEnd : Dictionary → List PrivateDict → (place next : ℕ) → Type 0
-PrivatesEnd map [] place next = next ≡ place
-PrivatesEnd map (part ∷ parts) place next = (behind : ℕ) × PrivateEnds (unwrap_or part.font map) place behind
-    × PrivatesEnd map parts behind next
+abbrev pub PrivatesEnd : List ℕ → Dictionary → List PrivateDict → (place next : ℕ) → Type 0
+PrivatesEnd bytes map [] place next = next ≡ place
+PrivatesEnd bytes map (part ∷ parts) place next = (behind : ℕ) × PrivateEnds bytes (unwrap_or part.font map) place behind
+    × PrivatesEnd bytes map parts behind next
 
 -- the parts of a font, in their order
 abbrev pub parts_of : (flat : List ℕ) → View → List (ℕ → ℕ → Type 0)
@@ -106,7 +108,7 @@ parts_of flat new =
     ∷ OwnEnds map operators.Encoding 2 (EncodingEnds flat)
     ∷ KeyedEnds map operators.FDSelect (SelectEnds flat glyphs)
     ∷ NamedEnds map operators.CharStrings (IndexEnds flat)
-    ∷ PrivatesEnd map new.parts
+    ∷ PrivatesEnd flat map new.parts
     ∷ KeyedEnds map operators.FDArray (IndexEnds flat)
     ∷ OwnEnds map operators.CharSet 3 (CharSetEnds flat glyphs)
     ∷ []

@@ -67,7 +67,7 @@ pub fn flat_font(alloc: Global, bytes: &[u8]) -> Result<Vec<u8>>
     ensures same { IfOk result (λ flat. KeepsGlyphs the_every bytes.now flat.items) }
     // The new font has the old glyphs under their numbers and no subroutines, and is well formed.
     ensures written { IfOk result (λ flat. IsWritten IsKeptFont the_every bytes.now flat.items) }
-    // The output has no bytes outside the parts of the font.
+    // No bytes are outside the parts of the font, and a Private DICT has no operator twice.
     ensures whole { IfOk result (λ flat. IsWholeFont flat.items) }
     // No operator occurs twice in the Top DICT or in a Font DICT.
     ensures once { IfOk result (λ flat. TellsOnce flat.items) }
@@ -176,7 +176,7 @@ pub fn subset(alloc: Global, bytes: &[u8], named: &[usize]) -> Result<Vec<u8>>
     ensures same { IfOk result (λ flat. GlyphsKept the_chosen named.now bytes.now flat.items) }
     // The new font is well formed and has exactly the kept glyphs, in ascending order.
     ensures written { IfOk result (λ flat. IsSubset IsCutFont the_chosen named.now bytes.now flat.items) }
-    // The output has no bytes outside the parts of the font.
+    // No bytes are outside the parts of the font, and a Private DICT has no operator twice.
     ensures whole { IfOk result (λ flat. IsWholeFont flat.items) }
     // No operator occurs twice in the Top DICT or in a Font DICT.
     ensures once { IfOk result (λ flat. TellsOnce flat.items) }
@@ -218,7 +218,7 @@ pub fn subset_keeping(alloc: Global, bytes: &[u8], named: &[usize]) -> Result<Ve
     ensures same { IfOk result (λ flat. GlyphsKept the_keeping named.now bytes.now flat.items) }
     // The new font is well formed and has all glyph numbers: kept glyphs, and empty ones.
     ensures written { IfOk result (λ flat. IsSubset IsKeptFont the_keeping named.now bytes.now flat.items) }
-    // The output has no bytes outside the parts of the font.
+    // No bytes are outside the parts of the font, and a Private DICT has no operator twice.
     ensures whole { IfOk result (λ flat. IsWholeFont flat.items) }
     // No operator occurs twice in the Top DICT or in a Font DICT.
     ensures once { IfOk result (λ flat. TellsOnce flat.items) }
