@@ -4,7 +4,7 @@
  * each call returns, reads only its input, writes only its output buffers, and keeps no pointer. What each result means is
  * proved too: see docs/c.md and docs/API.md.
  *
- * Obligations of the caller, for each call:
+ * For each call, the caller must ensure:
  *
  *   - Each pointer points to as many bytes or elements as the length next to it says, and is aligned for its type.
  *   - No pointer is null. If a length is 0, pass the address of any variable; it is not read.
@@ -20,8 +20,9 @@
  *
  * Time and memory: a call with a psf_font runs a glyph, with the components of a seac glyph, for at most font->limit units. An
  * operator with the numbers before it costs one unit per byte, a roll 4,096 more, a sqrt 8 more. psf_font_open sets the limit
- * to PSF_LIMIT; you may change it. Memory is proportional to the result, which grows with the limit. psf_font_flat and
- * psf_font_subset take a limit for the whole font. docs/limits.md lists what else takes time, and what was measured.
+ * to PSF_LIMIT; you may change it. Memory grows with the result, the numbers on the stack and the DICTs, so it grows with
+ * the limit. psf_font_flat and psf_font_subset take a limit for the whole font. docs/limits.md lists what else takes time, and
+ * what was measured.
  *
  * The library is built for 64-bit machines only.
  *
@@ -140,8 +141,7 @@ typedef struct psf_part {
     int64_t nominal_width;      /* nominalWidthX: added to the width of a charstring */
 } psf_part;
 
-/* The limit that psf_font_open sets, in units. Outside of charstrings, the steps of a call are bounded by the size of its input,
- * times the number of Font DICTs at most; see docs/limits.md. */
+/* The limit that psf_font_open sets, in units. docs/limits.md says what bounds the other steps of each call. */
 #define PSF_LIMIT 20000000u
 
 /* A font: the offsets of its parts. You may copy, store and send it. With other field values a call returns another result or
@@ -213,7 +213,7 @@ typedef struct psf_instance {
 
 /* Details of an error of psf_font_flat and psf_font_subset. */
 typedef struct psf_refusal {
-    uint64_t glyph; /* the glyph of the error; 0 if there is none */
+    uint64_t glyph; /* the glyph of the error; 0 if there is none. On PSF_TOO_LARGE, 0 is .notdef or no glyph */
     int32_t cause;  /* on PSF_REFUSED_GLYPH the error of the glyph; otherwise 0 */
 } psf_refusal;
 
@@ -244,8 +244,9 @@ int32_t psf_map_characters(const uint8_t *cmap, size_t length, psf_character *ch
 /* Opens the first font of a CFF table. Errors: from 1 to 15. */
 int32_t psf_font_open(const uint8_t *cff, size_t length, psf_font *font);
 
-/* Checks whether each glyph of a font ends within a limit. A small font can nest subroutine calls so that a glyph takes years.
- * A glyph with an error costs the length of the longest charstring or subroutine, plus one unit for each subroutine.
+/* Checks whether all glyphs of a font end within a limit that they share. A small font can nest subroutine calls so that a glyph
+ * takes years.
+ * A glyph with an error costs the length of its charstring or of the longest subroutine, plus one unit for each subroutine.
  * On PSF_OK each glyph ends, or has an error, within the *limit that was given, and *limit is reduced by the cost of all.
  * On PSF_TOO_LONG the glyphs together cost at least the limit, and *limit is 0. On PSF_MEMORY *limit may have any value. On any
  * other error the font is malformed, and *limit is unchanged. */
@@ -288,8 +289,8 @@ int32_t psf_glyph_operations(const uint8_t *cff, size_t length, const psf_font *
  * advance, codes, and name or CID.
  * The font must pass psf_font_fits with this limit, otherwise the call returns PSF_TOO_LONG. A good limit is 20 * PSF_LIMIT.
  * Sets *count to the size on PSF_OK and PSF_NO_ROOM; on all other errors sets *refusal instead. Other errors: PSF_REFUSED_GLYPH,
- * PSF_SEVERAL_FONTS, PSF_NO_PART, PSF_NO_NAME, PSF_TOO_LARGE (also with a glyph whose charstring would have more than 65,535
- * bytes), and from 1 to 16. */
+ * PSF_SEVERAL_FONTS, PSF_NO_PART, PSF_TOO_LARGE (also with a glyph whose charstring would have more than 65,535 bytes), and from 1
+ * to 16. */
 int32_t psf_font_flat(const uint8_t *cff, size_t length, uint64_t limit, uint8_t *flat, size_t room, size_t *count,
                       psf_refusal *refusal);
 
@@ -297,7 +298,7 @@ int32_t psf_font_flat(const uint8_t *cff, size_t length, uint64_t limit, uint8_t
  * subset[0..room].
  * If keeps is 0, glyphs get new numbers in ascending order, and a custom encoding is replaced by the standard one. Otherwise
  * glyphs keep their numbers, and all others are empty.
- * Outputs and errors are those of psf_font_flat, and PSF_NO_GLYPHS, PSF_NO_GLYPH. */
+ * Outputs and errors are those of psf_font_flat, and PSF_NO_GLYPHS, PSF_NO_GLYPH, and PSF_NO_NAME if keeps is 0. */
 int32_t psf_font_subset(const uint8_t *cff, size_t length, const size_t *glyphs, size_t named, uint32_t keeps,
                         uint64_t limit, uint8_t *subset, size_t room, size_t *count, psf_refusal *refusal);
 

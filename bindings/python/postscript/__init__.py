@@ -211,7 +211,7 @@ class Error(Exception):
 
 
 class WriteError(Error):
-    """A font was not written. `glyph` is the glyph that caused it, if one did. For `Status.REFUSED_GLYPH`, `cause` is the error of
+    """A font was not written. `glyph` is the glyph that caused it, or None, as for `Status.TOO_LARGE`. For `Status.REFUSED_GLYPH`, `cause` is the error of
     that glyph."""
 
     def __init__(self, status: int, glyph: int, cause: int) -> None:
@@ -640,7 +640,7 @@ class Font:
         return int(self._font.limit)
 
     def fits(self, limit: int) -> bool:
-        """Returns whether each glyph ends, or has an error, within `limit` units."""
+        """Returns whether all glyphs end, or have an error, within `limit` units that they share."""
         status = _library.psf_font_fits(*self._view.told, byref(c_uint64(limit)))
         if status == Status.TOO_LONG:
             return False
@@ -744,13 +744,13 @@ class Glyph:
 
     def flat_code(self) -> bytes:
         """Returns the charstring without subroutine calls. With any subroutines it has the operations and the width of the glyph.
-        Raises `Status.TOO_LONG` beyond the limit."""
+        Raises `Error` with `Status.TOO_LONG` beyond the limit."""
         cff, font = self.font._view, byref(self.font._font)
         return _bytes_of(lambda *lent: _library.psf_glyph_flat(*cff.told, font, self.number, *lent), self.number)
 
     def operations(self) -> List[Operation]:
         """Returns the operations in order: subroutines are called, the width is removed, and arithmetic is done. `endchar` is not
-        included. A `seac` glyph has only its own. Raises `Status.TOO_LONG` beyond the limit."""
+        included. A `seac` glyph has only its own. Raises `Error` with `Status.TOO_LONG` beyond the limit."""
         cff, font = self.font._view, byref(self.font._font)
         room, operand_room, count, operand_count = 64, 256, c_size_t(), c_size_t()
         while True:
