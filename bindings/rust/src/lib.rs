@@ -231,7 +231,7 @@ impl<'a> Font<'a> {
         self
     }
 
-    /// Returns whether each glyph ends, or has an error, within the limit, and takes the cost of all glyphs off it.
+    /// Returns whether all glyphs end, or have an error, within a limit that they share, and subtracts their cost from it.
     ///
     /// ```
     /// # let bytes = std::fs::read("examples/small.otf")?;
