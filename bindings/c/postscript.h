@@ -47,8 +47,7 @@ extern "C" {
 /* The version of this header: major, minor and patch number, a byte each. psf_version returns the library's. */
 #define PSF_VERSION 0x000200u
 
-/* Statuses. psf_status_text returns a sentence for each. "Unused": no call of this header returns it, except that the error of
- * a broken charset may be any number from 1 to 30. */
+/* Statuses. psf_status_text returns a sentence for each. "Unused": no call of this header returns it. */
 enum {
     PSF_OK = 0,
     PSF_UNEXPECTED_EOF = 1,               /* the data ends early, or an offset points past the end */
@@ -225,16 +224,16 @@ uint32_t psf_version(void);
 int32_t psf_status_text(int32_t status, uint8_t *text, size_t room, size_t *count);
 
 /* Counts the faces of an OpenType file: one, or those of a collection.
- * On an error *faces may have any value. Errors: PSF_CUT_FILE, PSF_UNKNOWN_FILE. */
+ * On an error *faces is unchanged. Errors: PSF_CUT_FILE, PSF_UNKNOWN_FILE. */
 int32_t psf_file_faces(const uint8_t *file, size_t length, size_t *faces);
 
 /* Finds a table of a face: the first record with this tag whose table lies within the file.
  * On PSF_OK, *place is its offset in the file and *size its length, and *place + *size is at most length.
- * On an error both may have any value. Errors: PSF_NO_TABLE, PSF_CUT_FILE, PSF_UNKNOWN_FILE, PSF_NO_FACE. */
+ * On an error both are unchanged. Errors: PSF_NO_TABLE, PSF_CUT_FILE, PSF_UNKNOWN_FILE, PSF_NO_FACE. */
 int32_t psf_file_table(const uint8_t *file, size_t length, size_t face, uint32_t tag, size_t *place, size_t *size);
 
 /* Looks up the glyph of a character in a cmap table, in its best subtable of format 4, 6 or 12.
- * On PSF_OK *glyph is the glyph, or 0 if there is none. On an error *glyph may have any value. Errors: PSF_NO_MAP. */
+ * On PSF_OK *glyph is the glyph, or 0 if there is none. On an error *glyph is unchanged. Errors: PSF_NO_MAP. */
 int32_t psf_map_glyph(const uint8_t *cmap, size_t length, uint32_t character, size_t *glyph);
 
 /* Lists all characters that have a glyph in the same subtable, in ascending order, in characters[0..room].
@@ -303,19 +302,19 @@ int32_t psf_font_subset(const uint8_t *cff, size_t length, const size_t *glyphs,
                         uint64_t limit, uint8_t *subset, size_t room, size_t *count, psf_refusal *refusal);
 
 /* Writes the name of a glyph, without a terminating 0, to name[0..room]. The glyphs of a CID-keyed font have no names.
- * Sets *count to its length on PSF_OK and PSF_NO_ROOM. Other errors: PSF_NO_NAME, and from 1 to 30. */
+ * Sets *count to its length on PSF_OK and PSF_NO_ROOM. Other errors: PSF_NO_NAME, and from 1 to 15. */
 int32_t psf_glyph_name(const uint8_t *cff, size_t length, size_t glyph, uint8_t *name, size_t room, size_t *count);
 
 /* Lists the charset in identifiers[0..room]: for each glyph the SID of its name, or the CID in a CID-keyed font; -1 if a glyph
  * has neither. psf_font_string returns the string of a SID.
- * Sets *count to the number of glyphs on PSF_OK and PSF_NO_ROOM. Other errors: from 1 to 30. */
+ * Sets *count to the number of glyphs on PSF_OK and PSF_NO_ROOM. Other errors: from 1 to 15. */
 int32_t psf_font_identifiers(const uint8_t *cff, size_t length, int32_t *identifiers, size_t room, size_t *count);
 
 /* Writes the string of a SID, standard or from the String INDEX, without a terminating 0, to string[0..room].
  * Sets *count to its length on PSF_OK and PSF_NO_ROOM. Other errors: PSF_NO_NAME, and from 1 to 15. */
 int32_t psf_font_string(const uint8_t *cff, size_t length, uint16_t identifier, uint8_t *string, size_t room, size_t *count);
 
-/* Finds the first glyph with a name. Errors: PSF_NO_GLYPH, and from 1 to 30. */
+/* Finds the first glyph with a name. Errors: PSF_NO_GLYPH, and from 1 to 15. */
 int32_t psf_named_glyph(const uint8_t *cff, size_t length, const uint8_t *name, size_t name_length, size_t *glyph);
 
 /* Returns axis i of a variable font in *axis. Sets *count to the number of axes on PSF_OK and PSF_NO_AXIS.

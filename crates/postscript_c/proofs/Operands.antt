@@ -3,18 +3,10 @@ use Rattle.std.proofs.Common.{◌≡◌, refl, sym, ap, ◌∙◌, ℕ, ◌+◌,
 use Rattle.std.proofs.lemmas.List.{append_assoc, append-nil, drop-append-le, drop_at, length-append, length-drop, length-map, map-append, take-append-le}
 use Rattle.std.proofs.Math.Seq.{take-append_seam}
 use Rattle.std.specs.Prelude.{Some}
-use Rattle.postscript_c.specs.Operations.{Row, row_of, slice, answered, held}
+use Rattle.postscript_c.specs.Operations.{AllLieIn, LiesIn, Row, row_of, slice, answered, held}
 use Rattle.postscript_c.specs.declared.operations.PsfOperation.{PsfOperation}
 use Rattle.postscript_type2.specs.Operation.Operators.{operator_of}
 use Rattle.postscript_type2.specs.Program.Runs.{Answer}
-
--- its numbers are there
-abbrev pub AreTheirs : (numbers : List ℤ) → PsfOperation → Type 0
-AreTheirs numbers row = row.first + row.count + row.stems + row.mask ≤ length numbers
-
-abbrev pub AllTheirs : (numbers : List ℤ) → List PsfOperation → Type 0
-AllTheirs numbers [] = Unit {0}
-AllTheirs numbers (row ∷ rows) = AreTheirs numbers row × AllTheirs numbers rows
 
 -- those of an earlier operation stay its own
 stays : (xs ys : List ℤ) (place count : ℕ) → place + count ≤ length xs → slice place count (xs ++ ys) ≡ slice place count xs
@@ -23,7 +15,7 @@ stays xs ys place count there =
     ap (take count) (drop-append-le place xs ys (omega (arith, there)))
     ∙ take-append-le count (drop place xs) ys (omega (arith, there, same))
 
-held_more : (xs ys : List ℤ) (row : PsfOperation) → AreTheirs xs row → held (xs ++ ys) row ≡ held xs row
+held_more : (xs ys : List ℤ) (row : PsfOperation) → LiesIn xs row → held (xs ++ ys) row ≡ held xs row
 held_more xs ys row theirs =
     let op = operator_of row.operator in
     let second = row.first + row.count in
@@ -35,7 +27,7 @@ held_more xs ys row theirs =
     ∙ ap (λ own. row_of op (slice row.first row.count xs) (slice second row.stems xs) own)
     (stays xs ys third row.mask (omega (arith, theirs)))
 
-rows_more : (xs ys : List ℤ) (rows : List PsfOperation) → AllTheirs xs rows → map (held (xs ++ ys)) rows ≡ map (held xs) rows
+rows_more : (xs ys : List ℤ) (rows : List PsfOperation) → AllLieIn xs rows → map (held (xs ++ ys)) rows ≡ map (held xs) rows
 rows_more xs ys [] theirs = refl
 rows_more xs ys (row ∷ rows) theirs =
     ap (λ first. first ∷ map (held (xs ++ ys)) rows) (held_more xs ys row theirs.0)
@@ -88,7 +80,7 @@ held_last xs ys ss ms code answer last =
 -- one operation more is listed, and one fewer is left
 pub one_more : (xs ys ss : List ℤ) (ms : List ℕ) (rows : List PsfOperation) (code : ℕ) (answer : Answer) (rest answers : List Answer)
     (all : List Row)
-    → Last ys ss ms code answer → answers ≡ answer ∷ rest → AllTheirs xs rows → map (held xs) rows ++ map answered answers ≡ all
+    → Last ys ss ms code answer → answers ≡ answer ∷ rest → AllLieIn xs rows → map (held xs) rows ++ map answered answers ≡ all
     → map (held (all_of xs ys ss ms)) (rows ++ last_row xs ys ss ms code ∷ []) ++ map answered rest ≡ all
 one_more xs ys ss ms rows code answer rest answers all last left theirs whole =
     let row = last_row xs ys ss ms code in
@@ -99,8 +91,8 @@ one_more xs ys ss ms rows code answer rest answers all last left theirs whole =
     ∙ ap (λ last. before ++ last ∷ []) (held_last xs ys ss ms code answer last))
     ∙ append_assoc before (answered answer ∷ []) (map answered rest) ∙ ap (λ left. before ++ map answered left) (sym left) ∙ whole
 
-pub theirs_too : (xs ys ss : List ℤ) (ms : List ℕ) (rows : List PsfOperation) (code : ℕ) → AllTheirs xs rows →
-    AllTheirs (all_of xs ys ss ms) (rows ++ last_row xs ys ss ms code ∷ [])
+pub theirs_too : (xs ys ss : List ℤ) (ms : List ℕ) (rows : List PsfOperation) (code : ℕ) → AllLieIn xs rows →
+    AllLieIn (all_of xs ys ss ms) (rows ++ last_row xs ys ss ms code ∷ [])
 theirs_too xs ys ss ms [] code theirs = (
   omega (
     arith,

@@ -14,9 +14,10 @@ file_code Cut = 33
 file_code UnknownVersion = 34
 file_code NoSuchFace = 35
 
--- how many faces, or why the file has no number of them
-abbrev pub TellsFaces : List ℕ → (status : ℤ) → (faces : ℕ) → Type 0
-TellsFaces bytes status faces = ((status ≡ pos 0) × HasFaces bytes faces) ⊎ ((e : Error) × (status ≡ pos (file_code e)) × NoFaces e bytes)
+-- how many faces, or why the file has no number of them: then the number is as it was
+abbrev pub TellsFaces : List ℕ → (status : ℤ) → (old faces : ℕ) → Type 0
+TellsFaces bytes status old faces = ((status ≡ pos 0) × HasFaces bytes faces)
+    ⊎ ((e : Error) × (status ≡ pos (file_code e)) × NoFaces e bytes × (faces ≡ old))
 
 -- a face begins at a place, and its directory lists so many tables
 pub record HasDirectory (bytes : List ℕ) (face start count : ℕ) : Type 0 where
@@ -33,12 +34,20 @@ abbrev pub LacksTable : List ℕ → (face tag : ℕ) → Type 0
 LacksTable bytes face tag = (start : ℕ) × (count : ℕ) × HasDirectory bytes face start count
     × ((i : ℕ) → i < count → Names bytes start tag i → ⊥)
 
--- where a table stands, or that there is none, or why there is no such face
-abbrev pub TellsTable : List ℕ → (face tag : ℕ) → (status : ℤ) → (place size : ℕ) → Type 0
-TellsTable bytes face tag status place size =
-    ((status ≡ pos 0) × HasTable bytes face tag place size)
-    ⊎ (((status ≡ pos 36) × LacksTable bytes face tag)
-    ⊎ ((e : Error) × (status ≡ pos (file_code e)) × NoFace e bytes face))
+-- what C lends for the place and the size of a table, as it stands at one time
+pub record Span : Type 0 where
+  pub place : ℕ
+  pub size : ℕ
+
+abbrev pub span : (place size : ℕ) → Span
+span place size = record { place = place; size = size }
+
+-- where a table stands, or that there is none, or why there is no such face: then both numbers are as they were
+abbrev pub TellsTable : List ℕ → (face tag : ℕ) → (status : ℤ) → (old new : Span) → Type 0
+TellsTable bytes face tag status old new =
+    ((status ≡ pos 0) × HasTable bytes face tag new.place new.size)
+    ⊎ (((status ≡ pos 36) × LacksTable bytes face tag × (new ≡ old))
+    ⊎ ((e : Error) × (status ≡ pos (file_code e)) × NoFace e bytes face × (new ≡ old)))
 
 -- the map that the best record of the table names
 abbrev pub HasMap : (cmap : List ℕ) → CharacterMap → Type 0
@@ -47,8 +56,8 @@ HasMap cmap map = (i : ℕ) × IsChosen cmap i × IsMapAt cmap (place_at cmap i)
 abbrev pub LacksMap : (cmap : List ℕ) → Type 0
 LacksMap cmap = (i : ℕ) → IsChosen cmap i → IsWhole (drop (place_at cmap i) cmap) → ⊥
 
--- the glyph of a character, 0 where it has none, or that there is no map
-abbrev pub TellsGlyph : (cmap : List ℕ) → (character : ℕ) → (status : ℤ) → (glyph : ℕ) → Type 0
-TellsGlyph cmap character status glyph =
+-- the glyph of a character, 0 where it has none, or that there is no map: then the number is as it was
+abbrev pub TellsGlyph : (cmap : List ℕ) → (character : ℕ) → (status : ℤ) → (old glyph : ℕ) → Type 0
+TellsGlyph cmap character status old glyph =
     ((status ≡ pos 0) × (map : CharacterMap) × HasMap cmap map × Maps map character glyph)
-    ⊎ ((status ≡ pos 37) × LacksMap cmap)
+    ⊎ ((status ≡ pos 37) × LacksMap cmap × (glyph ≡ old))

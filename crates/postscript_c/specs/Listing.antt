@@ -3,7 +3,7 @@ use Rattle.std.specs.Prelude.{◌≡◌, ◌⊎◌, ℕ, ◌<◌, ℤ, pos, List
 use Rattle.postscript_base.specs.Error.{code}
 use Rattle.postscript_base.specs.declared.error.Error.{Error}
 use Rattle.postscript_base.specs.Tape.Outcome.{Answers}
-use Rattle.postscript_c.specs.Operations.{listed_at, shown}
+use Rattle.postscript_c.specs.Operations.{AllLieIn, listed_at, shown}
 use Rattle.postscript_c.specs.Fitting.{KeepsToLimit, TellsTooLong}
 use Rattle.postscript_c.specs.Parts.{TellsByPart}
 use Rattle.postscript_c.specs.declared.font.PsfFont.{PsfFont}
@@ -40,8 +40,13 @@ pub record Lacking (status : ℤ) (old new : Rooms) : Type 0 where
   pub same_rows : new.operations ≡ old.operations
   pub same_operands : new.operands ≡ old.operands
 
--- how many of each there are is told
+-- the numbers of each operation are among all numbers
+abbrev pub IsInside : Listed → Type 0
+IsInside listed = AllLieIn listed.operands.items listed.rows.items
+
+-- how many of each there are is told, and each operation has its numbers among all
 pub record HandsOperations (listed : Listed) (status : ℤ) (old new : Rooms) : Type 0 where
+  pub inside : IsInside listed
   pub counted : new.count ≡ length listed.rows.items
   pub operands_counted : new.operand_count ≡ length listed.operands.items
   pub handed : Handed listed status old new ⊎ Lacking status old new

@@ -9,15 +9,17 @@ use Rattle.postscript_view.specs.CharSets.{IsCharSetOf}
 use Rattle.postscript_view.specs.Order.{view}
 use Rattle.postscript_view.specs.Contents.{View}
 use Rattle.postscript_view.specs.Strings.{HasName, IsFirstWithName}
+use Rattle.postscript_view.specs.Untold.{NoCharSet}
 use Rattle.postscript_view.specs.declared.char_set.CharSetView.{CharSetView}
 
 -- the char set of a font
 abbrev pub IsSetOf : List ℕ → View → CharSetView → Type 0
 IsSetOf bytes view set = IsCharSetOf set bytes view.tables.dictionary (length view.char_strings)
 
--- the font has no char set: the status is an error's
+-- the font has no charset, for a cause that holds, and the status is the one of this error
 abbrev pub LacksSet : List ℕ → View → (status : ℤ) → Type 0
-LacksSet bytes view status = (e : Error) × (status ≡ pos (code e)) × ((set : CharSetView) → IsSetOf bytes view set → ⊥)
+LacksSet bytes view status = (e : Error) × (status ≡ pos (code e)) × NoCharSet e bytes view.tables.dictionary (length view.char_strings)
+    × ((set : CharSetView) → IsSetOf bytes view set → ⊥)
 
 -- no font is opened in the bytes: the status is the error's, which may be that memory runs out
 abbrev pub LacksFont : List ℕ → (status : ℤ) → Type 0

@@ -1,5 +1,5 @@
 -- The operations of a glyph of a font that is plain numbers.
-use Rattle.std.specs.Prelude.{ℕ, ◌+◌, ℤ, pos, List, map, take, drop, Option, Some}
+use Rattle.std.specs.Prelude.{ℕ, ◌+◌, ◌≤◌, ℤ, pos, List, [], ◌∷◌, length, map, take, drop, Option, Some}
 use Rattle.postscript_base.specs.Tape.Outcome.{Reading}
 use Rattle.postscript_c.specs.Glyphs.{told_at}
 use Rattle.postscript_c.specs.declared.font.PsfFont.{PsfFont}
@@ -24,6 +24,14 @@ row_of op operands stems mask = record { operator = op; operands = operands; ste
 -- so many numbers from a place
 abbrev pub slice : (place count : ℕ) → List ℤ → List ℤ
 slice place count numbers = take count (drop place numbers)
+
+-- all its numbers are among these
+abbrev pub LiesIn : (numbers : List ℤ) → PsfOperation → Type 0
+LiesIn numbers row = row.first + row.count + row.stems + row.mask ≤ length numbers
+
+abbrev pub AllLieIn : (numbers : List ℤ) → List PsfOperation → Type 0
+AllLieIn numbers [] = Unit {0}
+AllLieIn numbers (row ∷ rows) = LiesIn numbers row × AllLieIn numbers rows
 
 -- it has the operator of its code, and its own numbers among those of all: its operands, the stems behind them, and the mask behind these
 abbrev pub held : (numbers : List ℤ) → PsfOperation → Row

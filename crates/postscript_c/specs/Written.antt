@@ -6,14 +6,21 @@ use Rattle.postscript_c.specs.Fitting.{FirstFits, TellsFits}
 use Rattle.postscript_c.specs.Texts.{HandsOver, Lent}
 use Rattle.postscript_c.specs.declared.written.PsfRefusal.{PsfRefusal}
 use Rattle.postscript_view.specs.Contents.{View}
+use Rattle.postscript_base.specs.Tape.Outcome.{Got}
 use Rattle.postscript_view.specs.Layout.{IsLaidOut}
+use Rattle.postscript_view.specs.Order.{fonts}
 use Rattle.postscript_write.specs.Components.{IsSubset as IsSubsetFont}
 use Rattle.postscript_write.specs.Drawings.{DrawsKept, KeepsDrawings}
 use Rattle.postscript_write.specs.Glyphs.{Sources}
 use Rattle.postscript_write.specs.Making.{IsKeptFont, Making}
+use Rattle.postscript_write.specs.Once.{BeginsWithRos, TellsOnce}
+use Rattle.postscript_write.specs.Readings.{HasLenientFont}
 use Rattle.postscript_write.specs.Refusals.{IsRefusedBy, IsSubsetRefusedBy}
 use Rattle.postscript_write.specs.SameGlyphs.{GlyphsKept, KeepsGlyphs}
+use Rattle.postscript_write.specs.Selected.{SelectsParts}
+use Rattle.postscript_write.specs.Sizes.{HasShortCodes, IsSmall}
 use Rattle.postscript_write.specs.Sources.{AreThere, IsWritten, every}
+use Rattle.postscript_write.specs.Whole.{IsWholeFont}
 use Rattle.postscript_write.specs.declared.error.Error.{Error}
 use Rattle.postscript_write.specs.declared.error.Error.TheVariants.{Refused, Glyph, SeveralFonts, MissingGlyph, MissingPart, MissingName, LongGlyph, NoGlyphs, TooLarge}
 
@@ -57,11 +64,24 @@ TellsWithin bytes limit status IsAnswer old new was told =
     (FirstFits bytes limit × ((answer : Result (Vec ℕ Global) Error) × IsAnswer answer × TellsWritten answer status old new was told))
     ⊎ (((left : ℕ) × TellsFits bytes limit status left) × (status ≢ pos 0) × (told ≡ refusal 0 (pos 0)) × (new ≡ old))
 
+-- A font that is written has no byte beside its parts, each operator once in its Top DICT and Font DICTs, with ROS first, and an FDSelect
+-- and charstrings that readers take; it is not too large, and is read leniently if the one that it is made of is.
+pub record IsSound (bytes flat : List ℕ) : Type 0 where
+  pub whole : IsWholeFont flat
+  pub once : TellsOnce flat
+  pub ros : BeginsWithRos flat
+  pub selects : SelectsParts flat
+  pub short : HasShortCodes flat
+  pub small : IsSmall bytes flat
+  pub lenient : HasLenientFont bytes → HasLenientFont flat
+  pub one : fonts bytes 0 ≡ Got 1 0
+
 -- the font made of all glyphs, or why there is none
 pub record IsFlat (bytes : List ℕ) (answer : Result (Vec ℕ Global) Error) : Type 0 where
   pub drawn : IfOk answer (λ flat. KeepsDrawings every bytes flat.items)
   pub same : IfOk answer (λ flat. KeepsGlyphs every bytes flat.items)
   pub written : IfOk answer (λ flat. IsWritten IsKeptFont every bytes flat.items)
+  pub sound : IfOk answer (λ flat. IsSound bytes flat.items)
   pub refused : IfErr answer (λ e. IsRefusedBy every bytes e)
 
 -- the font made of the glyphs that are named, which are glyphs of the font, and of those that these are drawn with, or why there is none;
@@ -71,6 +91,7 @@ pub record IsSubset (is_made : Making) (sources : (closed : List ℕ) (glyphs : 
   pub written : IfOk answer (λ flat. IsSubsetFont is_made sources named bytes flat.items)
   pub drawn : IfOk answer (λ flat. DrawsKept sources named bytes flat.items)
   pub same : IfOk answer (λ flat. GlyphsKept sources named bytes flat.items)
+  pub sound : IfOk answer (λ flat. IsSound bytes flat.items)
   pub refused : IfErr answer (λ e. IsSubsetRefusedBy named sources bytes e)
   pub there : OnOk answer ((font : View) → IsLaidOut bytes 0 font → AreThere named (length font.char_strings))
   pub some : named ≡ [] → answer ≡ Err NoGlyphs

@@ -1,6 +1,6 @@
 //! OpenType files: faces, tables and character maps.
 ghost use Rattle.std.specs.Prelude.{◌≡◌, pos};
-ghost use Rattle.postscript_c.specs.Files.{TellsFaces, TellsTable, TellsGlyph, file_code};
+ghost use Rattle.postscript_c.specs.Files.{TellsFaces, TellsTable, TellsGlyph, file_code, span};
 
 use crate::status::{NO_MAP, NO_TABLE};
 use postscript_sfnt::{CharacterMap, Error, FontFile, faces};
@@ -18,7 +18,7 @@ pub(crate) fn file_status(e: Error) -> i32
 
 /// Stores the number of faces of a file.
 pub(crate) fn tell_faces(bytes: &[u8], count: &mut usize) -> i32
-    ensures { TellsFaces bytes.now result count.new }
+    ensures { TellsFaces bytes.now result count.old count.new }
 {
     match faces(bytes) {
         Ok(found) => {
@@ -37,7 +37,7 @@ pub(crate) fn tell_table(
     place: &mut usize,
     size: &mut usize,
 ) -> i32
-    ensures { TellsTable bytes.now face tag result place.new size.new }
+    ensures { TellsTable bytes.now face tag result (span place.old size.old) (span place.new size.new) }
 {
     match FontFile::read(bytes, face) {
         Ok(file) => match file.span(tag) {
@@ -54,7 +54,7 @@ pub(crate) fn tell_table(
 
 /// Stores the glyph of a character in a `cmap` table.
 pub(crate) fn tell_glyph(cmap: &[u8], character: u32, glyph: &mut usize) -> i32
-    ensures { TellsGlyph cmap.now character result glyph.new }
+    ensures { TellsGlyph cmap.now character result glyph.old glyph.new }
 {
     match CharacterMap::read(cmap) {
         Some(map) => {

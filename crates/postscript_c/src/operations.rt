@@ -1,8 +1,8 @@
 //! Operations of glyphs in the form for C.
-ghost use Rattle.std.specs.Prelude.{◌≡◌, ◌++◌, map, pos, OnOk, IfErr};
+ghost use Rattle.std.specs.Prelude.{◌≡◌, ◌++◌, map, pos, OnOk, IfOk, IfErr, IfSome};
 ghost use Rattle.postscript_base.specs.declared.error.Error.TheVariants as errors;
-ghost use Rattle.postscript_c.specs.Fitting.{ReadsWithin, RunsWithin};
-ghost use Rattle.postscript_c.specs.Listing.{HandsOperations, TellsOperationsBy, rooms};
+ghost use Rattle.postscript_c.specs.Fitting.{IfKept, ReadsWithin, RunsWithin};
+ghost use Rattle.postscript_c.specs.Listing.{HandsOperations, IsInside, TellsOperationsBy, rooms};
 ghost use Rattle.postscript_c.specs.Operations.{listed, listed_at, shown};
 
 use crate::codes::code_of;
@@ -68,6 +68,7 @@ fn put_mask(all: &mut Vec<i32>, mask: &[u8]) -> Result<()>
 /// All operations of a program, if its run is within the limit.
 fn list(alloc: Global, program: &mut Program<'_>, limit: &mut u64) -> Result<Option<Listed>>
     ensures within { RunsWithin shown listed program.old limit.old result limit.new }
+    ensures inside { IfOk result (λ listed. IfSome listed IsInside) }
 {
     let mut rows = Vec::new(alloc);
     let mut operands = Vec::new(alloc);
@@ -100,6 +101,7 @@ fn operations_of(
     glyph: usize,
 ) -> Result<Kept<Listed>>
     ensures within { ReadsWithin shown bytes.now font.now part.now glyph (listed_at font.now part.now glyph) result }
+    ensures inside { IfOk result (IfKept IsInside) }
 {
     let Some(mut program) = program(alloc, bytes, font, part, glyph)? else {
         return Ok(Kept::NoGlyph);
@@ -119,6 +121,7 @@ fn hand(
     operands: &mut [i32],
     operand_count: &mut usize,
 ) -> i32
+    requires inside { IsInside listed.now }
     ensures { HandsOperations listed.now result (rooms operations.old count.old operands.old operand_count.old)
         (rooms operations.new count.new operands.new operand_count.new) }
 {

@@ -1,4 +1,4 @@
-use Rattle.std.proofs.Common.{◌≡◌, inl, inr, refl, rules, subst, sym, ℤ, to_z, of_z, w32}
+use Rattle.std.proofs.Common.{◌≡◌, ◌∙◌, inl, inr, refl, rules, subst, sym, ℤ, to_z, of_z, w32}
 use Rattle.postscript_c.specs.Texts.{HandsOver, lent}
 use Rattle.postscript_c.proofs.names.tell_name_in.Goals as goal
 
@@ -11,3 +11,8 @@ returns-in-Some c =
 
 pub returns-in-None : goal.returns-in-None
 returns-in-None c = inr (inl (c.in-Ok.set, c.in-Ok.ensures.found, refl, c.in-None.ensures.none, refl))
+
+pub returns-in-Err : goal.returns-in-Err
+returns-in-Err c =
+    let same : to_z w32 (of_z w32 c.status.result) ≡ c.status.result = search rules in
+    inr (inr ((c.in-Err.e, same ∙ c.status.ensures, c.in-Err.ensures.why, c.in-Err.ensures.none), refl))

@@ -58,6 +58,7 @@ returns-in-End c =
         ap fault_of (sym c.loop-operands.invariant.end) ∙ ends.1,
         ends.2,
       );
+      inside = c.loop-operands.invariant.theirs;
     }
 
 pub returns-in-Paused : goal.returns-in-Paused
@@ -65,6 +66,7 @@ returns-in-Paused c =
     record {
       within = on-pause c.loop-operands.program c.tell_within.follows.lender-at-none
           (ap within_of (c.in_ok-operator.was ∙ ap Ok c.in-Paused.is)) c.tell_within.follows.holds-at-none.0 c.loop-operands.invariant.spends;
+      inside = search rules;
     }
 
 pub returns-in_err-operator : goal.returns-in_err-operator
@@ -72,4 +74,4 @@ returns-in_err-operator c =
     let error = err_from_is_err_and c.from_residual.result c.from_residual.ensures.1 in
     let refusal = on-refusal c.loop-operands.program c.tell_within.follows.lender-at-none
     (ap within_of c.in_err-operator.was) c.tell_within.follows.holds-at-none.0 c.loop-operands.invariant.spends in
-    record { within = rw (error.1, error.2) (rw c.loop-operands.invariant.end at refusal.0, refusal.1) }
+    record { within = rw (error.1, error.2) (rw c.loop-operands.invariant.end at refusal.0, refusal.1); inside = rw (error.1) (search rules) }

@@ -1,6 +1,5 @@
 use Rattle.std.proofs.Common.{◌≡◌, ◌++◌, map}
-use Rattle.postscript_c.proofs.Operands.{AllTheirs}
-use Rattle.postscript_c.specs.Operations.{answered, held}
+use Rattle.postscript_c.specs.Operations.{AllLieIn, answered, held}
 use Rattle.postscript_c.proofs.operations.list.Given as goal
 use Rattle.postscript_type2.specs.Program.Limit.{Spends}
 
@@ -8,7 +7,7 @@ use Rattle.postscript_type2.specs.Program.Limit.{Spends}
 abbrev pub invariant-loop-operands : goal.invariant-loop-operands
 invariant-loop-operands l = record {
   same : map (held l.operands.items) l.rows.items ++ map answered l.program.answers ≡ map answered l.fn.program.answers;
-  theirs : AllTheirs l.operands.items l.rows.items;
+  theirs : AllLieIn l.operands.items l.rows.items;
   end : l.program.end ≡ l.fn.program.end;
   spends : Spends l.fn.limit l.fn.program.trace l.limit l.program.trace;
 }
