@@ -1,7 +1,7 @@
-"""Programs that a script builds in a folder of its own: over the crates of this repository, over a Rust crate, and in C.
+"""Builds the programs of the scripts, each in a given folder: on the crates of this repository, on a Rust crate, and in C.
 
-A program of Rattle is proved in a copy of the crates that it uses, with what these keep in out/; nothing is written beside the folder.
-Where a command fails, the script ends with what the command printed, and with status 1.
+A Rattle program is proved in a copy of the crates that it uses, with their results in out/. Nothing is written outside the folder. If a
+command fails, the script ends with the command's output and status 1.
 """
 
 import os

@@ -1,13 +1,13 @@
 #!/usr/bin/python3
-"""Fetches the OpenType fonts of Debian's packages, and prints how many files .otf there are.
+"""Downloads the OpenType fonts of Debian's packages, and prints the number of .otf files.
 
     tools/font_files.py FOLDER
 
-Each package fonts-* that holds a file .otf is downloaded and unpacked below FOLDER; nothing is installed. The other scripts take the
-folder, as tools/evidence/view.py 38 3000 FOLDER. What is there already is kept. Needs Debian's python3-fonttools and apt-file, once
-updated, and some 300 MB.
+The script downloads each package fonts-* with an .otf file and unpacks it below FOLDER; nothing is installed. It keeps packages that are
+already there. Other scripts take the folder, e.g. tools/evidence/view.py 38 3000 FOLDER. Needs Debian's python3-fonttools and apt-file,
+after `apt-file update`, and about 300 MB.
 
-As a module it finds the font files that the words of another script name, and gives the glyphs of a font as lines.
+As a module, it finds the font files named by another script's arguments, and returns the glyphs of a font as lines.
 """
 
 import pathlib

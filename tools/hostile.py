@@ -1,16 +1,16 @@
 #!/usr/bin/env python3
-"""Hands psfont fonts and charstrings that claim more than they hold, or cost time or memory, and measures both.
+"""Measures the time and memory of psfont on fonts and charstrings that claim more than they contain, or that are expensive.
 
     (cd crates/psfont && rt run < stdin)
     tools/hostile.py fonts
     tools/hostile.py programs
 
-The fonts claim more than they hold, or hold much of one kind. Each is written to a file, and crates/psfont/out/psfont is run with
-the words `font FILE`. The programs are charstrings of four million bytes. Each is handed to psfont as `code`, `local` and `run`.
-What is printed, or for a program its end, has to be what the rules say.
+The fonts claim more than they contain, or contain much of one kind. The script writes each to a file and runs crates/psfont/out/psfont
+with the arguments `font FILE`. The programs are charstrings of four million bytes, sent to psfont with `code`, `local` and `run`. The
+output must be what the rules say; for a program, only its end is compared.
 
-The table gives the bytes, the time from the start to the last answer, and the most memory that the process had; for a program both
-with the reading of the line of eight million hex digits. Nothing is drawn at random. The status is 1 where an answer differs.
+The table gives the bytes, the time from the start to the last answer, and the peak memory of the process. For a program both include
+reading its line of eight million hex digits. Nothing is random. The exit status is 1 if an answer differs.
 """
 
 import subprocess

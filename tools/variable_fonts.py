@@ -1,7 +1,7 @@
-"""Variable fonts with a table `CFF2`: those of files and of Debian's packages, and some that are made of EB Garamond.
+"""Variable fonts with a `CFF2` table: from files and Debian packages, and some made from EB Garamond.
 
-Made fonts have two or three axes, their masters moved; `mixed` gives the same font with subroutines, a second item variation data that
-vsindex names, stems and masks. Needs Debian's python3-fonttools and fonts-ebgaramond.
+Made fonts have two or three axes, and their masters are transformed. `mixed` adds subroutines, a second ItemVariationData selected by
+vsindex, stems and masks to a font. Needs Debian's python3-fonttools and fonts-ebgaramond.
 """
 
 import pathlib

@@ -1,15 +1,17 @@
 #!/usr/bin/python3
-"""Writes subsets of a small font with accented glyphs by psotf, and compares their glyphs with those of the font.
+"""Writes subsets of a small font with `seac` glyphs by `psotf subset`, and compares their glyphs with those of the font.
 
     (cd crates/psotf && rt run -- --help)
     /usr/bin/python3 tools/evidence/accented.py [PSOTF]
 
-Needs gcc and Debian's python3-fonttools and libfreetype-dev. FontTools makes a font of nine glyphs, of which some end in `adx ady bchar
-achar endchar` (Technical Note 5177, Appendix C), one of them with an accent that is accented itself. For each choice of glyphs `psotf
-subset` writes a file with new numbers and one with `--retain-gids`. The tables `CFF `, `hmtx` and `maxp` have to be of as many
-glyphs; fontTools and FreeType have to draw each glyph that is kept as in the source, with the same advance; each character has to be
-that of the same glyph; and standard error has to tell of each glyph that was not named. It prints each file that differs, and then
-how many were compared.
+PSOTF is the program, by default crates/psotf/out/psotf or the one in the environment variable PSOTF. fontTools makes a font of nine
+glyphs. Some end in `adx ady bchar achar endchar` (Technical Note 5177, Appendix C), one of them with an accent that is itself a `seac`
+glyph. For each choice of up to three glyphs, `psotf subset` writes one file with new glyph IDs and one with `--retain-gids`. In each file,
+the tables `CFF `, `hmtx` and `maxp` must have the right number of glyphs. fontTools and FreeType must draw each kept glyph as in the
+source, with the same advance. Each character must map to the same glyph, and standard error must report each added glyph.
+
+The script prints each file that differs, and then the number of files. Needs gcc and Debian's python3-fonttools and libfreetype-dev. The
+exit status is 1 if a file differs.
 """
 
 import itertools

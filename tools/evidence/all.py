@@ -1,12 +1,13 @@
 #!/usr/bin/env python3
-"""Runs the scripts of tools/ that are evidence, one after another, and keeps what they print.
+"""Runs the evidence scripts of tools/ one after another, and keeps what they print.
 
     tools/evidence/all.py FONTS [NAME..]
     tools/evidence/all.py --stale
 
-The first command runs all scripts, or those that are named, and writes what each prints to evidence/NAME.log, with the date, the commit, the command and the
-status. FONTS is the folder of tools/font_files.py. It ends with status 1 if a script fails. The second command prints a row for each script: the date and commit of its log, its status, and
-"stale" if something that it tests has changed since then. Each script says what it needs; CRATE stands for the environment's CRATE, the source of the Rust crate `postscript`.
+The first command runs all scripts, or the named ones. It writes their output to evidence/NAME.log, with the date, commit, command, status
+and time. FONTS is the folder made by tools/font_files.py. The exit status is 1 if a script fails. The second command prints a row for each
+script: the date and commit of its log, its status, and "stale" if the code that it tests has changed since then. Each script says what it
+needs. CRATE is the environment variable CRATE: the source of the Rust crate `postscript`.
 """
 import os
 import pathlib

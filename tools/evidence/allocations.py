@@ -1,32 +1,30 @@
 #!/usr/bin/env python3
-"""Refuses each request for memory in turn: of a session with psfont, or of one call of the library.
+"""Makes each memory request fail in turn, in a session with psfont or in a single call of the library.
 
     (cd crates/psfont && rt run < stdin)
     tools/evidence/allocations.py
     tools/evidence/allocations.py calls
 
-For N from 1 on a program runs with its Nth request refused, until ten numbers, one after the other, gave the answers without a
-refusal: then no request has the number N. The status is 1 where a run ended otherwise than told here. Nothing is drawn at random.
+The script makes the Nth request of a program fail, for N = 1, 2, .., until ten runs in a row give the output of a run without failures:
+then there is no request N. Nothing is random.
 
-The program of the second line is crates/psfont/out/psfont, on its stored input, on sessions with codes and fonts, and with the
-words `font PATH`. Each run must end in one of these ways:
+Without an argument the program is crates/psfont/out/psfont. It runs on its stored input, on sessions with charstrings and fonts, and with
+the arguments `font PATH`. Each run must end in one of these ways:
+- with status 1 and `psfont: fault 3`, after a prefix of the expected output;
+- with status 0 and the expected output, except for one answer that is `fault 3`;
+- with status 0 and the expected output.
+Then a charstring that stores and fetches 32 numbers must make the same requests, of the same size, as an equally long one that pushes and
+drops 32 numbers.
 
-- with status 1 and `psfont: fault 3`, and what was answered before is a beginning of the answers without a refusal;
-- with status 0 and those answers, but that `fault 3` stands in place of one answer;
-- with status 0 and those answers.
+With `calls` the program is tools/programs/allocations.rt.txt, proved in a copy with the crates' results in out/. It makes a single call of
+`next`, `run`, `flat_len` or `flatten`. Each run must end in one of these ways:
+- before the call, while the input is read: with another status than 0 and no output;
+- in the call: `run`, `flat_len` and `flatten` return fault 3. `next` returns error 3, and error 30 when called again, after at most as
+  many operations as without a failure, and the width is the one returned with the last of them;
+- with the expected output.
 
-Then the requests and their bytes of a code that stores 32 numbers and fetches them must be those of a code as long that pushes and
-drops as many.
-
-The program of the third line is tools/programs/allocations.rt.txt, proved in a copy with what the crates keep in out/. It calls `next`,
-`run`, `flat_len` or `flatten` alone. Each run must end in one of these ways:
-
-- before the call, while the lines are read: with another status than 0, and with nothing printed;
-- in the call: `next` is refused with 3, and then with 30; the operations before it are no more than without a refusal, and the
-  width is the one beside the last of them; `run`, `flat_len` and `flatten` answer `fault 3`;
-- with the answer without a refusal.
-
-Needs gcc, which builds tools/programs/memory.c, and `rt` on the path.
+Needs gcc, to build tools/programs/memory.c, and `rt` on the path. The exit status is 1 if a run ends otherwise, or if the two charstrings'
+requests differ.
 """
 
 import collections

@@ -1,22 +1,27 @@
 #!/usr/bin/python3
-"""Compares `postscript_variation` with fontTools, FreeType and hb-shape over variable fonts, and with a second reader over random ones.
+"""Compares `postscript_variation` with fontTools, FreeType and hb-shape on variable fonts, and with a second reader on random ones.
 
     tools/evidence/axes.py SEED COUNT [FONT..]
 
-Where no FONT is named, Cantarell-VF.otf is taken out of Debian's package pango1.0-tests, which is downloaded and unpacked in a
-temporary folder, and not installed. Fonts of two, three and four axes are made from SEED by fontTools, with segment maps, regions that
-depend on several axes, and a map of indices or none. At the named instances of each font and at 40 random places from SEED these are
-compared: axes and instances with fontTools; the normalized coordinates behind `avar`, in 16.16, with FreeType's; those in 2.14 with the
-rule of the specification in whole numbers, and with fontTools' floats; what each glyph and each metric varies by with fontTools'
-floats; the advance of each character with hb-shape, and of each glyph with FreeType, also as FreeType has it by fontTools' floats at
-coordinates in 16.16, and as HarfBuzz 6 has it at coordinates that come into 2.14 before `avar`. Then COUNT fonts of three axes are made
-from SEED, with the tables `fvar`, `avar`, `HVAR` and `MVAR` alone: axes that are out of order, maps without entries that they must
-have, each format of delta-set index maps, delta sets of bytes, words and long words, indexes past the lists. What the program tells at
-60 places of each must be, line by line, what a reader of these tables tells here, in whole numbers; and each sum is within the bound of
-the law from the exact one. The program is tools/programs/axes.rt.txt, proved in a copy with what the crates keep in out/. Needs `rt` on the
-path, Debian's python3-fonttools, hb-shape of libharfbuzz-bin, which may be named by the variable HB_SHAPE, and libfreetype.so.6. The
-status is 1 where a line differs, a metric, or an advance by more than one unit that coordinates rounded at these other places do not
-explain.
+Without a FONT, the script takes Cantarell-VF.otf from Debian's package pango1.0-tests, which it unpacks in a temporary folder and does not
+install. It also makes fonts with two, three and four axes, using fontTools and SEED. They have segment maps, regions that depend on
+several axes, and an index map or none. At the named instances of each font and at 40 random locations it makes these comparisons:
+- Axes and instances are compared with fontTools.
+- Normalized coordinates after `avar` are compared in 16.16 with FreeType. In 2.14 they are compared with the specification's rule in
+  integers, and with fontTools' floats.
+- The deltas of each glyph and each metric are compared with fontTools' floats.
+- The advance of each character is compared with hb-shape, and of each glyph with FreeType. fontTools' floats also give both advances: at
+  coordinates in 16.16, as in FreeType, and at coordinates rounded to 2.14 before `avar`, as in HarfBuzz 6.
+
+Then it makes COUNT fonts with three axes from SEED, with only the tables `fvar`, `avar`, `HVAR` and `MVAR`. Some have axes out of order or
+segment maps without required entries. They have delta-set index maps of each format, delta sets of bytes, words and long words, and
+out-of-range indexes. At 60 locations of each, the program must print line by line the values of this script's reader, which uses integers.
+Each sum must be within the law's bound of the exact sum.
+
+The program is tools/programs/axes.rt.txt, proved in a copy with the crates' results in out/. Needs `rt` on the path, Debian's
+python3-fonttools, hb-shape of libharfbuzz-bin (or the path in the environment variable HB_SHAPE), and libfreetype.so.6. The exit status is
+1 if a line differs, or a metric by more than 0.01. It is also 1 if an advance is more than one unit off and those floats do not explain
+it.
 """
 
 import collections

@@ -1,17 +1,17 @@
 """Compares the program `psfont` with the second reader on fonts that were changed at random.
 
-Run it as `python3 tools/evidence/changed_fonts.py [--seed N] [--count N] [PSFONT]`; PSFONT is the program, by default
-the one that the build leaves in `crates/psfont/out/psfont`. It needs Python 3 and its standard library alone.
+    python3 tools/evidence/changed_fonts.py [--seed N] [--count N] [PSFONT]
 
-Fonts are made from small known ones and from made-up ones that hold every part of a font. Most are then
-changed: bytes set, bits turned, the end cut off, slices doubled, exchanged or removed, operands written over
-others, counts and offsets set to extreme values. Each goes to the program as a line `font HEX` and as a line
-`lenient HEX`, some thousand of them to one process, and to `second_reader.read_font`. The two answers, the
-summary up to `end` or the one line `fault N`, must be equal line for line.
+PSFONT is the program; the default is crates/psfont/out/psfont. The script needs only Python 3 and its standard library.
 
-Each difference is printed with the font and both answers. At the end stand the number of fonts, how many were
-read and how many were refused by which number, by either line, how many answers differ, and the seed, from
-which the same fonts come again. The status is 1 where something differs.
+The fonts are small known ones and made-up ones with every part of a font. Most are then changed: bytes set, bits flipped, the end
+truncated, slices duplicated, exchanged or removed, operands overwritten, and counts and offsets set to extreme values. The script sends
+each to the program as a line `font HEX` and as a line `lenient HEX`, up to 2000 fonts per process, and to `second_reader.read_font`. The
+two answers (the summary up to `end`, or the line `fault N`) must be equal line by line.
+
+It prints each difference with the font and both answers. The last lines are the number of fonts, how many each command accepted, how many
+it rejected by error number, the number of differences, and the seed, which gives the same fonts again. The exit status is 1 if anything
+differs.
 """
 
 import argparse

@@ -1,20 +1,22 @@
 #!/usr/bin/python3
-"""Changes tables of variable fonts in memory, many times, draws glyphs of each, and compares them with FreeType.
+"""Changes tables of variable fonts in memory, draws glyphs of each changed font, and compares them with FreeType.
 
     tools/evidence/changed_variable.py SEED CASES WORD..
 
-Each WORD is an OpenType file with a table `CFF2`, or a Debian package, which is downloaded (not installed) and of which each such file
-is taken; pango1.0-tests has Cantarell-VF.otf. The four fonts that tools/variable_fonts.py makes of EB Garamond, of two and three axes, come
-behind them, each with tables `avar` and `HVAR` of its own. Each of the CASES is one to sixteen changed bytes, by chance from SEED: in the
-code of a glyph (half of them), in the table `CFF2` (a quarter), in its first 200 bytes, or in `fvar`, `avar` or `HVAR` (an eighth each).
-One process (tools/programs/changed_variable.rt.txt, proved in a copy, or PROGRAM of the environment) reads each table and draws two glyphs
-at a random place, within a limit; another one (tools/programs/changed_variable.c) loads them by FreeType from memory. The script ends with
-status 1 where one of the two does not end with status 0, and where a glyph that both draw is drawn otherwise, a normalized coordinate is
-more than 2^-14 away or an advance is another for none of the reasons below.
+Each WORD is an OpenType file with a `CFF2` table, or a Debian package; the script downloads the package (without installing it) and takes
+each such file. pango1.0-tests has Cantarell-VF.otf. The script adds the four fonts that tools/variable_fonts.py makes from EB Garamond,
+with two and three axes, each with its own `avar` and `HVAR` tables. Each of the CASES changes one to sixteen bytes, at random from SEED.
+Half of them are in the charstring of a glyph, a quarter in the `CFF2` table, an eighth in its first 200 bytes, and an eighth in `fvar`,
+`avar` or `HVAR`.
 
-A reason of a glyph is what a small reader in this file finds in the changed table at that glyph; one of a coordinate or an advance is the
-way of FreeType with which tools/evidence/other_tables.py comes to FreeType's from the changed tables. Needs `rt` and `gcc` on the path and
-Debian's python3-fonttools and libfreetype-dev.
+One process (tools/programs/changed_variable.rt.txt, proved in a copy, or the program in the environment variable PROGRAM) reads each table
+and draws two glyphs at a random location, within a limit. Another (tools/programs/changed_variable.c) loads them from memory with
+FreeType. The script looks for a reason of each difference. For a glyph, it is what the small reader in this file finds in the changed
+table at that glyph. For a coordinate or an advance, it is the FreeType behaviour with which tools/evidence/other_tables.py computes
+FreeType's value. The exit status is 1 if either process ends with another status than 0. It is also 1 if there is no reason for another
+outline of a glyph that both draw, a coordinate more than 2^-14 away, or another advance.
+
+Needs `rt` and `gcc` on the path and Debian's python3-fonttools and libfreetype-dev.
 """
 
 import collections

@@ -1,21 +1,25 @@
 #!/usr/bin/python3
-"""Tries what people ask of psotf at the command line, and what it says then.
+"""Checks the output, messages, files and exit status of `psotf` for typical command lines.
 
     (cd crates/psotf && rt run -- --help)
     tools/evidence/command_line.py
 
-crates/psotf/out/psotf is run, or the program that the variable PSOTF names. Each case is a line: what is tried, and `as told` or what is
-otherwise. Of `subset` the size of a file of `Hello` beside what hb-subset 6.0.0 makes of it with its layout kept, 3,044 bytes; the
-records of its table `name`, which fontTools reads, beside those of the font: which are there, and that Macintosh tells none that Windows
-tells; what is said on standard error, once, and nothing with --quiet. Of `sheet` the size of its labels where the picture has its own
-size, that they are no wider than their cells, and why a glyph is refused, in its cell. Of words that are no subcommand the nearest one,
-and the status; of no words the help, and of a file alone what it holds. Of characters that the font has no glyph for which they are, by
-`svg` and by `subset`. Of files of other kinds the line that says what each is. Of `inspect` the memory that it takes of Noto Sans CJK.
-Of `report` the pages of more glyphs than one holds. Of `instance` what is refused and how it is said: axes, instances
-and words, files that are not variable, runs past the limit, damaged tables; which tables are left out, the names of a
-place and of its glyphs, and points in whole units. Of a full disk the status, what is said, and that an old file stays. Needs
-Debian's python3-fonttools, fonts-ebgaramond and time, and, where it is there, takes fonts-noto-cjk. The status is 1 where something is
-otherwise.
+The script runs crates/psotf/out/psotf, or the program in the environment variable PSOTF. It prints a line for each case: what is tried,
+and `as told` or the difference. The cases are:
+- `subset`: the file for `Hello` is smaller than that of hb-subset 6.0.0 with layout kept, 3,044 bytes. fontTools reads its `name` records:
+  which ones are kept, and that no Macintosh record repeats a Windows one. The message about dropped tables appears once, and not with
+  --quiet.
+- `sheet`: the size of the labels when the picture has its own size, their width within a cell, and the error of an invalid glyph in its
+  cell.
+- Arguments: a misspelled subcommand gets the nearest one and status 2, no arguments print the help, and a file alone is inspected. A pipe
+  that is closed early is not an error.
+- `svg` and `subset` list the characters without a glyph. Files of other formats get a line that names the format.
+- `inspect`: its memory for Noto Sans CJK. `report`: several pages if there are too many glyphs for one.
+- `instance`: the errors for unknown axes, instances and arguments, fonts that are not variable, exceeded limits and damaged tables; which
+  tables are dropped; font names and glyph names; and points at whole units.
+- A full disk: the status, the message, and an existing file that stays unchanged.
+
+Needs Debian's python3-fonttools, fonts-ebgaramond and time, and uses fonts-noto-cjk if installed. The exit status is 1 if a case fails.
 """
 
 import functools

@@ -1,10 +1,11 @@
 #!/usr/bin/env python3
-"""How much the runs of glyphs take of a limit: the costliest glyph of fonts, with its base and its accent where it is accented.
+"""Finds the most expensive glyph of fonts, in units of the limit; a `seac` glyph includes its base and accent.
 
     tools/evidence/costs.py FOLDER..
 
-Each font .otf and each first face .ttc below the folders is opened by the binding for Python (`make -C bindings/c` builds its library), and
-each glyph's bounds are asked for within less and less. It prints the fonts, their glyphs, and the most units that one takes, and of which.
+The script opens each .otf font and the first face of each .ttc file below the folders, with the Python binding (`make -C bindings/c`
+builds its library). It asks for each glyph's bounds under different limits. It prints the numbers of fonts and glyphs, the most units that
+a glyph takes, and which glyph.
 """
 
 import pathlib

@@ -1,11 +1,11 @@
 #!/usr/bin/env python3
-"""Asks of real fonts, by the library for Python, whether all glyphs of each come to their ends within one limit, and cuts a subset of each.
+"""Checks with the Python binding that all glyphs of each real font together stay within one limit, and makes a subset of each.
 
     tools/evidence/fitting.py FOLDER
 
-The fonts are the files .otf below the folder, as tools/font_files.py fetches them; those without a table `CFF ` are left out. bindings/c has to
-be built by make. The limit is that of one glyph, 20,000,000 units. The status is 1 where a font does not fit, or its subset of the first
-glyphs is refused.
+The fonts are the .otf files below the folder, as tools/font_files.py downloads them. Fonts without a `CFF ` table are left out. bindings/c
+must be built by make. The limit is that of one glyph, 20,000,000 units. The exit status is 1 if a font is rejected or does not fit, or if
+the subset of its first three glyphs fails.
 """
 
 import pathlib

@@ -1,20 +1,19 @@
 #!/usr/bin/env python3
-"""Compares what psfont answers about the glyphs of real fonts with what fontTools makes of the same bytes.
+"""Compares what psfont prints for the glyphs of real fonts with what fontTools makes of the same bytes.
 
     apt-get install -y python3-fonttools fonts-cantarell
     (cd crates/psfont && rt run < stdin)
     /usr/bin/python3 tools/evidence/glyphs.py fonts-cantarell
 
-Each word is a folder or an installed Debian package, of which each file .otf is taken, or a font file. Of each font with a table
-`CFF ` every glyph is handed to crates/psfont/out/psfont as `code`, `global`, `local`, `run` and `flat`. For each glyph:
+Each argument is a font file, a folder, or an installed Debian package; of the last two, the script takes each .otf file. For each font
+with a `CFF ` table it sends every glyph to crates/psfont/out/psfont, with the commands `code`, `global`, `local`, `run` and `flat`. The
+checks are:
+- The run ends without an error, with the operators and operands that fontTools' decompiler meets, in the same order.
+- The width, if any, is fontTools' width minus `nominalWidthX`. Without one, fontTools' width is `defaultWidthX`.
+- The flattened charstring, drawn by fontTools without subroutines, has the outline and the width of the glyph drawn with them.
 
-- the run ends without a fault, with the operators and operands that fontTools' decompiler meets, in its order;
-- the width, where there is one, is fontTools' width less the font's nominal width, and where there is none, the default;
-- the flat code, drawn by fontTools without any subroutine, gives the outline and the width of the glyph with its
-  subroutines.
-
-fontTools does not run `drop`, so it is given to it here. Where a glyph uses another operator that fontTools does not
-run, the glyph is counted as left out. The status is 1 where a glyph differs.
+fontTools does not run `drop`, so this script adds it. A glyph with another operator that fontTools does not run is counted as left out.
+The exit status is 1 if a glyph differs, or if there are no glyphs.
 """
 
 import collections

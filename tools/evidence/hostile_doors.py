@@ -1,15 +1,16 @@
 #!/usr/bin/env python3
-"""Hands the libraries for C and Python OpenType files that cost time, and times each of their doors over each.
+"""Times the C and Python libraries on OpenType files that are expensive to process, function by function.
 
     tools/evidence/hostile_doors.py [WORD..]
 
-The fonts are those of tools/evidence/hostile_files.py; with words, only those are made whose names have one of them.
-tools/programs/hostile_doors.c is linked with bindings/c/build/libpostscript.a, which make builds; Python's module is that of
-bindings/python. The table gives seconds of processor time, so that other work beside does not count: of C the columns that
-tools/programs/hostile_doors.c tells, and of Python a font opened with its names, its characters, and the subset of its glyphs. Rust calls
-the same functions as Python. A second table is of the variable fonts of tools/evidence/hostile_variable.py, by
-tools/programs/hostile_variable_doors.c. Nothing is drawn at random. The status is 1 where a call takes more than ten seconds, or a program ends
-by a signal; "all outlines" and "all advances" are loops of a call for each glyph, and are ended after 60 seconds.
+The fonts are those of tools/evidence/hostile_files.py; with WORDs, only those with a WORD in their name. tools/programs/hostile_doors.c is
+linked with bindings/c/build/libpostscript.a, which make builds. The Python module is the one in bindings/python. The table has seconds of
+processor time, so that other work does not count. The C columns are those of tools/programs/hostile_doors.c. The Python columns are the
+glyph names, the characters, and a subset of all glyphs. Rust calls the same functions as Python.
+
+A second table has the variable fonts of tools/evidence/hostile_variable.py, with tools/programs/hostile_variable_doors.c. Nothing is
+random. The exit status is 1 if a call takes more than ten seconds, or if a program ends by a signal. Each program is ended after 60
+seconds. "all outlines" and "all advances" call a function for each glyph and may take longer; a variable font may be ended there.
 """
 
 import itertools

@@ -1,15 +1,17 @@
 #!/usr/bin/env python3
-"""Hands psotf OpenType files that cost time, and times each subcommand over each.
+"""Times each `psotf` subcommand on OpenType files that are expensive to process.
 
     (cd crates/psotf && rt run -- --help)
     tools/evidence/hostile_files.py [WORD..]
 
-Each font of at most 1 MB is made in a temporary folder: runs that multiply by nested calls, with and without work where they end, many
-glyphs that each cost about the limit, glyphs that are refused behind long numbers, and tables that are searched or are many. With
-words, only those fonts are made whose names have one of them. crates/psotf/out/psotf, or the program that the variable PSOTF names, is run
-over each. The table gives the bytes, the seconds of processor time of each subcommand, so that other work beside does not count, the most memory
-in MB, and the seconds of hb-view, ots-sanitize and ftbench where these are on the path, else a line. One that takes more than 20 of these seconds is
-ended. Nothing is drawn at random. The status is 1 where psotf takes more than ten seconds, or ends with another status than 0 and 1.
+The fonts have at most 1 MB each and are made in a temporary folder. They have nested calls that multiply, with and without work at the
+innermost level, and many glyphs that each cost nearly the limit. Others have glyphs rejected after long runs of numbers, tables that are
+slow to search, or many tables. With WORDs, only fonts with a WORD in their name are made. The script runs crates/psotf/out/psotf, or the
+program in the environment variable PSOTF.
+
+The table gives the bytes, the seconds of processor time of each subcommand (so that other work does not count), and the most memory in MB.
+It also gives the seconds of hb-view, ots-sanitize and ftbench, or "-" if they are not on the path. Commands are ended after 20 seconds.
+Nothing is random. The exit status is 1 if psotf takes more than ten seconds or ends with a status other than 0 and 1.
 """
 
 import itertools

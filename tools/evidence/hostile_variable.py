@@ -1,12 +1,12 @@
 #!/usr/bin/env python3
-"""Hands psotf variable fonts that cost time, and times each subcommand that reads such a font.
+"""Times each `psotf` subcommand that reads variable fonts, on variable fonts that are expensive to process.
 
     (cd crates/psotf && rt run -- --help)
     tools/evidence/hostile_variable.py [WORD..]
 
-As tools/evidence/hostile_files.py, over fonts with a table `CFF2` of at most 1 MB, and with its table, limits and status: runs that
-multiply by nested calls, blends of few and of many regions, many glyphs near the limit, and lists of regions, of deltas, of instances and
-of ranges that are long, or are asked for once for each glyph.
+It works as tools/evidence/hostile_files.py, with the same table, limits and exit status. Its fonts have a `CFF2` table of at most 1 MB.
+They have nested calls that multiply, blends of few and of many regions, many glyphs near the limit, and long lists. These are lists of
+regions, deltas, instances and ranges, some of them read once per glyph.
 """
 
 import itertools

@@ -1,14 +1,14 @@
 #!/usr/bin/python3
-"""Compares the inlined codes of the glyphs of real fonts, byte for byte, with what hb-subset and fontTools make of them.
+"""Compares the desubroutinized charstrings of real fonts, byte for byte, with those of hb-subset and fontTools.
 
     tools/evidence/inlined.py WORD..
 
-Each WORD is a folder or an installed Debian package, of which each file .otf is taken, or a font file; fonts without a table `CFF ` and
-those of several Private dictionaries are left out. It prints each glyph whose bytes differ, and for each font how many glyphs were
-compared, how many have the same bytes, and how many bytes all of them have.
+Each WORD is a font file, a folder, or an installed Debian package; of the last two, the script takes each .otf file. Fonts without a `CFF
+` table and CID-keyed fonts are left out. The script prints each glyph whose bytes differ. For each font it prints how many glyphs were
+compared, how many have the same bytes, and the total bytes. The exit status does not show differences.
 
 Needs `rt` and `hb-subset` on the path, and Debian's python3-fonttools. The program is tools/programs/inlined.rt.txt, proved in a copy with
-what the crates keep in out/.
+the crates' results in out/.
 """
 
 import pathlib

@@ -1,23 +1,25 @@
 #!/usr/bin/python3
-"""Compares static tables of variable fonts with what the variable fonts are at the same places.
+"""Compares the static charstrings and tables of `postscript_instance` with the variable fonts at the same locations.
 
     tools/evidence/instance.py SEED PLACES WORD..
 
-Each WORD is an OpenType file with a table `CFF2`, or a Debian package, which is downloaded (not installed) and of which each such file
-is taken; pango1.0-tests has Cantarell-VF.otf. Besides, the fonts of tools/variable_fonts.py are made of EB Garamond (Debian's
-fonts-ebgaramond): their glyphs call subroutines, name a second item variation data by vsindex, and have stems and masks.
+Each WORD is an OpenType file with a `CFF2` table, or a Debian package; the script downloads the package (without installing it) and takes
+each such file. pango1.0-tests has Cantarell-VF.otf. The script also builds the fonts of tools/variable_fonts.py from EB Garamond (Debian's
+fonts-ebgaramond). Their glyphs call subroutines, select a second ItemVariationData by vsindex, and have stems and masks.
 
-At the default, at the named instances, at each end of each axis and at PLACES random places the charstring of each glyph is written, and
-the table `CFF ` of each font. As fontTools reads it, each charstring's operators and operands must be exactly those that the charstring of
-CFF2 says in 16.16 bits; where one of these has more than 48 operands none of its own may have more, and its lines and curves, one by one as
-fontTools' generalizeCommands tells them, must be those; its width must be the one that was given; it calls nothing and ends with endchar;
-and its masks must be those of the charstring of CFF2, as fontTools reads that. Only glyphs with an operator of 48 operands or more that
-declares stems may be refused. Where a table is written,
-a file is made of it; its charstrings must be those; the outlines that fontTools draws are compared with those that it draws of the variable
-font by floats: no coordinate may be further off than 1/16 unit; and those of FreeType with its own of the variable font: none may be further
-off than a unit. Needs `rt` on the path and Debian's python3-fonttools and libfreetype6. The program is tools/programs/instance.rt.txt,
-proved in a copy with what the crates keep in out/; with PROGRAM in the environment that one is taken. The status is 1 where something
-differs.
+The locations are the default, the named instances, each end of each axis, and PLACES random ones. At each, the program writes a charstring
+for each glyph and a `CFF ` table for the font. The checks on each charstring, as read by fontTools, are:
+- Its operators and operands are exactly those of the CFF2 charstring, in 16.16.
+- If an operator of the CFF2 charstring has more than 48 operands, no operator of the static one may. Its lines and curves must then be
+  equal one by one, as listed by fontTools' generalizeCommands.
+- Its width is the given one, its masks are those of the CFF2 charstring, and it has no calls and ends with endchar.
+Only glyphs with a stem operator of 48 operands or more may be rejected.
+
+Each table goes into a font file, whose charstrings must be those above. Its outlines in fontTools are at most 1/16 unit from fontTools'
+outlines of the variable font in floats. In FreeType they are at most one unit from FreeType's own outlines of the variable font.
+
+Needs `rt` on the path and Debian's python3-fonttools and libfreetype6. The program is tools/programs/instance.rt.txt, proved in a copy
+with the crates' results in out/, or the program in the environment variable PROGRAM. The exit status is 1 if anything differs.
 """
 
 import collections

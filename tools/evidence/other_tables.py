@@ -1,8 +1,9 @@
-"""Why FreeType 2.12.1 has other coordinates and advances than the rules give, where `fvar`, `avar` or `HVAR` was changed.
+"""Explains why FreeType 2.12.1 gets other coordinates and advances than the rules give, for changed `fvar`, `avar` and `HVAR` tables.
 
-For tools/evidence/changed_variable.py. The rules are those of tools/evidence/axes.py, in whole numbers; by them the number has to be that
-of the program. FreeType has ways of its own, each named below; by all of them the number has to be FreeType's. A reason is the fewest of
-these ways with which the one becomes the other, a coordinate within 2 ^ -14. There is none where a number is not as it has to be.
+This module is for tools/evidence/changed_variable.py. The rules are those of tools/evidence/axes.py, in integers; they must give the
+program's value. FreeType deviates from them in the ways named below; with all of these the result must be FreeType's value. A reason is
+the smallest set of deviations that turns one value into the other, for a coordinate within 2^-14. There is no reason if either value is
+not as computed.
 """
 
 import itertools

@@ -1,19 +1,19 @@
 #!/usr/bin/python3
-"""Compares the path of each glyph of fonts with the one that fontTools draws.
+"""Compares the path of each glyph with the one that fontTools draws.
 
     tools/evidence/outlines.py WORD..
     tools/evidence/outlines.py --sheet FONT
 
-Each WORD is a folder or an installed Debian package, of which each file .otf is taken, or a
-font file. Fonts without a table `CFF ` and those of several Private dictionaries are left out, and so are glyphs whose
-`endchar` names two others, which are not followed. Each segment and each coordinate is compared as an exact fraction, and the
-width with the nominal or the default one; the bounds with those of ControlBoundsPen, and the tight bounds with those of
-BoundsPen, rounded outwards to 65536ths, which a side may leave by one more, and by one less where the float that was rounded
-lies within a thousandth of a whole one. The status is 1 where a glyph differs. With --sheet it writes forty glyphs of a font file,
-as they are drawn, as SVG.
+Each WORD is a font file, a folder, or an installed Debian package; of the last two, the script takes each .otf file. Fonts without a `CFF
+` table and CID-keyed fonts are left out. So are glyphs whose `endchar` names two others (`seac`). Each segment and each coordinate is
+compared as an exact fraction, and so is the width, from `nominalWidthX` or `defaultWidthX`. The bounds must be those of ControlBoundsPen.
+The tight bounds must be those of BoundsPen, rounded outwards to 65536ths. A side may be one 65536th further out, or one further in if the
+float before rounding is within a thousandth of an integer. The exit status is 1 if a glyph differs.
 
-Needs `rt` on the path, and Debian's python3-fonttools. The program is tools/programs/outlines.rt.txt, proved in a copy with what the crates
-keep in out/.
+With --sheet, the script writes forty glyphs of a font file, as we draw them, as SVG.
+
+Needs `rt` on the path, and Debian's python3-fonttools. The program is tools/programs/outlines.rt.txt, proved in a copy with the crates'
+results in out/.
 """
 
 import collections

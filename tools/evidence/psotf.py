@@ -1,17 +1,21 @@
 #!/usr/bin/python3
-"""Compares what psotf tells of fonts and of each glyph with what fontTools reads.
+"""Compares the output of `psotf inspect` and `psotf glyph` with fontTools, for each face and each glyph.
 
     (cd crates/psotf && rt run -- --help)
     /usr/bin/python3 tools/evidence/psotf.py WORD..
 
-Each WORD is a folder or an installed Debian package, of which each file .otf is taken, or a font file or a collection, of which each face is that
-has a table `CFF `.
-Needs Debian's python3-fonttools. For each glyph it compares the number, the name or the CID, the characters, the advance, the width
-of the charstring with the nominal or the default one, each operation and each segment, numbers as exact fractions, the bounds of all points, and
-the bounds of the curves, rounded outwards to 65536ths, which a side may leave by one more; glyphs that are made of two others are
-left out, since these are not followed. Of the face it compares each field of `inspect` but the refusals: operands of the
-dictionaries as floats, where fontTools reads numbers, the strings of the Top DICT, and the glyphs with hints by its decompiler of charstrings. It prints each
-face and glyph that differs, and at the end how many were compared and how many differ. Nothing is drawn at random.
+Each WORD is a font file or collection, a folder, or an installed Debian package; of the last two, the script takes each .otf file. It
+takes each face with a `CFF ` table.
+
+For each glyph it compares the glyph ID, the name or CID, the characters, the advance, the width (from `nominalWidthX` or `defaultWidthX`),
+each operation and each segment. Numbers are compared as exact fractions. The bounds of all points must be equal. The bounds of the curves
+are rounded outwards to 65536ths, and a side may be one 65536th further out. Glyphs made of two others (`seac`) are left out.
+
+For each face it compares each field of `inspect` except the errors: operands of the DICTs as floats, since fontTools reads floats, the
+strings of the Top DICT, and the number of glyphs with hints, found by fontTools' charstring decompiler.
+
+It prints each face and glyph that differs, and then the totals. Nothing is random. Needs Debian's python3-fonttools. The exit status is 1
+if anything differs.
 """
 
 import concurrent.futures

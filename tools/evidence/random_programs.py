@@ -1,19 +1,21 @@
-"""Draws random charstring programs and compares the program `psfont` with a second interpreter.
+"""Compares the program `psfont` with a second interpreter on random charstrings.
 
     python3 tools/evidence/random_programs.py [--seed N] [--count N] [PSFONT]
 
-Each program is a code with a list of global and a list of local subroutines. It is handed to PSFONT, the
-built program (crates/psfont/out/psfont when it is left out), by the lines `code`, `global`, `local`, `run`
-and `flat`, and PSFONT's answers are compared line for line with those of `second_interpreter.py`. One process
-answers some thousand programs. Drawn are random bytes, programs that mostly follow the grammar (numbers of
-every form, operators with right and wrong operands, arithmetic near the limits, numbers stored in one routine and
-fetched in another, stems and masks, nested calls through short and very long lists, every way to end a routine),
-and these with some bytes cut or changed.
-Programs that take more than 20000 phrases are left out and counted.
+Each test program is a charstring with a list of global and a list of local subroutines. The script sends it to PSFONT (by default
+crates/psfont/out/psfont) with the commands `code`, `global`, `local`, `run` and `flat`. It compares the answers line by line with those of
+`second_interpreter.py`. One process gets up to 2000 programs.
 
-Every difference is printed with the lines that were handed over and both answers. The last lines give the
-counts and the seed; the same seed and count draw the same programs again. The status is 1 where something
-differs.
+The programs are of three kinds:
+- random bytes;
+- programs that mostly follow the grammar. They have all number formats, right and wrong operands, arithmetic near the limits, numbers
+  stored in one routine and fetched in another, and stems and masks. They nest calls through short and very long lists, and end routines in
+  every way;
+- such programs with some bytes removed or changed.
+Programs with more than 20000 phrases are left out and counted.
+
+Each difference is printed with the input lines and both answers. The last lines are the counts and the seed; the same seed and count give
+the same programs. The exit status is 1 if anything differs.
 """
 
 import argparse

@@ -1,22 +1,26 @@
 #!/usr/bin/python3
-"""Makes pages by `psotf report`, opens each in headless Chromium, and looks at what stands there.
+"""Makes pages with `psotf report`, opens each in headless Chromium, and checks their contents.
 
     (cd crates/psotf && rt run -- --help)
     tools/evidence/report.py [--shots FOLDER] [FONT..]
-    tools/evidence/report.py --sums
 
-FONTs are OpenType files; without any they are some of Debian's fonts-ebgaramond and fonts-freefont-otf, and the CID-keyed one of
-fonts-noto-cjk, where these are installed. Hostile ones are made besides: texts that would leave their place in the page, 65,535 glyphs
-that are refused, and tables that some reading refuses. Of each page it is seen that it opens with no message on the console, that it asks
-the network for nothing, that as many glyphs are found as the page holds and that more cells are made as the grid is scrolled, that all are
-made and drawn when it is printed, that the glyph of `A` is found, opened and stepped through to its end by the keys, that it shows as
-many points then as `psotf glyph --json` tells of, and that it says of each reading what `psotf inspect --json` says. The page's calls and
-masks of glyphs, all of them or some 500, are compared with those that fontTools meets when it runs the glyphs, how often each subroutine
-is called with the sum of these, and the parts of the table CFF with its size: together they cover it without a gap. Where a report has
-several pages, each is opened, they hold each glyph once, and a character of another page is found there by the link. A screenshot of each
-first page at 1280 and 400 pixels goes into FOLDER. Needs Debian's chromium, chromium-driver, python3-selenium and python3-fonttools. A
-line is printed for each report: bytes of the font, of the first page and of all, seconds of psotf, and seconds until the first page is
-loaded. The status is 1 where something is otherwise.
+FONTs are OpenType files. The default is some fonts of Debian's fonts-ebgaramond and fonts-freefont-otf, and the CID-keyed font of
+fonts-noto-cjk, if installed. The script also makes hostile fonts: texts that try to break out of the page, 65,535 invalid glyphs, and
+tables that at least one reader rejects. The checks on each page are:
+- It opens without console messages and makes no network requests.
+- It finds all its glyphs, adds cells when the grid is scrolled, and draws all of them when it is printed.
+- A search for `A` finds the glyph; its cell opens, and the arrow keys step through all of its operations. It then shows as many points as
+  `psotf glyph --json` prints.
+- The result of each reader is the one of `psotf inspect --json`.
+- For FONTs, the calls and masks of all glyphs, or of about 500, are those that fontTools meets when it runs them. If all are compared, so
+  are the call counts of each subroutine.
+- For FONTs, the parts of the `CFF ` table cover it without gaps.
+If a report has several pages, each is opened. Together they must have each glyph once, and a character on another page must be reachable
+by the link.
+
+With --shots, a screenshot of each first page at 1280 and 400 pixels goes into FOLDER. Needs Debian's chromium, chromium-driver,
+python3-selenium and python3-fonttools. The script prints one line per report: the bytes of the font, of the first page and of all pages,
+the seconds of psotf, and the seconds until the first page has loaded. The exit status is 1 if a check fails.
 """
 
 import argparse

@@ -1,11 +1,10 @@
 """A second interpreter of Type 2 charstrings.
 
-It was written from the description of the format and of the program `psfont` alone, without a look at the
-program's code, so that a mistake in one of the two shows as a difference between them; `put` and `get` were added
-by their rules, with the code in sight. `run` and `flat` give the lines that the program prints for its commands of
-the same names, and `tools/evidence/random_programs.py` compares them. Where the program keeps a chain of callers and
-answers one operation at a time, this interpreter evaluates a call to its end before it looks at what follows the
-call. A number is kept as its bits, an exact integer: the bits b stand for b / 65536.
+It was written only from the description of the format and of the program `psfont`, without looking at the program's code. So a mistake in
+either shows as a difference. Only `put` and `get` were added with the code in sight, from their rules. `run` and `flat` return the lines
+that the program prints for its commands of the same names; `tools/evidence/random_programs.py` compares them. The program keeps a chain of
+callers and returns one operation at a time. This interpreter evaluates each call to its end before it continues after the call. Numbers
+are kept as exact integers: b means b / 65536.
 
 This file is a module; run `python3 tools/evidence/random_programs.py` to use it.
 """

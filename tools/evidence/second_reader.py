@@ -1,15 +1,14 @@
-"""A second reader of CFF fonts, written from the format's rules alone.
+"""A second reader of CFF fonts, written only from the rules of the format.
 
-It shares no code with the library: a font is walked over a list of bytes, a real is matched by a pattern,
-and numbers are whole numbers of Python without bounds. `tools/evidence/changed_fonts.py` hands the same fonts to this
-reader and to the program `psfont` and compares the two answers line for line.
+It shares no code with the library. It reads fonts as lists of bytes, matches reals with a pattern, and uses Python's unbounded integers.
+`tools/evidence/changed_fonts.py` gives the same fonts to this reader and to the program `psfont` and compares the two answers line by
+line.
 
-`read_font(data, start)` answers `("ok", lines)` with the lines of the summary, or `("fault", number)` with
-the number of the refusal. A seek past the end succeeds; a reading there that needs a byte is refused. With
-`lenient=True` a dictionary may have fewer than two operands of Private, and a private dictionary none of Subrs:
-there are no local subroutines then.
+`read_font(data, start)` returns `("ok", lines)` with the lines of the summary, or `("fault", number)` with the error number. A seek past
+the end succeeds; reading a byte there is an error. With `lenient=True`, Private may have fewer than two operands, or a Private DICT may
+have no Subrs. There are then no local subroutines.
 
-To look at one font: `python3 tools/evidence/second_reader.py HEX`, or `python3 tools/evidence/second_reader.py lenient HEX`.
+To read one font: `python3 tools/evidence/second_reader.py HEX`, or `python3 tools/evidence/second_reader.py lenient HEX`.
 """
 
 import re

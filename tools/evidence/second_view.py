@@ -1,13 +1,13 @@
 """A second reader of fonts in place, by the rules of the format (Technical Note 5176).
 
-It was written with the library's definitions in sight, and shares no code with it. `lines_of(table)` gives the lines that the program of
-`tools/evidence/view.py` prints of a table `CFF ` with the argument `few`: the font, the glyph of each code, and of a few glyphs the name or
-the CID, the first glyph that has it, the font dictionary, the advance and the matrix; or the number of the refusal. Numbers, dictionaries
-and reals are read by `tools/evidence/second_reader.py`, and charstrings by `tools/evidence/second_interpreter.py`.
+It was written with the library's definitions in sight, and shares no code with it. `lines_of(table)` returns the lines that the program of
+`tools/evidence/view.py` prints for a `CFF ` table with the argument `few`. These are the font, the glyph of each code, and for a few
+glyphs the name or CID, the first glyph with it, the Font DICT, the advance and the matrix; or only the error number. Numbers, DICTs and
+reals are read by `tools/evidence/second_reader.py`, and charstrings by `tools/evidence/second_interpreter.py`.
 
-An INDEX is opened by its count, its size and its last offset alone: an item between offsets that fall is empty, and one past the
-end is cut. What is refused of char sets, encodings and glyphs does not refuse the font. The predefined sets are those of
-fontTools, which has no Expert encoding: where that one is named, its codes are left out on both sides.
+Opening an INDEX reads only its count, its offset size and its last offset. An item between decreasing offsets is empty, and one past the
+end is truncated. Errors in charsets, encodings and glyphs do not reject the font. The predefined charsets and encodings are those of
+fontTools. It has no Expert encoding, so the codes of fonts that use it are left out on both sides.
 """
 
 from fontTools import cffLib

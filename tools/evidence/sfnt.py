@@ -1,13 +1,15 @@
 #!/usr/bin/python3
-"""Compares `postscript_sfnt` with fontTools over font files, and reads fonts with changed bytes.
+"""Compares `postscript_sfnt` with fontTools on font files, and reads fonts with changed bytes.
 
     tools/evidence/sfnt.py SEED COUNT WORD..
 
-Each WORD is a folder or an installed Debian package, of which each file .otf, .ttf and .ttc is taken, or a font file. Of each face these
-must be the same: the tables, the units, the box, the number of glyphs, the family, the style, each advance, and the glyph of
-each character. Then COUNT fonts are made from these with bytes that are changed at random from SEED, and each is read: the
-program must answer to each and end with status 0. Needs `rt` on the path and Debian's python3-fonttools. The program is
-tools/programs/sfnt.rt.txt, proved in a copy with what the crates keep in out/. The status is 1 where something differs.
+Each WORD is a font file, a folder, or an installed Debian package; of the last two, the script takes each .otf, .ttf and .ttc file. For
+each face these must be equal: the tables, the units per em, the box, the number of glyphs, the family, the style, each advance, and the
+glyph of each character. If all are equal, COUNT fonts with bytes changed at random from SEED are made from these. The program must answer
+for each and end with status 0.
+
+Needs `rt` on the path and Debian's python3-fonttools. The program is tools/programs/sfnt.rt.txt, proved in a copy with the crates' results
+in out/. The exit status is 1 if anything differs.
 """
 
 import collections

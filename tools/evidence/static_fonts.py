@@ -1,24 +1,31 @@
 #!/usr/bin/python3
-"""Compares the static fonts that `psotf instance` writes with the variable fonts that they are made of.
+"""Compares the static fonts that `psotf instance` writes with the variable fonts they come from.
 
     (cd crates/psotf && rt run -- --help)
     tools/evidence/static_fonts.py SEED PLACES [--round] WORD..
 
-Each WORD is an OpenType file with a table `CFF2`, or a Debian package, which is downloaded (not installed) and of which each such file
-is taken; pango1.0-tests has Cantarell-VF.otf. Besides, the fonts of tools/variable_fonts.py are made of EB Garamond (Debian's
-fonts-ebgaramond), with two and three axes, with and without subroutines, and with positions of each kind that vary; and once more with
-operators of fewer than 48 operands. None may be refused.
+Each WORD is an OpenType file with a `CFF2` table, or a Debian package; the script downloads the package (without installing it) and takes
+each such file. pango1.0-tests has Cantarell-VF.otf. The script also builds the fonts of tools/variable_fonts.py from EB Garamond (Debian's
+fonts-ebgaramond): two and three axes, with and without subroutines, and GPOS lookups of each kind with varying values. It builds them
+twice, the second time with fewer than 48 operands per operator. No font may be rejected.
 
-A file is written at each named instance, at each end of each axis, and at PLACES random places. It must be read by fontTools, each table
-of it, and pass ots-sanitize; FreeType must load each glyph. By `psotf glyph --all --json` each glyph must have the segments and the advance
-that the variable font has at the place. As fontTools reads it, the width of each charstring must be that of `hmtx`, the side bearing that of
-the outline, and no coordinate further than 1/16 unit from what it draws of the variable font by floats. hb-shape must set a line of text, and 300
-lines of random characters of the font, as it does of the variable font, kerning and marks with them. What fontTools' varLib.mutator makes of
-the font (its instancer takes no CFF2) must have advances, and the numbers that MVAR varies, no further off than a unit; the mutator
-rounds each difference of points, so that of its outlines the furthest is told. The names of a named instance must be those of its style. A font with one Font DICT must keep the names of its glyphs, and
-each hint of its Private DICTs must be where it blends to by floats, at the nearest unit. With --round the files are written so: then each point must be
-that of the file without it, at the nearest whole units, halves up, and nothing is compared with floats. It prints each fault, and the sizes beside those of the mutator's files, which keep CFF2. crates/psotf/out/psotf is run, or the program that the variable PSOTF
-names. Needs Debian's python3-fonttools, libfreetype6, libharfbuzz-bin and opentype-sanitizer. The status is 1 where something differs.
+It writes one file for each named instance, each end of each axis and PLACES random locations. The checks on each file are:
+- fontTools reads each table, ots-sanitize accepts the file, and FreeType loads each glyph.
+- `psotf glyph --all --json` prints the same segments and advances as for the variable font at that location.
+- In fontTools, each charstring has the width of `hmtx`, and each outline the side bearing of `hmtx`. No coordinate is more than 1/16 unit
+  from fontTools' outline of the variable font, computed in floats.
+- hb-shape shapes a sample line and 300 lines of random characters as it does with the variable font, including kerning and marks.
+- Advances and MVAR metrics are at most one unit from those of fontTools' varLib.mutator (its instancer does not support CFF2). The mutator
+  rounds each difference between points, so only the largest distance of its outlines is printed.
+- The names of a named instance are those of its style. A font with one Font DICT keeps its glyph names.
+- Each hint in a Private DICT is the blended value in floats, rounded to the nearest unit.
+
+With --round the files are written with `--round`. Each point must then be the unrounded one at the nearest whole unit, halves up, and the
+outlines are not compared in floats. The script prints up to eight faults per location. It also prints file sizes, next to those of the
+mutator's files, which keep CFF2.
+
+It runs crates/psotf/out/psotf, or the program in the environment variable PSOTF. Needs Debian's python3-fonttools, libfreetype6,
+libharfbuzz-bin and opentype-sanitizer. The exit status is 1 if anything differs.
 """
 
 import collections

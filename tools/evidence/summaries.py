@@ -1,19 +1,22 @@
 #!/usr/bin/env python3
-"""Compares what psfont tells of real fonts with what fontTools reads of the same tables.
+"""Compares the summaries that psfont prints of real fonts with what fontTools reads from the same tables.
 
     apt-get install -y python3-fonttools fonts-cantarell
     (cd crates/psfont && rt run < stdin)
     /usr/bin/python3 tools/evidence/summaries.py fonts-cantarell
 
-Each word is a folder or an installed Debian package, of which each file .otf is taken, or a font file. Each table `CFF ` is written to
-a file of its own, and `psfont font FILE` and `psfont lenient FILE` are asked what it holds. Where it answers, every line has to be
-what fontTools reads: the header's four bytes, the names, how many strings, global subroutines and dictionaries there are, and of each
-dictionary the encoding, the format of the char set, and how many glyphs and local subroutines it has. Where it refuses,
-the refusal has to be the first of these causes that fontTools sees, in the order of the reading: an item of no bytes among the
-strings or the global subroutines (6); of a dictionary, an encoding of the font's own (16), an item of no bytes among the char
-strings (6), no Private (14), no Subrs (14), an item of no bytes among the local subroutines (6).
-By `lenient` no Private and no Subrs are no causes: there are no local subroutines then. For either word the refusals are counted
-by their cause, and the fonts that are read by the formats of their char sets. The status is 1 where something differs.
+Each argument is a font file, a folder, or an installed Debian package; of the last two, the script takes each .otf file. It writes each
+`CFF ` table to a file and runs `psfont font FILE` and `psfont lenient FILE`. If psfont accepts the font, every line must be what fontTools
+reads:
+- the four bytes of the header, the names, and the numbers of strings, global subroutines and Top DICTs;
+- for each Top DICT, the encoding, the format of the charset, and the numbers of glyphs and local subroutines.
+If psfont rejects the font, the error must be the first of these causes that fontTools finds, in this order:
+- an empty item among the strings or global subroutines (6);
+- in a Top DICT: a custom encoding (16), an empty charstring (6), no Private (14), no Subrs (14), or an empty local subroutine (6).
+For `lenient`, a missing Private or Subrs is not an error: there are no local subroutines.
+
+For each command the script counts the rejected fonts by cause, and the accepted ones by charset format. The exit status is 1 if anything
+differs.
 """
 
 import collections

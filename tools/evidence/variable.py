@@ -1,23 +1,23 @@
 #!/usr/bin/python3
-"""Compares the outlines of variable fonts with fontTools and FreeType, and what damaged tables come to.
+"""Compares the outlines of variable fonts with fontTools and FreeType, and reports the results for damaged tables.
 
     tools/evidence/variable.py SEED PLACES CHANGES WORD..
 
-Each WORD is an OpenType file with a table `CFF2`, or a Debian package, which is downloaded (not installed) and of which each such file
-is taken; pango1.0-tests has Cantarell-VF.otf. Besides, four fonts are made of EB Garamond (tools/variable_fonts.py): of two
-and of three axes, their masters moved; of each one whose glyphs call subroutines, name a second item variation data by vsindex, and
-have stems and masks.
+Each WORD is an OpenType file with a `CFF2` table, or a Debian package; the script downloads the package (without installing it) and takes
+each such file. pango1.0-tests has Cantarell-VF.otf. The script also builds four fonts from EB Garamond (tools/variable_fonts.py): with two
+and three axes, each plain and with subroutines, a second ItemVariationData selected by vsindex, stems and masks.
 
-At the default, at each end of each axis and at PLACES random places of each font every outline is compared. fontTools draws by floats: no
-coordinate may be further from ours than 1/16 unit. FreeType draws at 2 pixels a unit, the most at which it keeps fractions: each of
-its points must be ours cut to 1/128 unit; or, in glyphs that it moves by their hints, where it is told not to, ours cut to a unit, or the
-next unit where ours is less than 1/1024 below it.
+It compares every outline at the default, at each end of each axis and at PLACES random locations. fontTools draws in floats; no coordinate
+may be more than 1/16 unit from ours. FreeType draws at 2 pixels per unit, the largest size at which it keeps fractions. Each of its points
+must be ours truncated to 1/128 unit. If FreeType moves a glyph's points by hints, the glyph is compared without hinting. Each point must
+then be ours truncated to a unit, or the next unit if ours is less than 1/1024 below it.
 
-Then CHANGES tables are made with bytes that are changed at random from SEED in their first 64 bytes, which tell where the rest stands, and
-as many with bytes changed behind. The program must end with status 0; how FreeType draws what is drawn, and what is refused, is told. The
-times of both are told too, each the least of 50. Needs `rt` and `gcc` on the path and Debian's python3-fonttools and libfreetype-dev. The
-program is tools/programs/variable.rt.txt, proved in a copy with what the crates keep in out/; with PROGRAM in the environment that one is
-taken. The status is 1 where something differs.
+Then the script makes CHANGES tables with bytes changed at random in the first 64 bytes, which contain the offsets, and CHANGES with bytes
+changed after the first 200. The program must end with status 0. The script counts how FreeType draws our glyphs, and what either rejects.
+It also prints the time of both, the least of 50 runs.
+
+Needs `rt` and `gcc` on the path and Debian's python3-fonttools and libfreetype-dev. The program is tools/programs/variable.rt.txt, proved
+in a copy with the crates' results in out/, or the program in the environment variable PROGRAM. The exit status is 1 if anything differs.
 """
 
 import collections

@@ -1,15 +1,17 @@
 #!/usr/bin/python3
-"""Compares `postscript_view` with fontTools over font files, and fonts with changed bytes with a second reader.
+"""Compares `postscript_view` with fontTools on font files, and with a second reader on fonts with changed bytes.
 
     tools/evidence/view.py SEED COUNT WORD..
 
-Each WORD is a folder or an installed Debian package, of which each file .otf and .ttc with a table `CFF ` is taken, or a font file; of a
-collection the first face. Of each font these must be the same: whether it is CID-keyed, the box, and of each glyph the name or
-the CID, the font dictionary, the matrix and the advance; and the glyph of each code. The first glyph of each name and CID is
-asked back. Then COUNT fonts are made from these with bytes that are changed at random from SEED, and each is asked the same:
-the program must answer to each as tools/evidence/second_view.py does, and end with status 0. Needs `rt` on the path and Debian's
-python3-fonttools. The program is tools/programs/view.rt.txt, proved in a copy with what the crates keep in out/. The status is 1 where
-something differs.
+Each WORD is a font file, a folder, or an installed Debian package; of the last two, the script takes each .otf and .ttc file with a `CFF `
+table. For a collection it takes the first face. These must be equal: whether it is CID-keyed, its FontBBox, the glyph of each code, and
+for each glyph the name or CID, the Font DICT, the matrix and the advance. The first glyph with each name or CID is looked up.
+
+If all are equal, COUNT tables get bytes changed at random from SEED. The tables are those under 60,000 bytes and small made-up ones. The
+program must print the lines of tools/evidence/second_view.py and end with status 0.
+
+Needs `rt` on the path and Debian's python3-fonttools. The program is tools/programs/view.rt.txt, proved in a copy with the crates' results
+in out/. The exit status is 1 if anything differs.
 """
 
 import collections

@@ -1,18 +1,22 @@
 #!/usr/bin/python3
-"""Writes fonts by psotf, and compares their glyphs with those of the fonts that they are made of, by fontTools.
+"""Writes fonts with psotf and compares their glyphs with those of the source fonts, using fontTools and FreeType.
 
     (cd crates/psotf && rt run -- --help)
     /usr/bin/python3 tools/evidence/written.py SEED [--some N] WORD..
 
-Each WORD is a folder or an installed Debian package, of which each file .otf is taken, or a font file; `--some N` before them takes N
-of all these fonts, which are drawn from SEED and printed. Needs gcc and Debian's python3-fonttools, libfreetype-dev, opentype-sanitizer
-and libharfbuzz-bin. Each font is written by `psotf flat`, and, of glyphs that are drawn at random from SEED, three times by `psotf
-subset` and once by `psotf subset --retain-gids`. Of each file that is written fontTools, as it comes, has to draw each glyph with the
-same segments, and to tell the same metrics and the same name or CID; FreeType has to tell the same points, unscaled and unhinted, and
-the same advance; the sums in the file have to be right; and `ots-sanitize` has to accept it if it accepts the source. Sizes of the
-`CFF ` tables and times of the whole commands are compared with `hb-subset --desubroutinize` of all glyphs, which drops the layout tables GSUB, GPOS and GDEF and does not
-rewrite them; `psotf flat` copies them. It prints each file that differs, and then how many fonts, files and glyphs were compared. One process per processor takes one font
-after another.
+Each WORD is a font file, a folder, or an installed Debian package; of the last two, the script takes each .otf file. `--some N` takes N of
+these fonts, chosen with SEED, and prints them. Each font is written once by `psotf flat`. For glyphs chosen at random from SEED it is
+written three times by `psotf subset` and once by `psotf subset --retain-gids`. The checks on each file are:
+- fontTools draws each glyph with the same segments, and reads the same metrics and the same name or CID.
+- FreeType gives the same points, unscaled and unhinted, and the same advance.
+- The checksums in the file are right, and `ots-sanitize` accepts it if it accepts the source.
+
+The sizes of the `CFF ` tables and the times of the whole commands are compared with `hb-subset --desubroutinize` of all glyphs. That
+command drops the layout tables GSUB, GPOS and GDEF, which `psotf flat` copies. The script prints each file that differs, and the numbers
+of fonts, files and glyphs. It runs one process per processor.
+
+Needs gcc and Debian's python3-fonttools, libfreetype-dev, opentype-sanitizer and libharfbuzz-bin. The exit status is 1 if anything
+differs.
 """
 
 import collections
