@@ -1,12 +1,14 @@
 #!/bin/sh
-# The time of a glyph's outline from C, beside HarfBuzz, FreeType and ttf-parser: one process, by turns, the least of twenty rounds over all
-# glyphs of each font. All draw unscaled and unhinted outlines. This library and ttf-parser keep the segments; HarfBuzz hands them to functions that count; FreeType
-# keeps its own outline.
+# Times a glyph's outline from C, compared with HarfBuzz, FreeType and ttf-parser.
 #
 #     tools/speed/beside.sh [FONT.otf ..]
 #
-# Without words it takes EB Garamond 12 Regular and FreeSerif. Needs cargo, a built bindings/c/build/libpostscript.a (`make -C bindings/c`, or LIBRARY=FILE), and Debian's
-# gcc, pkg-config, libfreetype-dev, libharfbuzz-dev, librust-ttf-parser-dev, fonts-ebgaramond and fonts-freefont-otf.
+# The default fonts are EB Garamond 12 Regular and FreeSerif. One process calls the four in turn, each over all glyphs of a font, and the
+# least time of twenty rounds counts. All draw unscaled and unhinted outlines. This library and ttf-parser store the segments. HarfBuzz
+# passes them to functions that count them. FreeType keeps its own outline.
+#
+# Needs cargo, the built library bindings/c/build/libpostscript.a (`make -C bindings/c`, or set LIBRARY=FILE), and Debian's gcc, pkg-config,
+# libfreetype-dev, libharfbuzz-dev, librust-ttf-parser-dev, fonts-ebgaramond and fonts-freefont-otf.
 set -e
 tools=$(cd "$(dirname "$0")/.." && pwd)
 library=${LIBRARY:-$tools/../bindings/c/build/libpostscript.a}

@@ -1,19 +1,21 @@
 #!/usr/bin/python3
-"""Counts the instructions that the glyphs of a font take here, in the Rust crate `postscript` and in `ttf-parser`, and prints a
-table; then how many requests for memory each glyph makes here by `step`, and what time `step_within` takes beside it.
+"""Counts the instructions per glyph here, in the Rust crate `postscript` and in `ttf-parser`, and prints a table. Then it counts the
+requests for memory of each glyph by `step`, and compares the times of `step_within` and `step`.
 
     tools/speed/instructions.py CRATE FONT..
 
-CRATE is the folder of the Rust crate's source, with its folder src/. Each FONT is a font file with a table `CFF ` and one
-Private dictionary. Instructions are counted by valgrind's callgrind: those of two rounds over all glyphs, less those of none, so
-starting and reading the file are left out. How much the compiler inlines depends on how many calls a program has: so `step`,
-`step_within` and `draw_program` are counted once more, each in a program of its own, as `ttf-parser` has one. Requests are counted by
-tools/programs/memory.c, those of one round less those of none: of all glyphs, and of each of the first 300 alone. It stops where `step`,
-`next`, both over subroutines in place, and the Rust crate answer different numbers of operations.
+CRATE is the source folder of the Rust crate, which contains src/. Each FONT is a font file with a `CFF ` table and one Private DICT.
 
-Needs `rt`, `cargo`, `gcc` and `valgrind` on the path, and Debian's python3-fonttools and librust-ttf-parser-dev. Neither folder is
-written to. The program over this repository is tools/programs/instructions.rt.txt, proved in a copy with what the crates keep in out/;
-the others are tools/programs/charstrings.rs and tools/programs/instructions_ttf.rs.
+valgrind's callgrind counts the instructions of two rounds over all glyphs minus those of none, so starting and reading the file are not
+included. The compiler inlines differently if a program has more calls. Therefore `step`, `step_within` and `draw_program` are counted
+again, each in a program of its own, as `ttf-parser` has one. tools/programs/memory.c counts the requests of one round minus those of none:
+for all glyphs, and for each of the first 300 separately. The script stops if `step`, `next`, `step_within`, the two over subroutines in
+place, and the Rust crate do not all count the same number of operations.
+
+The programs are instructions.rt.txt, charstrings.rs and instructions_ttf.rs of tools/programs. The first one is proved in a copy of the
+crates with their out/ folders. Neither CRATE nor this repository is changed.
+
+Needs `rt`, `cargo`, `gcc` and `valgrind` on the path, and Debian's python3-fonttools and librust-ttf-parser-dev.
 """
 
 import collections
@@ -42,7 +44,7 @@ ARM = re.compile(r' {8}("\w+"|_) => ')
 
 
 def counted(command, given):
-    """How many instructions a command takes with this file as its input, and the first word that it prints."""
+    """Runs a command with a file as its input. Returns the number of instructions, and the first word that it prints."""
     tool = ["valgrind", "--tool=callgrind", "--callgrind-out-file=/dev/null"]
     with open(given, "rb") as file:
         done = subprocess.run([*tool, *command], stdin=file, capture_output=True, check=True)
@@ -50,14 +52,14 @@ def counted(command, given):
 
 
 def each_glyph(command, given, glyphs):
-    """How many instructions a glyph takes, and the first word that is printed."""
+    """Returns the number of instructions per glyph, and the first word that the command prints."""
     start, _ = counted([*command, "0"], given)
     whole, told = counted([*command, str(ROUNDS)], given)
     return round((whole - start) / ROUNDS / glyphs), told
 
 
 def of_one_way(way):
-    """Leaves this way alone of those of the program."""
+    """Returns a function that removes all other ways from the program's text."""
     def changed(text):
         arms = [line for line in text.splitlines(keepends=True) if ARM.match(line)]
         own = next(line for line in arms if f'"{way}" =>' in line)
@@ -79,7 +81,7 @@ def print_line(programs, alone, given, font):
 
 
 def seconds(command, given):
-    """The processor time that a command takes with this file as its input."""
+    """Returns the processor time of a command with a file as its input."""
     before = resource.getrusage(resource.RUSAGE_CHILDREN).ru_utime
     with open(given, "rb") as file:
         subprocess.run(command, stdin=file, stdout=subprocess.DEVNULL, check=True)
@@ -87,7 +89,7 @@ def seconds(command, given):
 
 
 def print_times(alone, given):
-    """Prints the time of `step_within` beside that of `step`, each in a program of its own: of rounds in turn, the least of each."""
+    """Compares the times of `step_within` and `step`, each in a program of its own. They take turns, and the least time counts."""
     ways, least = ["step", "step_within"], {}
     for _ in range(TURNS):
         for way in ways:
@@ -98,7 +100,7 @@ def print_times(alone, given):
 
 
 def requests(counter, command, lines):
-    """How many requests for memory a command makes with these lines as its input."""
+    """Counts the requests for memory of a command with these lines as its input."""
     with tempfile.NamedTemporaryFile("r") as told:
         environment = {**os.environ, "LD_PRELOAD": counter, "TOLD": told.name}
         subprocess.run(command, input=lines, env=environment, stdout=subprocess.DEVNULL, check=True)
@@ -106,7 +108,7 @@ def requests(counter, command, lines):
 
 
 def of_a_round(counter, ours, lines):
-    """How many requests for memory one round over these lines makes by `step`."""
+    """Counts the requests for memory of one round of `step` over these lines."""
     whole, start = (requests(counter, [ours, "step", rounds], b"".join(lines)) for rounds in "10")
     return whole - start
 

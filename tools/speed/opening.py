@@ -4,15 +4,18 @@
     tools/speed/opening.py WORD..
     tools/speed/opening.py variable WORD..
 
-Each WORD of the first line is a folder or an installed Debian package, of which each file .otf is taken, or a font file. Each font is its table `CFF ` alone.
-Needs `rt`, `cargo` and `gcc` on the path, and Debian's python3-fonttools, librust-ttf-parser-dev and libfreetype-dev. The program over
-this repository is tools/programs/opening.rt.txt, proved in a copy with what the crates keep in out/; the others are
-tools/programs/opening_ft.c and tools/programs/opening_ttf.rs.
+The first command opens the `CFF ` table of each font, without the other tables. Each WORD is a font file, a folder or an installed Debian
+package; of folders and packages, all .otf files are used. The programs are opening.rt.txt, opening_ft.c and opening_ttf.rs of
+tools/programs.
 
-The second line times variable fonts with a table `CFF2`, from the bytes of the whole file: opening, and a place two thirds of the way from
-the default to the maximum of each axis (to the minimum where that is the default), by tools/programs/opening_variable.rt.txt, proved so
-too, and by tools/programs/opening_variable_ft.c. Each WORD is such a file, or a Debian package, which is downloaded and not installed;
-pango1.0-tests has Cantarell-VF.otf. Fonts of two and three axes that tools/variable_fonts.py makes of EB Garamond come behind them.
+The second command compares variable fonts that have a `CFF2` table with FreeType, from the bytes of the whole file. It times opening the
+font and setting a location. On each axis this is two thirds of the way from the default to the maximum, or to the minimum if the
+default is the maximum. Each WORD is a font file, or a Debian package, which is downloaded and not installed; pango1.0-tests has
+Cantarell-VF.otf. The last two fonts have two and three axes; tools/variable_fonts.py makes them from EB Garamond. The programs are
+opening_variable.rt.txt and opening_variable_ft.c.
+
+The programs in Rattle are proved in a copy of the crates with their out/ folders. Needs `rt`, `cargo`, `gcc` and `pkg-config` on the path,
+and Debian's python3-fonttools, librust-ttf-parser-dev and libfreetype-dev. The second command needs fonts-ebgaramond.
 """
 
 import pathlib
@@ -36,7 +39,7 @@ SHOWN = ("EBGaramond12-Regular", "FreeSerif", "unifont")
 
 
 def write_tables(folder, words):
-    """Writes the table `CFF ` of each font, and their paths to a file, which it gives."""
+    """Writes the `CFF ` table of each font to a file. Returns a file with the paths of these."""
     (folder / "tables").mkdir()
     tables = []
     for name, font in fonts_of(*words):
@@ -47,7 +50,7 @@ def write_tables(folder, words):
 
 
 def freetype(folder, name="opening_ft.c"):
-    """The program of FreeType, built."""
+    """Builds the program that uses FreeType, and returns its path."""
     flags = printed("pkg-config", "--cflags", "--libs", "freetype2").split()
     printed("gcc", "-O2", building.PROGRAMS / name, "-o", folder / "freetype", *flags)
     return folder / "freetype"
@@ -93,13 +96,13 @@ def print_told(all_rows):
 
 
 def asked_of(path):
-    """A place of a font, in 16.16."""
+    """Returns the user coordinates to set, in 16.16 bits."""
     ends = [(axis.defaultValue, axis.minValue if axis.defaultValue == axis.maxValue else axis.maxValue) for axis in TTFont(path, lazy=True)["fvar"].axes]
     return [round((default + (end - default) * 2 / 3) * 65536) for default, end in ends]
 
 
 def compare_variable(words):
-    """Prints how long variable fonts take, and FreeType."""
+    """Prints the times for variable fonts, here and in FreeType."""
     with tempfile.TemporaryDirectory() as name:
         folder = pathlib.Path(name)
         (folder / "fonts").mkdir()

@@ -1,22 +1,24 @@
 #!/usr/bin/python3
-"""Times the reading of real fonts beside the Rust crate `postscript`, and prints tables.
+"""Times the reading of real fonts, compared with the Rust crate `postscript`, and prints tables.
 
     tools/speed/readings.py fonts CRATE WORD..
     tools/speed/readings.py dictionaries CRATE WORD..
 
-CRATE is the folder of the Rust crate's source, with its folder src/. Each WORD is a folder or an installed Debian package, of which
-each file .otf is taken, or a font file; fonts without a table `CFF ` are left out. Needs `rt`, `cargo` and `gcc` on the path, and
-Debian's python3-fonttools. Neither folder is written to. The programs over this repository are tools/programs/fonts.rt.txt and
-tools/programs/dictionaries.rt.txt, proved in a copy with what the crates keep in out/; the ones over the Rust crate stand in
-tools/programs/readings.rs. There are two more there, which make what a reading leaves, and nothing else: the floor, and the maps alone.
-Three programs run by turns.
+CRATE is the source folder of the Rust crate, which contains src/. Each WORD is a font file, a folder or an installed Debian package; of
+folders and packages, all .otf files are used. Fonts without a `CFF ` table are skipped.
 
-The first line times whole fonts, and the INDEX of their char strings; the median of the times of each counts. The line of a font
-whose private dictionary has no Subrs is left out, since both programs refuse it. A second table, by tools/programs/memory.c, has the most
-bytes that each reading asked for at one time.
+The first command times whole fonts, and their CharStrings INDEX. The median of nine runs counts. If a font's Private DICT has no `Subrs`,
+both programs reject the font, so only its INDEX is timed. A second table has the most bytes that each reading holds at one time, measured
+by tools/programs/memory.c.
 
-The second line times the top and the Private dictionary of each font: the first item of the Top DICT INDEX, and what its operator
-Private points to. The least time of each counts.
+The second command times two DICTs of each font: the first item of the Top DICT INDEX, and the Private DICT that its operator `Private`
+points to. The least time of five runs counts.
+
+Three programs take turns. The one over this repository is fonts.rt.txt or dictionaries.rt.txt of tools/programs. It is proved in a copy of
+the crates with their out/ folders. The other two are in readings.rs: one reads with the Rust crate, one only builds the result of a
+reading. The time of the last is the column "floor" or "maps alone". Neither CRATE nor this repository is changed.
+
+Needs `rt`, `cargo` and `gcc` on the path, and Debian's python3-fonttools.
 """
 
 import pathlib
@@ -41,7 +43,7 @@ def number(table, place, size):
 
 
 def behind(table, place):
-    """The place behind an INDEX."""
+    """Returns the offset of the end of an INDEX."""
     count = number(table, place, 2)
     if count == 0:
         return place + 2
@@ -50,7 +52,7 @@ def behind(table, place):
 
 
 def indices(table, top):
-    """The places of the indices of a font: names, dictionaries, strings, subroutines, char strings, local subroutines."""
+    """Returns the offsets of a font's INDEXes: names, Top DICTs, strings, global subroutines, charstrings, local subroutines."""
     places = [table[2]]
     for _ in range(3):
         places.append(behind(table, places[-1]))
@@ -59,7 +61,7 @@ def indices(table, top):
 
 
 def whole_fonts(words):
-    """Of each font the kind, the name, the bytes and the places of all indices in them; and the same of its INDEX of char strings."""
+    """Yields for each font, and for its CharStrings INDEX: the kind, the name, the bytes, and the offsets of all INDEXes in them."""
     for name, font in fonts_of(*words):
         table, top = font.getTableData("CFF "), font["CFF "].cff.topDictIndex[0]
         if "Private" in top.rawDict and "Subrs" in top.Private.rawDict:
@@ -68,7 +70,7 @@ def whole_fonts(words):
 
 
 def dictionaries(words):
-    """Of each dictionary of each font the kind, the font's name, and the bytes."""
+    """Yields for each DICT of each font its kind, the font's name, and the bytes."""
     for name, font in fonts_of(*words):
         table, index = font.getTableData("CFF "), font["CFF "].cff.topDictIndex
         begin, end = (index.offsetBase + offset for offset in index.offsets[:2])
@@ -79,14 +81,14 @@ def dictionaries(words):
 
 
 def add_times(told, times):
-    """Adds what a program told to the times of each line, with how many items it has."""
+    """Adds the times that a program printed to those of each line. The keys are the name and the number of items."""
     for line in told.splitlines():
         name, count, nanos = line.split()
         times.setdefault((name, int(count)), []).append(int(nanos))
 
 
 def timed(programs, turns):
-    """How many items each line has, and the times of the three programs, by turns; with each stands the file that it reads."""
+    """Runs the three programs in turn, each with its input file. Returns the number of items of each line, and the times."""
     all_times = [{} for _ in programs]
     for _ in range(turns):
         for (program, lines), times in zip(programs, all_times):
@@ -97,7 +99,7 @@ def timed(programs, turns):
 
 
 def cells(times):
-    """The times of ours and the Rust crate's in microseconds, their ratio, and the floor's."""
+    """Returns our time and the Rust crate's in microseconds, their ratio, and the ratio of the floor to the Rust crate."""
     ours, rust, floor = times
     return f"{ours / 1000:.0f} µs | {rust / 1000:.0f} µs | {ours / rust:.2f} | {floor / rust:.2f}"
 
@@ -129,7 +131,7 @@ def print_dictionaries(counts, all_times):
 
 
 def lengths(table, place):
-    """The lengths of the items of an INDEX."""
+    """Returns the lengths of the items of an INDEX."""
     count = number(table, place, 2)
     if count == 0:
         return []
@@ -139,7 +141,7 @@ def lengths(table, place):
 
 
 def asked(folder, program, lines):
-    """The most bytes that each reading of a program asked for at one time."""
+    """Returns the most bytes that a program held at one time, for each reading."""
     told = folder / "asked"
     told.write_text("")
     printed(program, given=lines, LD_PRELOAD=building.memory(folder), ASKED=str(told))
@@ -156,7 +158,7 @@ def print_memory(items, ours, rust):
 
 
 def write_lines(path, items, between, with_places):
-    """Writes a line for each item, with this between kind and name, and gives the file."""
+    """Writes a line for each item, with `between` between its kind and name. Returns the file."""
     lines = ([f"{kind}{between}{name}", table.hex(), *(places if with_places else [])] for kind, name, table, places in items)
     path.write_text("".join(f"{' '.join(map(str, line))}\n" for line in lines))
     return path

@@ -1,12 +1,12 @@
 #!/bin/sh
-# Changes tables CFF and times each call of a glyph over them, within the limit that `psf_font_open` gives a font.
+# Finds the slowest call of `psf_font_open` and of each glyph function over changed `CFF ` tables, within the limit that it gives a font.
 #
 #     tools/speed/slowest.sh CASES SEED WORD..
 #
-# Each WORD is an installed Debian package, of which each file .otf is taken, or a font file. Each of the CASES is a table with one to four bytes
-# changed, which is opened; its bounds, outline, flat code, operations and name are asked for of two glyphs. For each call are printed how many
-# there were, the mean and the slowest with its case, by the time that the processor gave it, and how often which status was told. Needs `rt` on
-# the path, and Debian's gcc and make.
+# Each WORD is a font file, or an installed Debian package, whose .otf files are used. Each of the CASES opens a table with one to four
+# changed bytes. It then asks for the bounds, outline, flat code, operations and name of two glyphs. For each function the script prints
+# the number of calls, the mean time, the slowest call with its case, and how often each status was returned. Times are wall-clock times.
+# Needs `rt` on the path, and Debian's gcc and make.
 set -e
 [ $# -ge 3 ] || { sed -n '2,9s/^# \{0,1\}//p' "$0" >&2; exit 2; }
 tools=$(cd "$(dirname "$0")/.." && pwd)

@@ -1,25 +1,28 @@
 #!/usr/bin/python3
-"""Times the interpreter, and prints tables.
+"""Times the charstring interpreter, and prints tables.
 
     tools/speed/speed.py
     tools/speed/speed.py charstrings CRATE WORD..
     tools/speed/speed.py flat CRATE WORD..
     tools/speed/speed.py compare REV WORD..
 
-The first line times a long charstring and long reals. The others run through the glyphs of real fonts. Each WORD is a folder or an
-installed Debian package, of which each file .otf is taken, or a font file; fonts without a table `CFF ` and those of several Private
-dictionaries are left out. Beside them stands a charstring of 10,000 calls of a subroutine that returns.
+The first command times a long charstring and long real numbers. The others time all glyphs of real fonts, and of a made-up font, `calls`.
+Its only charstring calls a subroutine 10,000 times, which just returns.
 
-- `charstrings` times a loop over `next` beside the one of the Rust crate `postscript`.
-- `flat` times four ways, a loop over `next`, `run`, `flat_len` and `flatten`, beside that loop of the Rust crate. A second table has the
-  memory: how often each way asks for it stands in the first, and how much at one time in the second.
-- `compare` times the four ways over an earlier revision of this repository and over its present state, and prints what the present one
-  takes for each part of the earlier one's time. REV is a commit. It is proved from nothing, which takes some ten minutes.
+- `charstrings` times a loop over `next`, compared with the same loop over the Rust crate `postscript`.
+- `flat` times a loop over `next`, `run`, `flat_len` and `flatten`, compared with that loop over the Rust crate. The first table also has
+  the number of requests for memory of each. The second table has the most bytes that each holds at one time.
+- `compare` times these four in an earlier revision of this repository and in the working copy. It prints the new time divided by the old
+  one. REV is a commit, whose crates are proved from scratch. This takes about ten minutes.
 
-CRATE is the folder of the Rust crate's source, with its folder src/. Neither folder is written to. The programs are
-speed.rt.txt, charstrings.rt.txt and flat.rt.txt of tools/programs, proved in copies with what the crates keep in out/, and
-charstrings.rs; memory.c counts. Two programs run by turns, and the least time of each counts. It stops where they answer
-different numbers of operations. Needs `rt` on the path, `cargo`, `gcc` or `git`, and Debian's python3-fonttools.
+CRATE is the source folder of the Rust crate, which contains src/. Each WORD is a font file, a folder or an installed Debian package; of
+folders and packages, all .otf files are used. Fonts without a `CFF ` table and fonts with several Private DICTs are skipped.
+
+The two programs take turns, and the least time of each counts. The script stops if they count different numbers of operations. The
+programs are speed.rt.txt, charstrings.rt.txt, flat.rt.txt and charstrings.rs of tools/programs; memory.c counts the requests. Those in
+Rattle are proved in a copy of the crates with their out/ folders. Neither CRATE nor this repository is changed.
+
+Needs `rt` on the path, `cargo` and `gcc`, or `git` for `compare`, and Debian's python3-fonttools.
 """
 
 import pathlib
@@ -39,7 +42,7 @@ WAYS = ["next", "run", "flat_len", "flatten"]
 
 
 def least_times(programs, files, turns):
-    """Of each file its name, how many operations there are, and of each program the least of each of its times."""
+    """Returns for each file its name, the number of operations, and the least times of each program."""
     least, counts = {}, {}
     for turn in range(turns):
         for file in files:
@@ -56,7 +59,7 @@ def print_row(*cells):
 
 
 def sums(lists):
-    """Place by place, the sums of lists."""
+    """Adds lists item by item."""
     return [sum(items) for items in zip(*lists)]
 
 
@@ -71,7 +74,7 @@ def charstrings(folder, crate, files):
 
 
 def requests(folder, library, program, file):
-    """How often each way through a font asks for memory, beyond what reading the font takes."""
+    """Counts the requests for memory of each way through a font, without those for reading the font."""
     counts = []
     for way in ["none", *WAYS]:
         printed(program, way, given=file, LD_PRELOAD=library, TOLD=str(folder / "told"))
@@ -86,7 +89,7 @@ def print_ratios(name, count, ways, loop, asked):
 
 
 def print_four_ways(times, asked):
-    """A row for each font, and one for all of them without the calls."""
+    """Prints a row for each font, and one for all of them except `calls`."""
     ratios = "`run` / the Rust loop | `run` / `next` | `flat_len` / `run` | `flatten` / `run`"
     print_row("font", "operations", ratios, "requests: `next` | `run` | `flat_len` | `flatten`")
     print("|---|---|---|---|---|---|---|---|---|---|")
@@ -97,7 +100,7 @@ def print_four_ways(times, asked):
 
 
 def print_memory(folder, library, program, files):
-    """Of each font the length of its longest flat code, and the most bytes that each way asks for at one time."""
+    """Prints for each font the length of its longest flat code, and the most bytes that each way holds at one time."""
     print("| font | longest flat code | most bytes at one time: `next` | `run` | `flat_len` | `flatten` | beside that flat code |")
     print("|---|---|---|---|---|---|---|")
     for file in files:
