@@ -3,10 +3,11 @@
 #
 #     tools/bindings/bindings.sh
 #
-# Needs `rt` on the path, and Debian's packages gcc, make, cargo and python3. Nothing is fetched. The tests run over a small font
-# whose bytes bindings/font.hex spells and, where they are installed, over those of fonts-ebgaramond and fonts-freefont-otf; the
-# glyphs of these are compared with fontTools' where python3-fonttools is installed. The tests of Python run twice, the
-# second time in a virtual environment with nothing in it. The status is 1 where a test fails.
+# The tests use the small font in bindings/font.hex and, if they are installed, the fonts of fonts-ebgaramond and fonts-freefont-otf. The
+# glyphs of these are compared with fontTools if python3-fonttools is installed. The Python tests run twice, the second time in an empty
+# virtual environment. Nothing is downloaded. The status is 1 if a test fails.
+#
+# Needs `rt` on the path, and Debian's gcc, make, cargo and python3.
 set -e
 top=$(cd "$(dirname "$0")/../.." && pwd)
 "$top/tools/gate/version.sh"

@@ -1,11 +1,13 @@
 #!/usr/bin/env python3
-"""Runs the examples of the documents: every shell command, and every block of Python, Rust and C, of the pages below.
+"""Runs the examples of the documents: every shell command, and every block of Python, Rust and C.
 
     tools/bindings/pages.py PSOTF LIBRARY_FOLDER [PAGE..]
 
-PSOTF is the built program, and LIBRARY_FOLDER has libpostscript.a and libpostscript.so (bindings/c/build). It works in a new folder with Font.otf (EB Garamond), Variable.otf
-(Cantarell-VF, from Debian's package pango1.0-tests, fetched by apt-get download), upload.otf and fonts/. Commands that install something, or that need `rt` or dist/, are not run; they are counted. It prints each example that fails, and the
-status is 1 if one does. Needs cargo, gcc and Debian's fonts-ebgaramond, librsvg2-bin, woff2 and fonttools.
+PSOTF is the built program, and LIBRARY_FOLDER contains libpostscript.a and libpostscript.so (bindings/c/build). The default pages are those
+of PAGES. The script works in a new folder with Font.otf and upload.otf (EB Garamond), Variable.otf (Cantarell-VF, from Debian's package
+pango1.0-tests, fetched by apt-get download) and fonts/. It skips and counts commands that install something, or that need `rt` or dist/.
+It prints each example that fails, and the status is 1 if one does. Needs cargo, gcc and Debian's fonts-ebgaramond, librsvg2-bin, woff2 and
+fonttools.
 """
 import os
 import pathlib
@@ -44,7 +46,7 @@ int main(void) {{ return 0; }}
 
 
 def blocks(page):
-    """The examples of a page: their language and text."""
+    """Yields the examples of a page: the language and the text."""
     text = (TOP / page).read_text(encoding="utf-8")
     for language, body in re.findall(r"^```(\w+)\n(.*?)^```$", text, re.M | re.S):
         yield language, body
@@ -80,7 +82,7 @@ class Runner:
         return self.run(sys.executable, "-c", PYTHON + body)
 
     def rust(self, body):
-        """A block of Rust: in a new package over the binding."""
+        """Runs a block of Rust in a package that uses the binding."""
         package = self.work / "package"
         (package / "src").mkdir(parents=True, exist_ok=True)
         (package / "Cargo.toml").write_text(

@@ -1,14 +1,16 @@
 #!/usr/bin/python3
-"""Makes the small variable font that the tests of the bindings read, and prints what fontTools draws of it.
+"""Makes the small variable font of the bindings' tests, and prints its advances and outlines by fontTools.
 
     tools/bindings/small_variable.py            compares bindings/variable.hex, and the example of the Rust bindings, with the font that is made
     tools/bindings/small_variable.py --write    writes both
 
-Two axes, wght from 100 by 400 to 900 and opsz from 8 to 16, the second hidden; a segment map that takes 0.5 along wght to 0.75; two named
-instances, of which the second has a PostScript name; three glyphs, of which the third has curves; and advances that vary. A line
-is printed for each place and glyph that the tests ask for: the advance and the outline that fontTools' instancer gives there. (The
-instancer rounds numbers to whole units, so the places are such that they are whole.) Needs Debian's python3-fonttools. The status is 1
-where the font differs.
+The font has two axes, wght from 100 to 900 with the default 400, and opsz from 8 to 16, which is hidden. A segment map takes 0.5 on wght
+to 0.75. There are two named instances, of which the second has a PostScript name. There are three glyphs, of which the third has curves,
+and the advances vary.
+
+The script prints a line for each location and glyph that the tests use: the advance and the outline from fontTools' instancer. The
+instancer rounds to whole units, so the locations are chosen to give whole numbers. Needs Debian's python3-fonttools. The status is 1 if
+the font differs.
 """
 
 import io
@@ -27,7 +29,7 @@ from fontTools.varLib.mutator import instantiateVariableFont
 BINDINGS = pathlib.Path(__file__).resolve().parents[2] / "bindings"
 HEX, EXAMPLE = BINDINGS / "variable.hex", BINDINGS / "rust" / "examples" / "variable.otf"
 REGIONS = [{"wght": (0, 1, 1)}, {"wght": (-1, -1, 0)}, {"opsz": (-1, -1, 0)}]
-#: the numbers of each operator, each with what it varies by in the three regions
+#: the operands of each operator, each with its deltas in the three regions
 GLYPHS = {
     ".notdef": (500, (0, 0, 0), []),
     "A": (
@@ -53,7 +55,7 @@ PLACES = [{}, {"wght": 900}, {"wght": 650}, {"wght": 100}, {"opsz": 8}, {"opsz":
 
 
 def program(operations):
-    """The charstring of operations whose numbers vary."""
+    """Returns the charstring of operations with varying operands."""
     words = []
     for operator, rows in operations:
         words += [row[0] for row in rows] + [delta for row in rows for delta in row[1:]] + [len(rows), "blend", operator]
@@ -74,7 +76,7 @@ def instance(name, wght, opsz, postscript):
 
 
 def made():
-    """The bytes of the font."""
+    """Returns the bytes of the font."""
     font = FontBuilder(1000, isTTF=False)
     font.setupGlyphOrder(list(GLYPHS))
     font.setupCharacterMap({0x41: "A", 0x6F: "o"})
@@ -100,7 +102,7 @@ def made():
 
 
 def told(file, place):
-    """The glyphs of a font as fontTools has them at a place: the advance and the outline of each."""
+    """Yields the name, advance and outline of each glyph, as fontTools instantiates the font at a location."""
     font = instantiateVariableFont(TTFont(io.BytesIO(file)), dict(place))
     glyphs = font.getGlyphSet()
     for name in GLYPHS:

@@ -1,10 +1,11 @@
 #!/bin/sh
-# What is handed out: an archive, Debian's packages, a wheel and a crate, in the folder dist/ at the top.
+# Makes the files of a release in dist/: an archive, Debian packages, a wheel and a crate.
 #
 #     make dist
 #
-# Needs `rt` on the path, and Debian's packages gcc, make, binutils, python3-build, python3-setuptools and python3-wheel. What is proved is
-# built once, and put into each. Two runs of one commit make the same bytes (tools/dist/reproducible.sh).
+# The proved library and programs are built once, and put into each of them. Two runs on one commit give identical bytes
+# (tools/dist/reproducible.sh). Needs `rt` on the path, and Debian's gcc, make, binutils, python3-build, python3-setuptools and
+# python3-wheel.
 . "$(dirname "$0")/env.sh"
 for command in rt cc make strip objdump dpkg-deb; do
     command -v $command > /dev/null || { echo "make dist: no $command" >&2; exit 1; }

@@ -1,5 +1,5 @@
 #!/bin/sh
-# The archive of a tree.
+# Makes the archive of a tree.
 #
 #     tools/dist/archive.sh TREE OUT
 . "$(dirname "$0")/env.sh"

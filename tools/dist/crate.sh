@@ -1,5 +1,5 @@
 #!/bin/sh
-# The crate of the Rust binding, with the static library in it.
+# Makes the crate of the Rust binding, with the static library in it.
 #
 #     tools/dist/crate.sh TREE OUT
 . "$(dirname "$0")/env.sh"
@@ -16,6 +16,6 @@ cp "$tree/lib/libpostscript.a" "$work/$crate/lib"
 cp "$tree/LICENSE-APACHE" "$tree/LICENSE-MIT" "$tree/PROOF.txt" "$work/$crate"
 chmod -R u=rwX,go=rX "$work/$crate"
 dated "$work/$crate"
-# what `cargo package` lays out, without its Cargo.lock, which a library needs not, and with the date of the commit
+# the layout of `cargo package`, without Cargo.lock, which a library does not need, and with the date of the commit
 tar --create --directory "$work" --sort=name --mtime "@$SOURCE_DATE_EPOCH" --owner=0 --group=0 --numeric-owner --format=ustar \
     "$crate" | gzip -9n > "$out/$crate.crate"

@@ -1,9 +1,9 @@
 #!/bin/sh
-# Debian's packages: psotf, libpostscript-proved0, libpostscript-proved-dev and python3-postscript-proved.
+# Makes the Debian packages psotf, libpostscript-proved0, libpostscript-proved-dev and python3-postscript-proved.
 #
 #     tools/dist/deb.sh TREE OUT
 #
-# Needs dpkg-deb. Where lintian is there, it is asked of each package, and an error of it ends the script.
+# Needs dpkg-deb. If lintian is installed, it checks each package, and the script fails on its errors.
 . "$(dirname "$0")/env.sh"
 tree=$(cd "$1" && pwd) out=$(cd "$2" && pwd)
 work=$(mktemp -d)
@@ -54,10 +54,10 @@ set -e
 if command -v py3clean > /dev/null 2>&1; then py3clean -p python3-postscript-proved; fi
 END
 
-# how many KiB the files have
+# sizes: the total size of the files in KiB
 sizes() { find usr -type f -printf '%s\n' | awk '{ size += int(($1 + 1023) / 1024) } END { print size }'; }
 
-# finished PACKAGE: what each has, and the package
+# finished PACKAGE: adds the files that each package has, and builds it
 finished() {
     cd "$work/$1"
     doc=usr/share/doc/$1

@@ -1,12 +1,12 @@
 #!/bin/bash
-# Installs the files of `make dist` in a clean Debian without `rt`: the archive, the CMake project, the wheel, the crate and the Debian packages.
-# Draws one glyph with each, and compares.
+# Installs the files of `make dist` in a clean Debian without `rt`: the archive, the CMake project, the wheel, the crate and the Debian
+# packages. Draws one glyph with each, and compares the outlines.
 #
 #     tools/dist/dist_test.sh
 #
-# Needs root, debootstrap and the mirror that this machine's apt uses. It makes dist/ if there is none. DIST_TEST_ROOT may name a tar file of a clean root of
-# Debian 12, which is then used instead of a new one. The glyph is A of EB Garamond, and of the font of the bindings' tests, whose outline was computed
-# by hand. The last line is 'N passed, M failed', and the status is 1 if one failed.
+# It makes dist/ if there is none. DIST_TEST_ROOT may name a tar file of a clean root of Debian 12, which is then used instead of a new one.
+# The glyph is A of EB Garamond, and A of the small font of the bindings' tests, whose outline was computed by hand. The last line is
+# 'N passed, M failed', and the status is 1 if one failed. Needs root, debootstrap, and the mirror that this machine's apt uses.
 set -euo pipefail
 top=$(cd "$(dirname "$0")/../.." && pwd)
 version=$(cat "$top/VERSION")
@@ -30,13 +30,13 @@ cp "$top/bindings/font.hex" "$top/bindings/accents.hex" "$top/bindings/variable.
 passed=0 failed=0
 font=/usr/share/fonts/opentype/ebgaramond/EBGaramond12-Regular.otf
 
-# inside SCRIPT: runs it in the clean root, in /t; there `refused COMMAND` ends it where the command does not fail
+# inside SCRIPT: runs a script in the clean root, in /t. There `refused COMMAND` fails unless the command does.
 inside() {
     unshare --mount --pid --fork --mount-proc="$root/proc" chroot "$root" /usr/bin/env -i PATH=/usr/sbin:/usr/bin:/sbin:/bin HOME=/root \
         LC_ALL=C.UTF-8 DEBIAN_FRONTEND=noninteractive V="$version" N="/t/$name" F="$font" S="/t/$name/examples/small.otf" sh -euc "refused() { if \"\$@\"; then exit 1; fi; }; cd /t; $1"
 }
 
-# case WHAT SCRIPT: whether the script ends well in the clean root
+# case_of NAME SCRIPT: passes if the script succeeds in the clean root
 case_of() {
     if inside "$2" > "$work/log" 2>&1; then
         echo "passed: $1"
@@ -48,7 +48,7 @@ case_of() {
     fi
 }
 
-# got PACKAGE..: Debian's packages
+# got PACKAGE..: installs Debian packages in the clean root
 got() { inside "apt-get install -y -qq --no-install-recommends $*" > "$work/log" 2>&1 || { cat "$work/log"; exit 1; }; }
 
 inside 'apt-get update -qq' > "$work/log" 2>&1 || { cat "$work/log"; exit 1; }
@@ -155,7 +155,7 @@ case_of 'completions: zsh' 'zsh -n /usr/share/zsh/vendor-completions/_psotf; zsh
 case_of 'the packages: removed' 'apt-get purge -y -qq psotf libpostscript-proved0; refused test -e /usr/bin/psotf; refused test -e /usr/include/postscript.h
     refused test -e /usr/lib/python3/dist-packages/postscript'
 
-# --- the same glyph by each
+# --- all of them draw the same glyph
 if python3 - "$root/t/out" << 'END'; then passed=$((passed + 1)); else failed=$((failed + 1)); fi
 import json, pathlib, re, sys
 

@@ -1,9 +1,9 @@
 #!/bin/sh
-# Puts what the archive holds under a folder: the programs, the library, the header, the manual pages and the completions.
+# Installs the files of the archive in a folder: the programs, the library, the header, the documents, the manual pages and the completions.
 #
 #     tools/dist/install.sh PREFIX
 #
-# What `make dist` made is taken.
+# Run `make dist` first.
 . "$(dirname "$0")/env.sh"
 prefix=$1
 if [ ! -f "$top/dist/$name.tar.gz" ]; then

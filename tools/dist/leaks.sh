@@ -1,10 +1,10 @@
 #!/bin/sh
-# Whether a file of a folder holds a path of the machine that it was made on: of the checkout, of the toolchain, of a home
-# folder, of a temporary file, or of another place that is no Debian folder. Archives and packages are unpacked, and what these hold is looked through.
+# Looks in the files of a folder for paths of the machine that made them: the checkout, the toolchain, a home folder, a temporary file, or
+# a path in /home, /root, /mnt or /srv. Archives, packages and static libraries are unpacked first.
 #
 #     tools/dist/leaks.sh FOLDER
 #
-# Prints each such line, and then the status is 1.
+# It prints each line with such a path, and the status is 1 if there is one.
 . "$(dirname "$0")/env.sh"
 folder=$(cd "$1" && pwd)
 work=$(mktemp -d)

@@ -1,11 +1,11 @@
 #!/usr/bin/python3
-"""Makes the manual pages and the completions from the help of the programs, the header and two documents.
+"""Makes the manual pages and the shell completions from the programs' help, the C header and two documents.
 
     tools/dist/pages.py PSOTF PSFONT OUT
 
-PSOTF and PSFONT are the programs, and OUT is the folder for man/ and the completions, laid out like share/. psotf(1) is made from the --help of
-each subcommand. psfont(1) is made from its usage, the table of its lines in docs/psfont.md, and the table of errors in docs/errors.md.
-postscript.h(3) is made from bindings/c/postscript.h. Exit statuses and files are described in this script.
+PSOTF and PSFONT are the programs. OUT is the folder for man/ and the completions, laid out like share/. psotf(1) is made from the --help
+of each subcommand. psfont(1) is made from its usage, the table of its lines in docs/psfont.md, and the table of errors in docs/errors.md.
+postscript.h(3) is made from bindings/c/postscript.h. The exit statuses and files are described in this script.
 """
 
 import os
@@ -20,7 +20,7 @@ TOP = pathlib.Path(__file__).resolve().parents[2]
 VERSION = (TOP / "VERSION").read_text().strip()
 DATE = time.strftime("%Y-%m-%d", time.gmtime(int(os.environ.get("SOURCE_DATE_EPOCH", "0"))))
 
-#: the names of option values that are paths; all others are text or numbers, which are not completed
+#: names of option values that are paths; all others are text or numbers, which are not completed
 FILES = {"FILE", "OUT", "PATH"}
 
 
@@ -47,7 +47,7 @@ def asked(program, *words):
 
 
 def sections_of(text):
-    """The sections of a help text by their headings. The first section has none."""
+    """Returns the sections of a help text by heading. The first one has none."""
     sections, heading = {"": []}, ""
     for line in text.splitlines():
         found = re.fullmatch(r"(Usage|Commands|Arguments|Options|Examples):(.*)", line)
@@ -72,7 +72,7 @@ def word_of(line):
 
 
 def command_of(program, name, about):
-    """A subcommand by its own help."""
+    """Returns a subcommand, from its own help."""
     told = sections_of(asked(program, name, "--help").stdout)
     assert told[""] == [about], (name, told[""], about)
     return Command(
@@ -88,7 +88,7 @@ def command_of(program, name, about):
 
 
 def quoted(text):
-    """A text as troff reads it."""
+    """Quotes a text for troff."""
     text = text.replace("\\", "\\e").replace("-", "\\-").replace("^", "\\(ha").replace("~", "\\(ti").replace("`", "\\(ga")
     return re.sub(r"^([.'])", r"\\&\1", text, flags=re.M)
 
@@ -102,7 +102,7 @@ def title(name, section, manual):
 
 
 def spelled(usage):
-    """The usage, with values in italics and the rest in bold."""
+    """Formats a usage line, with values in italics and options in bold."""
     return re.sub(r"<(\w+)>|(--?[\w-]+)", lambda m: rf"\fI{m[1]}\fR" if m[1] else bold(m[2]), usage).replace("OPTIONS", "options")
 
 
@@ -160,7 +160,7 @@ def psfont_page(program):
 
 
 def comment_of(text):
-    """The paragraphs of a comment. Each item of a list is a paragraph."""
+    """Splits a comment into paragraphs. Each item of a list is one."""
     lines = [re.sub(r"^ ?\*? ?", "", line) for line in text.strip().splitlines()]
     paragraphs = [""]
     for line in lines:
@@ -333,7 +333,7 @@ def fish(commands, options):
 
 
 def of_psfont(program):
-    """The completions of psfont, from its usage. It has subcommands and no options."""
+    """Returns the completions of psfont, from its usage. It has subcommands and no options."""
     words = [word.split()[0] for word in re.search(r"\[(.*)\]", asked(program, "--help").stderr)[1].split(" | ")]
     names = " ".join(words)
     return {

@@ -1,10 +1,10 @@
 #!/bin/sh
-# Proves and builds what is handed out, and writes how it was proved.
+# Proves and builds the library and the programs of a release, and writes to the file OUT how they were proved.
 #
 #     tools/dist/prove.sh OUT
 #
-# The crates are those that postscript_c, psotf and psfont are made of, by crates.txt. What `rt` kept is taken; from nothing it takes
-# an hour or so. With RT_JOBS each check has so many jobs.
+# The crates are postscript_c, psotf and psfont, and those that they use by crates.txt. Results that `rt` kept are reused; from scratch it
+# takes about an hour. RT_JOBS sets the number of jobs of each check.
 . "$(dirname "$0")/env.sh"
 out=$1
 crates='postscript_c psotf psfont'
@@ -14,7 +14,7 @@ while :; do
     if [ "$more" = "$crates" ]; then break; fi
     crates=$more
 done
-# in their own order, the lowest first
+# in the order of crates.txt, the lowest first
 crates=$(sed -n 's/^\([a-z0-9_]*\)\( staticlib\)\?:.*/\1/p' "$top/crates.txt" | while read -r crate; do
     case " $crates " in *" $crate "*) echo "$crate" ;; esac
 done)

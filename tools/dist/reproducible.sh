@@ -1,10 +1,10 @@
 #!/bin/sh
-# Whether two builds of the commit that is checked out make the same bytes: `make dist` runs in two new clones, in folders of
-# different names, and each file of dist/ is compared.
+# Checks that two builds of the current commit are byte-identical. `make dist` runs in two new clones, in folders of different names, and
+# each file of dist/ is compared.
 #
 #     tools/dist/reproducible.sh
 #
-# The proofs are taken from what `rt` kept. The status is 1 where a file differs.
+# Proofs that `rt` kept are reused. The status is 1 if a file differs.
 . "$(dirname "$0")/env.sh"
 unset SOURCE_DATE_EPOCH
 work=$(mktemp -d)

@@ -1,9 +1,9 @@
 #!/bin/sh
-# Lays out what the archive holds, and what the packages take from it.
+# Lays out the files of the archive. The packages take theirs from it.
 #
 #     tools/dist/tree.sh PROOF.txt TREE
 #
-# The library and the programs have to be built (tools/dist/prove.sh).
+# The library and the programs must have been built (tools/dist/prove.sh).
 . "$(dirname "$0")/env.sh"
 proof=$1 tree=$2
 share=$tree/share
@@ -12,7 +12,7 @@ mkdir -p "$tree/bin" "$tree/lib/pkgconfig" "$tree/lib/cmake/postscript" "$tree/i
 make --no-print-directory -s -C "$top/bindings/c"
 cp "$top/bindings/c/build/libpostscript.a" "$top/bindings/c/build/libpostscript.so.0" "$tree/lib"
 for program in psotf psfont; do cp "$top/crates/$program/out/$program" "$tree/bin"; done
-# without names of files and places of lines, and with no dates
+# removes file names, line numbers and dates
 strip --strip-debug --enable-deterministic-archives --remove-section=.comment "$tree/lib/libpostscript.a"
 strip --strip-unneeded --remove-section=.comment "$tree/lib/libpostscript.so.0"
 strip --strip-all --remove-section=.comment "$tree/bin/psotf" "$tree/bin/psfont"
@@ -39,7 +39,7 @@ END
 cp "$top/bindings/c/svg_glyph.c" "$top/bindings/c/operations.c" "$top/tools/dist/example/advance.c" "$tree/examples"
 cp "$top/bindings/rust/examples/small.otf" "$tree/examples"
 filled "$top/tools/dist/example/CMakeLists.txt" > "$tree/examples/CMakeLists.txt"
-# the licences of the toolchain's crates that are compiled in
+# the licences of the toolchain's crates that are compiled into these files
 kit=$(dirname "$(rt doc)")/rattle
 for crate in $(sed -n 's/^[a-z0-9_]*\( staticlib\)\?: *//p' "$top/crates.txt" | tr ' ' '\n' | sort -u); do
     for licence in "$kit/$crate"/LICENSE*; do

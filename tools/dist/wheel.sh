@@ -1,10 +1,10 @@
 #!/bin/sh
-# The wheel of the Python module, with the shared library in it.
+# Makes the wheel of the Python module, with the shared library in it.
 #
 #     tools/dist/wheel.sh TREE OUT
 #
-# Needs Debian's python3-build, python3-setuptools and python3-wheel. The wheel is for any Python 3, x86-64, and the C library whose
-# symbols the library wants, or a newer one.
+# Needs Debian's python3-build, python3-setuptools and python3-wheel. The wheel is for any Python 3 on x86-64, and for the version of the C
+# library whose symbols the library needs, or a newer one.
 . "$(dirname "$0")/env.sh"
 tree=$(cd "$1" && pwd) out=$(cd "$2" && pwd)
 work=$(mktemp -d)
@@ -13,7 +13,7 @@ cp -r "$top/bindings/python/postscript" "$top/bindings/python/pyproject.toml" "$
 find "$work" -name __pycache__ -prune -exec rm -r {} +
 cp "$tree/lib/libpostscript.so.0" "$work/postscript"
 cp "$tree/LICENSE-APACHE" "$tree/LICENSE-MIT" "$tree/PROOF.txt" "$work"
-# pip knows the C library's versions from 2.5 on
+# pip supports versions of the C library from 2.5
 libc=$(printf '2.5\n%s\n' "$(wanted_libc "$tree/lib/libpostscript.so.0")" | sort -V | tail -n 1 | cut -d . -f 1,2 | tr . _)
 cat > "$work/setup.py" << END
 from setuptools import Distribution, setup
@@ -34,7 +34,7 @@ setup(distclass=Built, cmdclass={"bdist_wheel": Wheel}, license_files=["LICENSE-
 END
 chmod -R u=rwX,go=rX "$work"
 dated "$work"
-# Debian's own Python, whose packages these are
+# uses Debian's own Python, which has these packages
 (cd "$work" && env -i PATH=/usr/bin:/bin HOME="$work" LC_ALL=C.UTF-8 SOURCE_DATE_EPOCH="$SOURCE_DATE_EPOCH" PYTHONHASHSEED=0 \
     /usr/bin/python3 -m build --wheel --no-isolation --outdir "$work/dist" > "$work/log" 2>&1) || {
     cat "$work/log"

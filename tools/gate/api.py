@@ -1,18 +1,17 @@
 #!/usr/bin/env python3
-"""Prints the page of the library's public items, from its sources.
+"""Prints docs/API.md, the page of the library's public items, from the sources.
 
     tools/gate/api.py > docs/API.md
     tools/gate/api.py --check
     tools/gate/api.py --unsaid [CRATE..]
 
-The first command writes the page. The second compares docs/API.md with the page that the first would print, and checks that each block of Rattle
-in the documents of QUOTING is in a source, line for line. It prints the differences, and its status is 1 if there are any. The third
-lists the public `ensures` clauses that have no comment of one line, `//`, right above them, or one of more than 100 columns; its status is 1 if
-there are any.
+The first command prints the page. The second compares docs/API.md with that page. It also checks that each block of Rattle in the documents
+of QUOTING is in a source, line for line. It prints the differences, and its status is 1 if there are any. The third lists each public
+`ensures` clause that has no one-line comment, `//`, right above it, or one of more than 100 columns. Its status is 1 if there are any.
 
-A public item is one that a user can name: from the root of a crate through `pub mod` and `pub use`. Its comment, its signature
-and the clauses of its contract are taken as they stand. The sources are in the formatter's layout, so an item is read by
-its lines: it begins at the indentation of its block, and ends there. What is not understood ends the script with a message.
+A public item is one that a user can name, from the root of a crate through `pub mod` and `pub use`. Its comment, its signature and its
+contract's clauses are copied unchanged. The script relies on the formatter's layout: an item begins and ends at the indentation of its
+block. The script stops with a message at anything that it does not understand.
 """
 import dataclasses
 import difflib
@@ -65,7 +64,7 @@ CLAUSE = re.compile(r"(requires|ensures|decreases)\b\*? *(\w*)")
 
 @dataclasses.dataclass
 class Item:
-    """An item as it is written: its comment, its attributes, its lines, and what stands in its block."""
+    """An item as written: its comment, its attributes, its lines, and the items in its block."""
 
     kind: str
     name: str
@@ -80,7 +79,7 @@ class Item:
 
 @dataclasses.dataclass
 class Module:
-    """A module: its comment, its items in their order, and its modules by their names."""
+    """A module: its comment, its items in order, and its modules by name."""
 
     crate: str
     path: tuple
@@ -99,7 +98,7 @@ class Module:
         return ".".join((self.crate, *self.path))
 
 
-# How items are read.
+# Reading items.
 
 
 def indentation(line):
@@ -107,7 +106,7 @@ def indentation(line):
 
 
 def attribute_end(lines, start):
-    """The line behind the attribute that begins on this line."""
+    """Returns the number of the line after the attribute that begins on this line."""
     depth = 0
     for place in range(start, len(lines)):
         depth += lines[place].count("[") - lines[place].count("]")
@@ -117,7 +116,7 @@ def attribute_end(lines, start):
 
 
 def item_end(lines, start):
-    """The line behind the item that begins on this line."""
+    """Returns the number of the line after the item that begins on this line."""
     indent = indentation(lines[start])
     body = False
     for place in range(start, len(lines)):
@@ -135,7 +134,7 @@ def item_end(lines, start):
 
 
 def name_of(kind, rest):
-    """The name of an item, of which this stands behind the word of its kind."""
+    """Returns the name of an item, from the text after the keyword of its kind."""
     if kind in ("use", "impl"):
         return rest.strip()
     found = re.match(r" (\w+)", rest)
@@ -143,7 +142,7 @@ def name_of(kind, rest):
 
 
 def read_item(lines, doc, attributes):
-    """The item of these lines. None of what is for proofs alone and has no place on the page."""
+    """Returns the item of these lines, or None if it is only for proofs and not shown on the page."""
     text = lines[0].strip()
     if text.startswith("ghost "):
         declared = re.match(r"ghost (\w+):", text)
@@ -160,13 +159,13 @@ def read_item(lines, doc, attributes):
 
 
 def block_of(lines):
-    """The lines between the braces of an impl, a trait or a module."""
+    """Returns the lines between the braces of an impl, a trait or a module."""
     opened = next(place for place, line in enumerate(lines) if line.endswith("{"))
     return lines[opened + 1 : -1]
 
 
 def read_items(lines):
-    """The comment of a block and its items."""
+    """Returns the comment of a block, and its items."""
     comment, items, doc, attributes = [], [], [], []
     place = 0
     while place < len(lines):
@@ -188,7 +187,7 @@ def read_items(lines):
 
 
 def read_module(crate, path, above, public, doc, items):
-    """The module of these items, and the modules below it."""
+    """Returns the module of these items, with the modules below it."""
     module = Module(crate, path, above, public, doc, items)
     for item in items:
         item.crate = crate
@@ -200,7 +199,7 @@ def read_module(crate, path, above, public, doc, items):
 
 
 def module_text(crate, path, item):
-    """The comment and the items of a module that is declared here."""
+    """Returns the comment and the items of a module that is declared here."""
     if not item.lines[0].rstrip().endswith(";"):
         return item.doc, item.members
     return read_file(TOP.joinpath("crates", crate, "src", *path, f"{item.name}.rt"))
@@ -215,11 +214,11 @@ def read_crate(crate):
     return read_module(crate, (), None, True, comment, items)
 
 
-# What names mean.
+# Resolving names.
 
 
 def used(text, front=()):
-    """The paths that a `use` names, and the names that they have here."""
+    """Returns the paths that a `use` names, with the names that they get."""
     text = text.strip().rstrip(";").strip()
     if text.endswith("}"):
         head, inner = text[:-1].split("{", 1)
@@ -231,7 +230,7 @@ def used(text, front=()):
 
 
 def parts_of(text):
-    """The parts between the commas that stand in no braces."""
+    """Splits a text at the commas outside of braces."""
     parts, depth, part = [], 0, ""
     for letter in text:
         depth += (letter == "{") - (letter == "}")
@@ -248,7 +247,7 @@ def text_of_use(item):
 
 
 def find(crates, module, path):
-    """The item or the module that a path names in a module. None where it names nothing of these crates."""
+    """Returns the item or module that a path names in a module, or None if it is not in these crates."""
     first, *rest = path
     if first == "crate":
         return below(crates, crates[module.crate], rest)
@@ -260,7 +259,7 @@ def find(crates, module, path):
 
 
 def below(crates, module, path):
-    """What a path names that begins in a module."""
+    """Returns the item or module that a path names, starting at a module."""
     if not path:
         return module
     first, *rest = path
@@ -283,7 +282,7 @@ def has_item(module, name):
 
 
 def modules_below(module):
-    """A module and those below it that a user can name, in their order."""
+    """Yields a module and those below it that a user can name, in order."""
     yield module
     for inner in module.modules.values():
         if inner.public:
@@ -291,14 +290,14 @@ def modules_below(module):
 
 
 def all_items(module):
-    """The items of a module and of those below it."""
+    """Yields the items of a module and of those below it."""
     yield from module.items
     for inner in module.modules.values():
         yield from all_items(inner)
 
 
 def entries(crates, module):
-    """What a module shows, and the name that it has there."""
+    """Yields the items and modules that a module exports, with their names there."""
     for item in module.items:
         if item.public and item.kind in KINDS:
             yield item, item.name
@@ -311,7 +310,7 @@ def entries(crates, module):
 
 
 def name_homes(crates):
-    """Gives each item the anchor of the place where the page has it: the module it stands in, else the first that shows it."""
+    """Gives each item its anchor on the page: in its own module, or otherwise in the first module that exports it."""
     shown = [module for crate in crates.values() for module in modules_below(crate)]
     for module in shown:
         for item in module.items:
@@ -323,11 +322,11 @@ def name_homes(crates):
                 entry.anchor = f"{module.anchor}.{name}"
 
 
-# What impls say.
+# Reading impls.
 
 
 def without_parameters(text):
-    """The text behind `<..>` at its beginning."""
+    """Returns the text after `<..>` at its beginning."""
     if not text.startswith("<"):
         return text
     depth = 0
@@ -339,30 +338,30 @@ def without_parameters(text):
 
 
 def impl_parts(item):
-    """The trait of an impl, empty where it has none, and its type."""
+    """Returns the trait of an impl, empty if it has none, and its type."""
     text = re.sub(r" *\{\}?$| where .*", "", without_parameters(item.name))
     trait, between, kind = text.rpartition(" for ")
     return (trait, kind) if between else ("", text)
 
 
 def plain_name(text):
-    """The last name of a path, without parameters."""
+    """Returns the last name of a path, without parameters."""
     return re.sub(r"<.*", "", text).split("::")[-1]
 
 
 def impls_of(crates, item):
-    """The impls of a type in its crate."""
+    """Returns the impls of a type in its crate."""
     impls = [one for one in all_items(crates[item.crate]) if one.kind == "impl"]
     return [one for one in impls if plain_name(impl_parts(one)[1]) == item.name]
 
 
 def types_with(crates, trait):
-    """The types of these crates that have a trait, as they are written."""
+    """Returns the types of these crates that implement a trait, as written."""
     impls = [one for crate in crates.values() for one in all_items(crate) if one.kind == "impl"]
     return [impl_parts(one)[1] for one in impls if plain_name(impl_parts(one)[0]) == trait]
 
 
-# How the page is written.
+# Writing the page.
 
 
 def dedented(lines):
@@ -375,7 +374,7 @@ def code(language, lines):
 
 
 def signature(item):
-    """The lines of a function before its contract and its body."""
+    """Returns the lines of a function before its contract and its body."""
     taken = []
     indent = indentation(item.lines[0])
     for line in item.lines:
@@ -390,7 +389,7 @@ def signature(item):
 
 
 def contract(item):
-    """The lines of the clauses of a function, and the names of those that it ensures."""
+    """Returns the lines of the clauses of a function, and the names of its `ensures` clauses."""
     indent = indentation(item.lines[0])
     places = [place for place, line in enumerate(item.lines) if is_clause(line, indent + 4)]
     if not places:
@@ -415,7 +414,7 @@ def is_remark(line, indent):
 
 
 def unsaid(crates):
-    """A line for each public `ensures` clause without its comment of one line, or with one that is too long."""
+    """Yields a line for each public `ensures` clause without a one-line comment, or with one that is too long."""
     for crate in crates.values():
         for item, owner in functions_of(crates, crate):
             indent = indentation(item.lines[0]) + 4
@@ -428,7 +427,7 @@ def unsaid(crates):
 
 
 def functions_of(crates, crate):
-    """The public functions of a crate, each with the name before its own: those of its modules, traits and types."""
+    """Yields the public functions of a crate, those of its modules, traits and types, each with the prefix of its name."""
     for module in modules_below(crate):
         for entry, name in entries(crates, module):
             if not isinstance(entry, Item) or entry.anchor != f"{module.anchor}.{name}":
@@ -450,13 +449,13 @@ def attributes_of(item):
 
 
 def constant(item):
-    """A constant: as it stands where it has one line, else without its value."""
+    """Returns a constant: unchanged if it has one line, otherwise without its value."""
     lines = dedented(item.lines)
     return lines if len(lines) == 1 else [lines[0].split(" = ")[0] + ";"]
 
 
 def fields(item):
-    """A struct without what is private, and a line for that."""
+    """Returns a struct without its private fields, with a line that says so."""
     lines, held, hidden = [item.lines[0]], [], False
     for line in item.lines[1:-1]:
         text = line.strip()
@@ -472,7 +471,7 @@ def fields(item):
 
 
 def shape(item):
-    """The lines that show an item, without functions."""
+    """Returns the lines that show an item, without its functions."""
     if item.kind == "fn":
         return signature(item)
     if item.kind in ("const", "static"):
@@ -485,7 +484,7 @@ def shape(item):
 
 
 class Page:
-    """The lines of the page, and the crates that it is about."""
+    """The lines of the page, and the crates that it describes."""
 
     def __init__(self, crates):
         self.crates = crates
@@ -497,7 +496,7 @@ class Page:
         return f"[`{name}`](#{found.anchor})" if found.anchor else f"`{name}`"
 
     def text(self, module, doc):
-        """A comment, with the names in square brackets as links where the page has them."""
+        """Returns a comment in which names in square brackets are links, if they are on the page."""
 
         def linked(match):
             path = tuple(match[1].split("::"))
@@ -508,7 +507,7 @@ class Page:
         return [re.sub(r"\[`([\w:]+)`\](?!\()", linked, line) for line in doc]
 
     def contents(self):
-        """The crates and their modules."""
+        """Adds the list of crates and their modules."""
         self.lines.append("")
         for crate in self.crates.values():
             inner = [self.link(module, "::".join(module.path)) for module in modules_below(crate) if module.path]
@@ -546,7 +545,7 @@ class Page:
             self.lines += ["", *self.text(module, item.doc)]
 
     def function(self, module, item):
-        """A function: its signature, its comment and its contract."""
+        """Adds a function: its signature, its comment and its contract."""
         self.described(module, item)
         clauses, names = contract(item)
         if clauses:
@@ -570,7 +569,7 @@ class Page:
             self.lines += ["", "Implemented for " + ", ".join(f"`{one}`" for one in types) + "."]
 
     def impls(self, module, item):
-        """The public functions and constants of a type, and the traits that it has."""
+        """Adds the public functions and constants of a type, and the traits that it implements."""
         traits = []
         for one in impls_of(self.crates, item):
             trait = impl_parts(one)[0]
@@ -592,7 +591,7 @@ class Page:
 
 
 def blocks_of_no_source():
-    """The first lines of the blocks of Rattle in the documents that no source has."""
+    """Yields the first lines of the blocks of Rattle in the documents that are in no source."""
     sources = [path.read_text(encoding="utf-8") for path in (TOP / "crates").glob("*/src/**/*.rt")]
     for name in QUOTING:
         text = (TOP / name).read_text(encoding="utf-8")

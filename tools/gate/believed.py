@@ -1,13 +1,13 @@
 #!/usr/bin/env python3
-"""Counts what a reader of a contract has to believe: the definitions that some clauses name, and those behind them.
+"""Counts the definitions that a reader of some clauses has to trust: those that the clauses name, and all that these use in turn.
 
     tools/gate/believed.py CRATE FILE FUNCTION:CLAUSE..
     tools/gate/believed.py
 
-FILE is the source of the functions below the crate's src/. It prints each file of specs/ that holds such a definition, with the number of
-these and their lines, comments right above them included, and then the sums. Definitions of the toolchain's library and the types of the
-sources are not counted. Without words it does so for `FontSet::read`, for `Program::next` with `new`, and for
-`Program::flatten`, by the clauses that are in the words of the subject, and prints the sums alone.
+FILE is the source of the functions, relative to the crate's src/. The script prints each file of specs/ that has such definitions, with
+their number and their lines, including the comments right above them, and then the sums. Definitions of the toolchain's library and types
+of the sources are not counted. Without arguments it prints only the sums, for `FontSet::read`, for `Program::next` with `new`, and for
+`Program::flatten`, each by the clauses that use the vocabulary of fonts.
 """
 import collections
 import os
@@ -30,7 +30,7 @@ def text_of(path):
 
 
 def imports(text):
-    """Where each name that a text imports comes from: its module, and its name there."""
+    """Returns the origin of each name that a text imports: its module, and its name there."""
     found = {}
     for module, names, alias in re.findall(r"^(?:ghost |pub )?use (\S+?)(?:\.\{([^}]*)\})?(?: as (\S+?))?;?$", text, re.M):
         if alias:
@@ -42,7 +42,7 @@ def imports(text):
 
 
 def file_of(module):
-    """The file of specs/ that a module's name stands for, if it is one of the repository's."""
+    """Returns the file of specs/ of a module, if the module belongs to the repository."""
     words = module.split(".")
     if len(words) > 3 and words[2] == "specs" and words[3] not in ("declared", "contracts"):
         path = os.path.join(CRATES, words[1], "specs", *words[3:]) + ".antt"
@@ -51,7 +51,7 @@ def file_of(module):
 
 
 def definitions(path):
-    """The lines of each definition of a file, by its names: its own, and those of its fields or cases."""
+    """Returns the lines of each definition of a file, by its own name and by those of its fields or cases."""
     lines, found, above, last = text_of(path).split("\n"), {}, [], None
     for line in lines:
         if line.startswith("--"):
@@ -73,7 +73,7 @@ def definitions(path):
 
 
 def clause(path, function, wanted):
-    """The text of a function's clause."""
+    """Returns the text of a function's clause."""
     text = text_of(path)
     at = re.search(rf"^\s*(?:pub )?fn {function}\b", text, re.M).start()
     head = re.sub(r"^ *// .*\n", "", text[at : re.search(r"^ *\{$", text[at:], re.M).start() + at], flags=re.M)
@@ -82,7 +82,7 @@ def clause(path, function, wanted):
 
 
 def bound(text):
-    """The names that a definition binds: in its type, behind a λ, or left of an equation."""
+    """Returns the names that a definition binds: in its type, after a λ, or on the left of an equation."""
     groups = re.findall(r"[({]([^(){}:]+) : ", text) + re.findall(r"λ ([^.]*)\.", text)
     groups += re.findall(r"^(?!.* : )[^\s(]+ (.*?) =(?: |$)", text, re.M)
     return {word for group in groups for word in WORD.findall(group) if word[0].islower()}

@@ -1,25 +1,24 @@
 #!/usr/bin/env python3
-"""Runs the gate on some processors, and prints which part of it takes how much processor time; or tries more wrong bodies; or times
-what the statements of tests cost to prove.
+"""Runs the gate and prints how much processor time each part takes; tries more wrong bodies; or times the proof of test statements.
 
     tools/gate/gate.py [PROCESSORS [CRATE..]]
     tools/gate/gate.py edits CRATE..
     tools/gate/gate.py statements
 
-PROCESSORS are those of taskset, 0,1 where none are named. At the top of a clone with nothing in any `out/`, the first line runs `rt ci`,
-or, where crates are named, `rt must-fail` of these. The output goes to gate.log in a temporary folder that it names. Four times a second
-it looks at the processes of the prover. It ends with the last line of the output, the minutes that it took, a table of the parts, and
-one of the must-fail edits, the dearest first. Needs Linux, and taskset of util-linux.
+The first command runs `rt ci`, or `rt must-fail CRATE..` if crates are named. Run it at the top of a clone with nothing in any `out/`.
+PROCESSORS is a list for taskset; the default is 0,1. The output goes to gate.log in a temporary folder, whose name is printed. Four times
+a second the script looks at the processes of the prover. At the end it prints the last line of the output, the minutes taken, a table of
+the parts, and a table of the must-fail edits. The most expensive ones come first. Needs Linux, and taskset of util-linux.
 
-Of the wrong bodies that fall at one definition the gate tries the ones that tell most; the others stand in tools/edits. The second line
-tries those. Each CRATE has a folder there, as postscript_type2. Its edits are tried in a copy of the repository, over what `rt check`
-keeps in out/, and each has to be refused, as `rt must-fail` says. Nothing here is written to.
+If several wrong bodies fail at one definition, the gate tries only the most telling ones; the others are in tools/edits. The second
+command tries these. Each CRATE is a folder there, such as postscript_type2. The edits are tried in a copy of the repository, with the
+results of `rt check` in out/. Each must be rejected, as `rt must-fail` reports. The repository itself is not changed.
 
-For each kind of statement the third line makes a crate of one function with ten of them, and has `rt check` prove it, twice from
-nothing; the lesser processor time counts, less that of the function without them. It prints the seconds for one statement. It takes
-some five minutes.
+The third command makes a crate for each kind of statement, with one function of ten such statements. `rt check` proves it twice from
+scratch. The lower processor time counts, minus that of the crate without this function. The script prints the seconds per statement. This
+takes about five minutes.
 
-All need `rt` on the path.
+All commands need `rt` on the path.
 """
 import collections
 import glob
@@ -74,7 +73,7 @@ def text_of(path):
 
 
 def below(root):
-    """The processes that a process has started, and those that they have started."""
+    """Yields the descendants of a process, each with its processor seconds."""
     above = {}
     for pid in filter(str.isdigit, os.listdir("/proc")):
         stat = text_of(f"/proc/{pid}/stat").rpartition(") ")[2].split()
@@ -88,7 +87,7 @@ def below(root):
 
 
 def edited(edit, crate):
-    """The texts of the files that an edit changes, as it leaves them."""
+    """Returns the changed texts of the files that an edit changes."""
     path, old, texts = "", "", {}
     for line in text_of(edit).split("\n"):
         key, _, rest = line.partition(": ")
@@ -103,7 +102,7 @@ def edited(edit, crate):
 
 
 def edit_in(room, crate):
-    """Which edit of a crate stands in a copy of it, if one does."""
+    """Returns the edit that a copy of a crate contains, if any."""
     for edit in sorted(glob.glob(f"{crate}/must-fail/*.edit")):
         if all(text_of(f"{room}/{path}") == text for path, text in edited(edit, crate).items()):
             return os.path.basename(edit).removesuffix(".edit")
@@ -111,7 +110,7 @@ def edit_in(room, crate):
 
 
 def part_of(pid):
-    """Which part of the gate a process belongs to, and which edit it tries."""
+    """Returns the part of the gate that a process belongs to, and the edit that it tries."""
     words = text_of(f"/proc/{pid}/cmdline").split("\0")
     name = re.search(r"\0--crate-name\0(\w+)\0", "\0".join(words))
     try:
@@ -126,13 +125,13 @@ def part_of(pid):
 
 
 def watched(words, log):
-    """Runs a command, and gives its status and, for each process of the prover, its part, its edit and its seconds."""
+    """Runs a command. Returns its status; the part, edit and seconds of each process; and when each part ran."""
     seconds, parts, lane = {}, {}, {}
     with open(log, "w", encoding="utf-8") as out:
         gate = subprocess.Popen(words, stdout=out, stderr=subprocess.STDOUT)
         while gate.poll() is None:
             for pid, taken in below(gate.pid):
-                # (a process is seen before it is the prover)
+                # (a process may be seen before it becomes the prover)
                 if not parts.get(pid):
                     parts[pid] = part_of(pid)
                 seconds[pid] = taken
@@ -142,7 +141,7 @@ def watched(words, log):
 
 
 def measure(processors, crates):
-    """Runs the gate, or the edits of some crates, prints what it takes, and gives its status."""
+    """Runs the gate, or the edits of some crates. Prints the times, and returns the status."""
     log, began = f"{tempfile.mkdtemp()}/gate.log", time.time()
     print(f"log: {log}", flush=True)
     status, found, lane = watched(["taskset", "-c", processors, "rt", *(["must-fail", *crates] if crates else ["ci"])], log)
@@ -164,7 +163,7 @@ def measure(processors, crates):
 
 
 def try_edits(crates):
-    """Tries the edits of tools/edits in place of those of the gate, in a copy of the repository, and gives the status."""
+    """Tries the edits of tools/edits instead of those of the gate, in a copy of the repository. Returns the status."""
     for crate in crates:
         if not (TOOLS / "edits" / crate).is_dir():
             print(f"there is no folder tools/edits/{crate}", file=sys.stderr)
@@ -181,7 +180,7 @@ def try_edits(crates):
 
 
 def seconds(body):
-    """The least processor time of two proofs of a crate."""
+    """Proves a crate twice, and returns the lower processor time."""
     taken = []
     for _ in range(2):
         with tempfile.TemporaryDirectory() as top:
@@ -194,7 +193,7 @@ def seconds(body):
 
 
 def time_statements():
-    """Prints what a statement of each kind costs."""
+    """Prints the cost of a statement of each kind."""
     none = seconds("")
     print("| statement | seconds of processor time |\n|---|---|")
     for name, statement in KINDS.items():

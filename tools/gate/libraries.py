@@ -1,12 +1,12 @@
 #!/usr/bin/python3
-"""Gives the libraries of this checkout what runs of `rt ci` on this machine proved of them, so that the first `rt check` of a crate begins with
-that crate, and not with those below it.
+"""Copies the libraries that `rt ci` proved on this machine into this checkout. The first `rt check` of a crate then starts with that crate,
+and not with the libraries below it.
 
     tools/gate/libraries.py
 
-A library is given where a run proved the same files over the same libraries, by the checksums of all that it read; it prints a line for each, and
-those that are lacking are built by the next check. It proves nothing, and writes to crates/*/out alone. It stands on functions of `rt` that are
-not for others: where these change, it ends with an error, and a check builds the libraries as ever.
+A library is copied if `rt ci` proved the same files over the same libraries, by the checksums of all its inputs. The script prints
+"given" or "lacking" for each one; the next check builds the lacking ones. It proves nothing, and writes only to crates/*/out. It uses
+internal functions of `rt`. If these change, it ends with an error, and a check builds the libraries as usual.
 """
 
 import importlib.machinery
@@ -21,7 +21,7 @@ TOP = pathlib.Path(__file__).resolve().parents[2]
 
 
 def toolchain():
-    """The program `rt` as a module."""
+    """Loads the program `rt` as a module."""
     loader = importlib.machinery.SourceFileLoader("toolchain", os.path.realpath(shutil.which("rt")))
     module = importlib.util.module_from_spec(importlib.util.spec_from_loader(loader.name, loader))
     loader.exec_module(module)
@@ -29,7 +29,7 @@ def toolchain():
 
 
 def lowest_first(crates):
-    """The libraries among the crates and those below them, each once."""
+    """Returns the libraries among the crates and those below them, each once, the lowest first."""
     found = {}
     for crate in crates:
         for one in [*crate.below(), crate]:
@@ -39,7 +39,7 @@ def lowest_first(crates):
 
 
 def give(kept, crate):
-    """Whether a library is given. What stands in its out/ is taken away first, so that nothing older stands beside."""
+    """Copies a library, and returns whether there was one. Its old out/rlib is removed first."""
     shutil.rmtree(f"{crate.folder}/out/rlib", ignore_errors=True)
     if not kept.give(crate, False, kept.key(crate)):
         return False
@@ -54,7 +54,7 @@ def main():
     rt.Crate.cuts_libraries, rt.Crate.allowed = True, rt.handles_of(str(TOP))
     crates = rt.crates_of(str(TOP))
     kept = rt.Kept(crates)
-    # an entry that does not fit this checkout stays for others
+    # keeps an entry that does not fit this checkout, for other checkouts
     kept.drop = lambda path: None
     for crate in lowest_first(crates):
         print(f"{crate.name}: {'given' if give(kept, crate) else 'lacking'}")

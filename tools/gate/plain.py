@@ -3,9 +3,12 @@
 
     tools/gate/plain.py [--long]
 
-Prose is: Markdown without code; comments `///`, `//!` and `// ` of crates/*/src and of the Rust binding; the comments of the C header; the docstrings of the Python
-module; the texts of psotf that have a space in them. For each corpus it prints how often a word occurs per 1,000 words, if that is more than its aim, and the length of sentences. The status is 1 if the whole misses
-an aim, if a page in docs/ that is read from top to bottom has more than 12 kB, or if all pages written by hand have more than 180 kB. `--long` lists the sentences of more than 40 words.
+Prose is: Markdown without code; comments `///`, `//!` and `// ` of crates/*/src and of the Rust binding; the comments of the C header;
+the docstrings of the Python module; and the texts of psotf that contain a space. For each corpus the script prints the length of its
+sentences, and each word that is more frequent than its aim, per 1,000 words. `--long` lists the sentences of more than 40 words.
+
+The status is 1 if the whole misses an aim, has a sentence of more than 40 words, or has more than 18 words a sentence. It is also 1 if a
+handwritten Markdown page has more than 12 kB, or all of them together have more than 180 kB.
 """
 import ast
 import glob
@@ -54,7 +57,7 @@ def of_markdown(text):
 
 
 def of_rust(text):
-    """The comments; those that are not on neighbouring lines are apart."""
+    """Returns the comments. An empty line separates those that are not on adjacent lines."""
     told, last = [], -1
     for number, line in enumerate(text.split("\n")):
         found = re.match(r"\s*//[/!]?(?: (.*))?$", line)
@@ -82,7 +85,7 @@ def of_texts(text):
 
 
 def corpora():
-    """The prose, by where it is."""
+    """Returns the prose, by its source."""
     pages = ["README.md", "CHANGELOG.md", "CONTRIBUTING.md", "SECURITY.md", "tools/README.md"]
     pages += [os.path.relpath(path, TOP) for path in sorted(glob.glob(f"{TOP}/docs/**/*.md", recursive=True))]
     pages += ["bindings/python/README.md", "bindings/rust/README.md", "crates/psfont/README.md"]
@@ -103,7 +106,7 @@ def sentences(text):
 
 
 def missed(text):
-    """The words that a text has too often: their names, and how often per 1,000 words."""
+    """Yields the words that are too frequent in a text: the name, the frequency per 1,000 words, and the aim."""
     words = max(len(WORD.findall(text)), 1)
     for name, pattern, aim in AIMS:
         share = 1000 * len(re.findall(pattern, text, re.M)) / words
@@ -112,7 +115,7 @@ def missed(text):
 
 
 def sizes():
-    """What is wrong with the sizes of pages."""
+    """Yields the pages that are too long."""
     whole = 0
     for path in glob.glob(f"{TOP}/**/*.md", recursive=True):
         name, size = os.path.relpath(path, TOP), os.path.getsize(path)

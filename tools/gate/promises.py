@@ -1,10 +1,11 @@
 #!/usr/bin/python3
-"""Looks up each clause, law, definition, type, file and link that the pages of docs/ name, and prints missing ones.
+"""Looks up each clause, law, definition, type, file and link that the documents name, and prints missing ones.
 
     tools/gate/promises.py
 
-A cell names clauses as "clauses `found`, `why` of `FontView::read`, `read_font`", and laws by their path, as `postscript_view::laws::reads_layout`. Clauses of
-implementations of traits are not looked up. The status is 1 if anything is missing. The script does not judge what a clause says.
+The documents are the Markdown pages at the top and in docs/. A table cell names clauses as "clauses `found`, `why` of `FontView::read`,
+`read_font`", and laws by their path, as `postscript_view::laws::reads_layout`. Clauses of implementations of traits are not looked up.
+The script does not judge whether the text describes a clause correctly. The status is 1 if anything is missing.
 """
 
 import pathlib
@@ -22,7 +23,7 @@ NAME = re.compile(r"`([^`]+)`|\b(of)\b|(;)")
 
 
 def contracts():
-    """The names of the clauses of each item of API.md, by its path."""
+    """Returns the names of the clauses of each item of API.md, by its path."""
     found, item = {}, None
     for line in (TOP / "docs/API.md").read_text(encoding="utf-8").splitlines():
         heading, clause = HEADING.match(line), CLAUSE.match(line)
@@ -35,7 +36,7 @@ def contracts():
 
 
 def words():
-    """All words of the sources."""
+    """Returns all words of the sources."""
     found = set()
     for kind in ("rt", "antt"):
         for file in (TOP / "crates").glob(f"*/s*/**/*.{kind}"):
@@ -46,14 +47,14 @@ def words():
 
 
 def is_clause(word):
-    """Whether a word may name a clause: it has no path and begins with a small letter."""
+    """Returns whether a word may name a clause: it has no path and begins with a small letter."""
     return re.fullmatch(r"[a-z]\w*", word) is not None
 
 
 def claims(cell):
-    """The clauses of items that a cell names, as pairs of lists."""
+    """Yields the clauses that a cell names, and their items, as pairs of lists."""
     for part in cell.split(";"):
-        # what an implementation of a trait says is not in API.md under the name of its type
+        # API.md does not list the clauses of a trait's implementation under the name of the type
         if "clause" not in part or re.search(r"` for `|ghost|premise", part):
             continue
         groups, words = [], []
@@ -74,19 +75,19 @@ def claims(cell):
 
 
 def items_of(found, name):
-    """The paths of the items that a name may mean."""
+    """Returns the paths of the items that a name may mean."""
     end = name.replace("::", ".")
     return [path for path in found if path == end or path.endswith("." + end)]
 
 
 def laws():
-    """The laws of all crates, those of `postscript_c` too, which API.md does not have."""
+    """Returns the laws of all crates, including those of `postscript_c`, which API.md does not have."""
     files = (TOP / "crates").glob("*/src/**/laws.rt")
     return {name for file in files for name in re.findall(r"^pub fn (\w+)", file.read_text(encoding="utf-8"), re.M)}
 
 
 def dead_links(page, line):
-    """The links and the scripts that a line names and that are not there."""
+    """Yields the links and files that a line names and that do not exist."""
     for link in re.findall(r"\]\(([^)#]+)(?:#[^)]*)?\)", line):
         if "://" not in link and not (TOP / page).parent.joinpath(link).exists():
             yield f"the link {link}"
@@ -96,7 +97,7 @@ def dead_links(page, line):
 
 
 def missing(found, all_laws, all_words, page, line):
-    """What a line names that is not there."""
+    """Yields everything that a line names and that does not exist."""
     yield from dead_links(page, line)
     for name in re.findall(r"`([A-Z][a-z]\w*(?:::\w+)?)`", line):
         if name not in FOREIGN and not all(word in all_words for word in name.split("::")):

@@ -1,17 +1,17 @@
 #!/bin/sh
-# Whether each file that tells the version tells that of the file VERSION. What is made from that file is not listed here: the
+# Checks that each file that names the version has the one in the file VERSION. Files made from VERSION are not checked here: the
 # pkg-config file, CMake's, the manual pages and the packages.
 #
 #     tools/gate/version.sh
 #
-# Prints a line for each place that differs, and then the status is 1. With the name of a folder as tools/dist/all.sh lays it out, its
-# programs and its library are asked as well.
+# It prints a line for each difference, and the status is 1 if there is one. With a folder as its argument, laid out as by
+# tools/dist/all.sh, it also checks the programs and the library in it.
 set -eu
 top=$(cd "$(dirname "$0")/../.." && pwd)
 version=$(cat "$top/VERSION")
 status=0
 
-# told PLACE WHAT IT TELLS WHAT IT HAS TO TELL
+# told NAME FOUND WANTED: prints a line if the two versions differ
 told() {
     if [ "$2" != "$3" ]; then
         echo "version: $1 tells '$2' in place of '$3'"
@@ -19,7 +19,7 @@ told() {
     fi
 }
 
-# first FILE PATTERN: what the pattern's group is in the first line that it fits
+# first FILE PATTERN: the pattern's group in the first line that matches
 first() {
     sed -n "s/$2/\\1/p" "$top/$1" | head -n 1
 }

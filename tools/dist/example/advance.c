@@ -1,4 +1,4 @@
-/* advance FONT CHARACTER: prints the width of the glyph of a character, in units of the font. */
+/* advance FONT CHARACTER: prints the advance width of a character's glyph, in font units. */
 #include <postscript.h>
 #include <stdio.h>
 #include <stdlib.h>
