@@ -1,4 +1,4 @@
-/* HarfBuzz and FreeType, for beside.rs: one font each, and the outline of a glyph, unscaled and unhinted. */
+/* HarfBuzz and FreeType for beside.rs: open a font, and get a glyph's outline, unscaled and unhinted. */
 #include <ft2build.h>
 #include FT_FREETYPE_H
 #include FT_OUTLINE_H
@@ -45,7 +45,7 @@ void *hb_open(const char *file, size_t length) {
     return font;
 }
 
-/* How many segments HarfBuzz hands over. */
+/* Returns the number of segments that HarfBuzz passes. */
 int hb_glyph(void *font, unsigned glyph) {
     int count = 0;
     hb_font_get_glyph_shape(font, glyph, funcs, &count);

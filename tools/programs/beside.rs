@@ -1,4 +1,4 @@
-//! The time of a glyph's outline from C, beside HarfBuzz, FreeType and ttf-parser, in one process and by turns. See tools/speed/beside.sh.
+//! Times a glyph's outline from C, compared with HarfBuzz, FreeType and ttf-parser, in turn in one process. See tools/speed/beside.sh.
 use std::ffi::{c_char, c_int, c_uint, c_void, CStr};
 use std::hint::black_box;
 use std::time::Instant;
@@ -25,7 +25,7 @@ extern "C" {
     fn versions() -> *const c_char;
 }
 
-/// Keeps the segments as ttf-parser gives them.
+/// Stores the segments as ttf-parser passes them.
 struct Kept(Vec<(u32, [f32; 6])>);
 
 impl OutlineBuilder for Kept {
@@ -44,7 +44,7 @@ impl OutlineBuilder for Kept {
     }
 }
 
-/// The least time of each call, by turns.
+/// Runs the calls in turn, and returns the least time of each.
 fn least<const N: usize>(mut calls: [&mut dyn FnMut(); N]) -> [f64; N] {
     let mut least = [f64::MAX; N];
     for _ in 0..ROUNDS {

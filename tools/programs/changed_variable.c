@@ -1,11 +1,17 @@
-/* How FreeType draws what changed_variable.rt.txt tells. The words are the paths of the same files, in the same order; its lines come
- * on standard input. The bytes of each case are changed in memory, the face is opened, and each glyph that was drawn is loaded at 2 pixels a
- * unit, the most at which FreeType keeps fractions. Each of its points must be ours cut to 1/128 unit; or, in glyphs that it moves by
- * their hints, where it is told not to, ours cut to a unit, or the next unit where ours is less than 1/1024 below it. Three kinds are told
- * apart: glyphs that are so without lines that go nowhere, those with a coordinate that FreeType does not hold at this size, and those with a
- * contour that comes back nearly to where it began, whose last point may be the first one or another. Each other glyph is a line `unlike` on
- * standard error, with its case; so is each coordinate and each advance that is not FreeType's, with both. The answer is how many of which
- * kind there were. */
+/* Compares FreeType with the output of changed_variable.rt.txt, which it reads from standard input. The arguments are the paths of
+ * the same files, in the same order. For each case the bytes are changed in memory and the face is opened. Each glyph that was drawn is
+ * loaded at 2 pixels per unit, the highest size at which FreeType keeps fractions.
+ *
+ * Each of FreeType's points must be ours, rounded down to 1/128 unit. For glyphs that FreeType moves by their hints, hinting is switched
+ * off. Then each point must be ours, rounded down to a unit, or the next unit if ours is less than 1/1024 below it. Three kinds of
+ * differences are counted separately:
+ *
+ * - glyphs that are alike without lines of no length;
+ * - glyphs with a coordinate that FreeType cannot hold at this size;
+ * - glyphs with a contour that ends within a unit of its start. Its last point may or may not be the first one after rounding.
+ *
+ * Each other glyph gives a line `unlike` on standard error, with its case. So does each coordinate and each advance that differs from
+ * FreeType's, with both values. The program prints the number of each kind. */
 #include <ft2build.h>
 #include FT_FREETYPE_H
 #include FT_MULTIPLE_MASTERS_H
@@ -37,7 +43,7 @@ static long counts[KINDS];
 
 static long down(long n, long d) { return n >= 0 ? n / d : -((d - 1 - n) / d); }
 
-/* ours, each coordinate cut, without contours of one point and last points that come back */
+/* rounds our coordinates down; drops contours of one point, and last points equal to the first */
 static void cut(shape *to, long unit, long more) {
     int from = 0, at = 0;
     to->contours = 0;
@@ -93,7 +99,7 @@ static int alike(FT_Face face, int glyph) {
     return load(face, glyph, FT_LOAD_NO_HINTING) && either() ? UNITS : OTHERWISE;
 }
 
-/* FreeType leaves lines out that go nowhere */
+/* drops lines of no length, as FreeType does */
 static int drop_lines(void) {
     int from = 0, at = 0, dropped = 0;
     for (int c = 0; c < ours.contours; c++) {
@@ -113,14 +119,14 @@ static int drop_lines(void) {
     return dropped;
 }
 
-/* FreeType does not hold coordinates that are further off at 2 pixels a unit */
+/* FreeType cannot hold larger coordinates at 2 pixels per unit */
 static int is_far(void) {
     for (int i = 0; i < points_in(&ours); i++)
         if (labs(ours.points[i].x) > FAR * 65536L || labs(ours.points[i].y) > FAR * 65536L) return 1;
     return 0;
 }
 
-/* a contour whose last point is not the first one, but may be where both are cut */
+/* whether a contour's last point is not the first one, but may be after rounding */
 static int nearly_closes(void) {
     int from = 0;
     for (int c = 0; c < ours.contours; c++) {
@@ -189,7 +195,7 @@ static subject *now;
 static FT_Face face;
 static int glyph = -1, is_refused, is_other;
 
-/* the glyph that was told whole */
+/* compares the glyph whose lines are complete */
 static void close_glyph(void) {
     int kind;
     if (glyph < 0) return;
@@ -242,7 +248,7 @@ static void open_user(const char *line) {
     if (!face) counts[OTHER_UNOPENED]++;
 }
 
-/* the coordinates of a case of another table */
+/* compares the coordinates of a case in fvar, avar or HVAR */
 static void compare_coordinates(const char *line) {
     long found[AXES];
     FT_Fixed at[AXES];
@@ -255,7 +261,7 @@ static void compare_coordinates(const char *line) {
     }
 }
 
-/* behind the two advances stand what a glyph has where nothing is asked for, and the coordinates of FreeType */
+/* prints the two variations, then the glyph's default advance and FreeType's coordinates */
 static void show_advance(int kind, const long *found, long theirs) {
     FT_Fixed at[AXES];
     long words[AXES];

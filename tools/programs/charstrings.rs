@@ -1,11 +1,11 @@
-//! What `charstrings.rt.txt` does, over the Rust crate. With a number as the one argument there are so many rounds.
+//! Does the same as `charstrings.rt.txt`, over the Rust crate. An argument is the number of rounds.
 
 use postscript::type2::Program;
 use std::env;
 use std::io;
 use std::time::Instant;
 
-/// How often the glyphs are timed, where no argument says it.
+/// The default number of rounds.
 const ROUNDS: u32 = 10;
 
 /// Steps through a program, drops its operations, and counts them.
@@ -18,7 +18,7 @@ fn step_through(code: &[u8], global: &[Vec<u8>], local: &[Vec<u8>]) -> io::Resul
     Ok(count)
 }
 
-/// The bytes that hex digits spell.
+/// Decodes hex digits.
 fn decode(digits: &str) -> Vec<u8> {
     let places = (0..digits.len()).step_by(2);
     places.map(|i| u8::from_str_radix(&digits[i..i + 2], 16).unwrap()).collect()

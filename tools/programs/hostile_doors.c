@@ -1,7 +1,13 @@
-/* hostile_doors FONT: times each door of the C library over an OpenType file that is made to cost time, in seconds of processor time, a
-   column each, with " | " between them: psf_font_open; psf_font_fits, of which the limit is twenty times PSF_LIMIT; the slowest call of a glyph
-   (outline, bounds, flat code, operations), of the first, the second and the last one; all outlines, where the font fits; the names of all
-   glyphs; all characters of its map; the font without subroutines, and the subset of all its glyphs. */
+/* hostile_doors FONT: times the calls of the C library over an expensive OpenType file, in seconds of processor time. It prints these
+ * columns, with " | " between them:
+ *
+ * - psf_font_open;
+ * - psf_font_fits, with twenty times PSF_LIMIT as its limit;
+ * - the slowest call (outline, bounds, flat code, operations) for the first, the second or the last glyph;
+ * - all outlines, if the font fits;
+ * - the names of all glyphs;
+ * - all characters of its map;
+ * - the font without subroutines, and the subset of all its glyphs. */
 #include <stdio.h>
 #include <stdlib.h>
 #include <time.h>
@@ -38,7 +44,7 @@ static double slower(double than, double since) {
     return took > than ? took : than;
 }
 
-/* The slowest of the calls of a glyph, and than. */
+/* Returns the time of the slowest call for a glyph, or `than` if it is longer. */
 static double slowest(double than, size_t glyph) {
     size_t count, operand_count;
     psf_bounds bounds;

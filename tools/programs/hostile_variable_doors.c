@@ -1,6 +1,10 @@
-/* hostile_variable_doors FONT: times each door of the C library over a variable font that is made to cost time, in seconds of processor time, a
-   column each, with " | " between them: all axes by psf_variation_axis; all instances by psf_variation_instance; the slowest outline and the
-   slowest advance of the first, the second and the last glyph, at 650 along each axis; and the same of all glyphs together, as a loop. */
+/* hostile_variable_doors FONT: times the calls of the C library over an expensive variable font, in seconds of processor time. It prints
+ * these columns, with " | " between them:
+ *
+ * - all axes by psf_variation_axis;
+ * - all instances by psf_variation_instance;
+ * - the slowest outline, and the slowest advance, of the first, the second and the last glyph, at 650 on each axis;
+ * - all outlines, and all advances, in a loop. */
 #include <stdio.h>
 #include <stdlib.h>
 #include <time.h>
@@ -40,7 +44,7 @@ static double advance(size_t glyph) {
     return seconds() - since;
 }
 
-/* The slowest of the calls over the first, the second and the last glyph. */
+/* Returns the slowest time of a call for the first, the second and the last glyph. */
 static double slowest(double (*call)(size_t), size_t glyphs) {
     size_t some[] = {0, 1, glyphs - 1};
     double most = 0;
@@ -57,7 +61,7 @@ static double every(double (*call)(size_t), size_t glyphs) {
     return sum;
 }
 
-/* How many glyphs maxp tells. */
+/* Returns the number of glyphs in maxp. */
 static size_t glyphs_of(void) {
     size_t place, size;
     if (psf_file_table(file, length, 0, PSF_TAG('m', 'a', 'x', 'p'), &place, &size) != PSF_OK || size < 6) return 2;

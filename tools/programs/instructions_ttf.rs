@@ -1,11 +1,11 @@
-//! Draws each glyph of a font file by `ttf_parser`, and drops what is drawn. The words are the file, and how many rounds over all
-//! the glyphs there are. The answer is how many glyphs were drawn.
+//! Draws each glyph of a font file by `ttf_parser`, and drops the result. The arguments are the file, and the number of rounds over all
+//! glyphs. The program prints the number of segments drawn.
 
 use std::env;
 use std::fs;
 use ttf_parser::{Face, GlyphId, OutlineBuilder};
 
-/// Counts what is drawn.
+/// Counts the segments drawn.
 struct Drawn(u64);
 
 impl OutlineBuilder for Drawn {

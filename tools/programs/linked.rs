@@ -9,7 +9,7 @@ use std::hint::black_box;
 use std::time::Instant;
 use ttf_parser::{cff, GlyphId, OutlineBuilder};
 
-/// A segment as numbers: its kind, and its points.
+/// A segment as numbers: its kind and its points.
 type Plain = (u32, [f64; 6]);
 
 extern "C" {
@@ -26,7 +26,7 @@ struct RawSegment {
     points: [i32; 6],
 }
 
-/// A `psf_font`: ten numbers of eight bytes, the last but one of which is padded.
+/// A `psf_font` as ten numbers of eight bytes; the last but one includes padding.
 type Numbers = [u64; 10];
 
 extern "C" {
@@ -81,12 +81,12 @@ impl Random {
     }
 }
 
-/// The same, up to so much.
+/// Returns whether two outlines have equal segments, with coordinates that differ by at most `most`.
 fn same(a: &[Plain], b: &[Plain], most: f64) -> bool {
     a.len() == b.len() && a.iter().zip(b).all(|(p, q)| p.0 == q.0 && (0..6).all(|i| (p.1[i] - q.1[i]).abs() <= most))
 }
 
-/// How two outlines differ.
+/// Describes how two outlines differ.
 fn difference(a: &[Plain], b: &[Plain]) -> &'static str {
     if a.iter().map(|s| s.0).eq(b.iter().map(|s| s.0)) {
         "other coordinates"
@@ -97,18 +97,18 @@ fn difference(a: &[Plain], b: &[Plain]) -> &'static str {
     }
 }
 
-/// No points but those of empty contours.
+/// Returns whether an outline has only empty contours.
 fn is_empty(a: &[Plain]) -> bool {
     a.iter().all(|s| s.0 == 0 || s.0 == 3)
 }
 
-/// A coordinate as FreeType keeps it: in whole units, rounded down behind 1024ths.
+/// Rounds a coordinate as FreeType does: to 1/1024, then down to a whole unit.
 fn whole_of(x: f64) -> f64 {
     ((x * 1024.0).round() / 1024.0).floor()
 }
 
-/// As FreeType keeps an outline: in whole units, without lines of no length, without the line back to where a contour
-/// begins, and without contours of one point.
+/// Converts an outline to FreeType's form: in whole units, without lines of no length, without the line back to the start of a contour,
+/// and without contours of one point.
 fn as_freetype(segments: &[Plain]) -> Vec<Plain> {
     let mut kept: Vec<Plain> = Vec::new();
     let (mut start, mut at, mut first) = ([0.0; 2], [0.0; 2], 0);
@@ -139,12 +139,12 @@ fn as_freetype(segments: &[Plain]) -> Vec<Plain> {
     kept
 }
 
-/// The greatest coordinate, whatever its sign.
+/// Returns the greatest absolute value of a coordinate.
 fn size_of(segments: &[Plain]) -> f64 {
     segments.iter().flat_map(|s| s.1).fold(0.0, |most, x| x.abs().max(most))
 }
 
-/// The same but for a factor, which is found from the first glyph of the font.
+/// Returns whether two outlines are equal up to a factor. The first glyph compared in a font determines the factor.
 fn enlarged(ours: &[Plain], theirs: &[Plain], factor: &mut Option<f64>) -> bool {
     let by = *factor.get_or_insert_with(|| size_of(theirs) / size_of(ours));
     let ours: Vec<Plain> = ours.iter().map(|s| (s.0, s.1.map(|x| x * by))).collect();
@@ -179,7 +179,7 @@ impl Drop for FreeType {
     }
 }
 
-/// Whether two outlines have the same contours to a unit, in whatever order: FreeType draws the accent before the base.
+/// Returns whether two outlines have the same contours to a unit, in any order: FreeType draws the accent before the base.
 fn same_contours(a: &[Plain], b: &[Plain]) -> bool {
     let contours = |outline: &[Plain]| -> Vec<Vec<Plain>> {
         let kept = as_freetype(outline);
@@ -195,7 +195,7 @@ fn same_contours(a: &[Plain], b: &[Plain]) -> bool {
     all && left.is_empty()
 }
 
-/// Whose outline FreeType draws of a glyph that we and they draw otherwise.
+/// Says whose outline FreeType draws, if we and ttf-parser draw a glyph differently.
 fn as_whose(bytes: &[u8], glyph: usize, ours: &[Plain], theirs: &[Plain]) -> &'static str {
     let Some(free) = FreeType::open(bytes).and_then(|mut face| face.outline(glyph)) else {
         return "FreeType draws nothing";
@@ -218,7 +218,7 @@ fn print(classes: &BTreeMap<String, (u64, String)>) {
     }
 }
 
-/// Every glyph of unchanged fonts.
+/// Compares every glyph of unchanged fonts.
 fn whole(files: &[(String, Vec<u8>)]) -> bool {
     let (mut parser, mut freetype) = (BTreeMap::new(), BTreeMap::new());
     let (mut fonts, mut glyphs, mut kept) = (0, 0, Kept::default());
@@ -261,7 +261,7 @@ fn whole(files: &[(String, Vec<u8>)]) -> bool {
     parser.keys().chain(freetype.keys()).all(|class| class.starts_with("the same"))
 }
 
-/// Where the code of a glyph stands, by the INDEX of an unchanged table.
+/// Returns the range of a glyph's charstring, by the INDEX of an unchanged table.
 fn code_of(bytes: &[u8], place: usize, glyph: usize) -> (usize, usize) {
     let number = |at: usize, size: usize| bytes[at..at + size].iter().fold(0usize, |n, b| n << 8 | *b as usize);
     let (count, size) = (number(place, 2), number(place + 2, 1));
@@ -269,7 +269,7 @@ fn code_of(bytes: &[u8], place: usize, glyph: usize) -> (usize, usize) {
     (data + number(place + 3 + glyph * size, size), data + number(place + 3 + (glyph + 1) * size, size))
 }
 
-/// What differs of a changed table, if anything does.
+/// Returns how we and ttf-parser disagree about a changed table, if they do.
 fn disagreement(bytes: &[u8], glyph: usize, kept: &mut Kept, both: &mut u64) -> Option<String> {
     let (ours, theirs) = match (Font::from_table(bytes), cff::Table::parse(bytes)) {
         (Err(_), None) => return None,
@@ -318,7 +318,7 @@ fn fuzz(cases: u64, seed: u64, files: &[(String, Vec<u8>)]) -> bool {
             let (low, high) = code_of(whole, places[t], glyph);
             let mut undo = Vec::new();
             for _ in 0..1 + random.below(4) {
-                // in the dictionaries at the front, anywhere, or mostly in the code of the glyph that is asked for
+                // in the first bytes with the DICTs, anywhere, or mostly in the charstring of the glyph
                 let at = match random.below(8) {
                     0 => random.below(64.min(bytes.len())),
                     1 => random.below(bytes.len()),
@@ -351,7 +351,7 @@ fn timed(what: &mut dyn FnMut()) -> f64 {
     from.elapsed().as_secs_f64()
 }
 
-/// The least time of each of these, which take turns twenty times.
+/// Runs the calls in turn, twenty times, and returns the least time of each.
 fn least<const N: usize>(mut what: [&mut dyn FnMut(); N]) -> [f64; N] {
     let mut times = [f64::MAX; N];
     for _ in 0..20 {
@@ -362,7 +362,7 @@ fn least<const N: usize>(mut what: [&mut dyn FnMut(); N]) -> [f64; N] {
     times
 }
 
-/// The least of twenty times over all glyphs, each program in turn. Each side keeps its segments.
+/// Prints the least of twenty times over all glyphs, each library in turn. Each one stores its segments.
 fn speed(files: &[(String, Vec<u8>)]) {
     println!("| font | glyphs | opened in | a glyph | ttf-parser | FreeType |\n|---|---|---|---|---|---|");
     for (name, file) in files {
@@ -387,7 +387,7 @@ fn speed(files: &[(String, Vec<u8>)]) {
     }
 }
 
-/// Keeps the segments as ttf-parser gives them.
+/// Stores the segments as ttf-parser passes them.
 struct Raw(Vec<(u32, [f32; 6])>);
 
 impl OutlineBuilder for Raw {

@@ -1,4 +1,4 @@
-/* FreeType, for linked.rs: a glyph as it is, unscaled and unhinted, and its segments. */
+/* FreeType for linked.rs: loads a glyph, unscaled and unhinted, and gets its segments. */
 #include <ft2build.h>
 #include FT_FREETYPE_H
 #include FT_OUTLINE_H
@@ -15,7 +15,7 @@ void *ft_open(const unsigned char *bytes, size_t length) {
 
 void ft_close(void *face) { FT_Done_Face(face); }
 
-/* How many points the outline of a glyph has, or -1. */
+/* Loads a glyph. Returns the number of points of its outline, or -1. */
 int ft_glyph(void *face, unsigned glyph) {
     if (FT_Load_Glyph(face, glyph, FT_LOAD_NO_SCALE | FT_LOAD_NO_HINTING)) return -1;
     return ((FT_Face)face)->glyph->outline.n_points;
@@ -45,7 +45,7 @@ static int line_to(const FT_Vector *to, void *kept) { return keep(kept, 1, 0, 0,
 static int conic_to(const FT_Vector *a, const FT_Vector *to, void *kept) { return keep(kept, 4, a, 0, to); }
 static int cubic_to(const FT_Vector *a, const FT_Vector *b, const FT_Vector *to, void *kept) { return keep(kept, 2, a, b, to); }
 
-/* The segments of the glyph that was loaded last. */
+/* Stores the segments of the glyph that was loaded last, and returns their number. */
 int ft_segments(void *face, uint32_t *kinds, double *points, int room) {
     const FT_Outline_Funcs funcs = {move_to, line_to, conic_to, cubic_to, 0, 0};
     struct kept kept = {kinds, points, 0, room};

@@ -1,6 +1,6 @@
-/* spoiled FONT ROUNDS SEED: changes bytes of a table CFF, and numbers of the font, and calls. Each table is a block of just its
-   size. With GUARD each block ends at a page that may not be touched, so that a read or a write past it is seen, in the
-   library too; else compile it with the address sanitizer. */
+/* spoiled FONT ROUNDS SEED: calls the C library over a `CFF ` table with changed bytes, and a psf_font with changed numbers. Each buffer
+ * has exactly the size that it needs. With GUARD each buffer ends at an inaccessible page, so that accesses past it are caught, also in the
+ * library. Otherwise compile it with the address sanitizer. */
 #include <stdio.h>
 #include <stdlib.h>
 #include <string.h>
@@ -44,7 +44,7 @@ static uint64_t below(uint64_t n) { return next() % n; }
 
 static long counts[STATUSES];
 
-/* A call over a font of which a number may be spoiled, into a room of a few segments or many. */
+/* Calls over a font in which one number may be changed, with a buffer of few or many segments. */
 static void call(const uint8_t *bytes, size_t length, const psf_font *font) {
     psf_font spoiled = *font;
     if (below(2)) {

@@ -1,13 +1,12 @@
-/* Counts what a program asks of malloc, and refuses it where it is told to: a library to be loaded before the C library's.
+/* Counts a program's requests for memory, and makes one of them fail on demand: a library for LD_PRELOAD.
  *
- * Each variable does something of its own where it stands in the environment:
+ * Each environment variable has its own effect, if it is set:
  *
- * - REFUSED is the number of the request that is refused, counted from 1; where it is 0 none is.
- * - TOLD names a file. The number of requests, and the sum of their bytes, are written there at the end.
- * - ASKED names a file. The program asks for the time before and after what is looked at. From an odd call of clock_gettime to the
- *   next one the most bytes that are asked for and not given back are counted, beyond those at the end; a realloc counts the new
- *   size in place of the old one. Each write to standard output then adds a line to the file, with the most of those before it.
- */
+ * - REFUSED is the number of the request that fails, counted from 1; 0 means none.
+ * - TOLD names a file. The number of requests, and the sum of their bytes, are written to it at the end.
+ * - ASKED names a file. The program reads the clock before and after the code that it measures. From an odd call of clock_gettime to the
+ *   next one, the library finds the most bytes that are allocated at one time, beyond those at the end. A realloc counts only its new
+ *   size. Each write to standard output then adds a line to the file, with the most of all measurements since the last line. */
 #define _GNU_SOURCE
 #include <errno.h>
 #include <fcntl.h>
@@ -21,7 +20,7 @@
 extern void *__libc_memalign(size_t, size_t);
 extern void __libc_free(void *);
 
-/* stands before what the program gets */
+/* is stored before the block that the program gets */
 struct header {
     size_t size;
     void *block;
@@ -98,7 +97,7 @@ void *realloc(void *p, size_t size) {
     return q;
 }
 
-/* Writes a line to the file that a variable names, past its end or over all. */
+/* Writes a line to the file that a variable names: appends it, or replaces the content. */
 static void tell(const char *variable, int mode, const char *line) {
     const char *name = getenv(variable);
     int file = name ? open(name, O_WRONLY | O_CREAT | mode, 0644) : -1;

@@ -1,5 +1,5 @@
-/* How long FreeType takes to open fonts. A line is the path of the bytes of a table `CFF `. The answer is the path, how many
- * glyphs there are, and the least time of an opening in nanoseconds; 0 and 0 where it is refused. */
+/* Times FreeType opening fonts. A line of the input is the path of a file with the bytes of a `CFF ` table. The program prints the
+ * path, the number of glyphs, and the least time of an opening in nanoseconds. Both numbers are 0 if FreeType rejects the font. */
 #include <ft2build.h>
 #include FT_FREETYPE_H
 #include <stdio.h>

@@ -1,5 +1,5 @@
-/* How long FreeType takes to open variable fonts. A line is as for opening_variable.rt.txt. The answer is how many glyphs there
- * are, and the least time in nanoseconds of opening the bytes of the file, and of setting the coordinates. */
+/* Times FreeType opening variable fonts. The lines of the input are those of opening_variable.rt.txt. The program prints the number of
+ * glyphs, and the least time in nanoseconds of opening the bytes of the file, and of setting the coordinates. */
 #include <ft2build.h>
 #include FT_FREETYPE_H
 #include FT_MULTIPLE_MASTERS_H

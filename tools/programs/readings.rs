@@ -1,12 +1,12 @@
-//! Four programs over the Rust crate, of which a feature of the package chooses one, so that none has the code of another:
+//! Four programs over the Rust crate. A feature of the package chooses one, so that none contains the code of another:
 //!
-//! - `fonts` does what `fonts.rt.txt` does, and `dictionaries` what `dictionaries.rt.txt` does;
-//! - `lists` makes one list of exactly its bytes for each item of some indices, and nothing else;
-//! - `maps` makes the map of a dictionary, with a list of exactly its operands for each operator, and nothing else.
+//! - `fonts` and `dictionaries` do the same as `fonts.rt.txt` and `dictionaries.rt.txt`;
+//! - `lists` makes a list of the exact size for each item of some INDEXes, and nothing else;
+//! - `maps` makes the map of a DICT, with a list of the exact size for the operands of each operator, and nothing else.
 //!
-//! A line is a kind and a name with a colon between them, bytes in hex, and, for `lists`, the places of indices in them. The answer is
-//! the first word, how many items or operators there are, and the least time in nanoseconds. What `lists` and `maps` have to know of
-//! the bytes is found before the clock starts.
+//! A line of the input is a kind and a name with a colon between them, bytes in hex, and, for `lists`, the offsets of INDEXes in them. The
+//! program prints the first word, the number of items or operators, and the least time in nanoseconds. `lists` and `maps` find the sizes
+//! before the clock starts.
 
 use std::io;
 
@@ -18,10 +18,10 @@ mod timed {
     use std::io::{self, Cursor};
     use std::time::Instant;
 
-    /// How often the reading is timed.
+    /// The number of timed rounds.
     const ROUNDS: u32 = 10;
 
-    /// Reads and drops a font, and counts the glyphs of its dictionaries.
+    /// Reads and drops a font, and counts its glyphs.
     fn read_font(bytes: &[u8]) -> io::Result<u64> {
         let font = Cursor::new(bytes).take::<FontSet>()?;
         let mut count = 0u64;
@@ -42,7 +42,7 @@ mod timed {
         if kind == "font" { read_font(bytes) } else { read_index(bytes) }
     }
 
-    /// How many items a font or an INDEX has, and the least time of a reading.
+    /// Returns the number of items of a font or an INDEX, and the least time of a reading.
     pub fn time(name: &str, bytes: &[u8], _: &[&str]) -> io::Result<(u64, u128)> {
         let kind = name.split(':').next().unwrap();
         let mut count = 0;
@@ -63,13 +63,13 @@ mod timed {
     use std::io::{self, Cursor};
     use std::time::Instant;
 
-    /// How often the reading is timed.
+    /// The number of timed rounds.
     const ROUNDS: u32 = 10;
 
-    /// How many readings are timed together.
+    /// The number of readings in a round.
     const READINGS: u64 = 5_000;
 
-    /// Reads and drops a dictionary often, and counts the operators of all.
+    /// Reads and drops a DICT `READINGS` times, and adds up its operators.
     fn read_often(bytes: &[u8]) -> io::Result<u64> {
         let mut count = 0u64;
         for _ in 0..READINGS {
@@ -79,7 +79,7 @@ mod timed {
         Ok(count)
     }
 
-    /// How many operators a dictionary has, and the least time of its readings.
+    /// Returns the number of operators of a DICT, and the least time of a reading.
     pub fn time(_: &str, bytes: &[u8], _: &[&str]) -> io::Result<(u64, u128)> {
         let mut count = 0;
         let mut least = u128::MAX;
@@ -99,15 +99,15 @@ mod timed {
     use std::ops::Range;
     use std::time::Instant;
 
-    /// How often the reading is timed.
+    /// The number of timed rounds.
     const ROUNDS: u32 = 10;
 
-    /// The number of some bytes, the high byte first.
+    /// Decodes a big-endian number.
     fn number(bytes: &[u8]) -> usize {
         bytes.iter().fold(0, |n, b| n * 256 + usize::from(*b))
     }
 
-    /// Where the items of an INDEX lie.
+    /// Returns the ranges of the items of an INDEX.
     fn items_of(bytes: &[u8], place: usize) -> Vec<Range<usize>> {
         let count = number(&bytes[place..place + 2]);
         if count == 0 {
@@ -120,12 +120,12 @@ mod timed {
         (0..count).map(|i| offset(i)..offset(i + 1)).collect()
     }
 
-    /// A list for each item.
+    /// Makes a list for each item.
     fn lists(bytes: &[u8], items: &[Range<usize>]) -> Vec<Vec<u8>> {
         items.iter().map(|item| bytes[item.clone()].to_vec()).collect()
     }
 
-    /// How many items the indices at some places have, and the least time of making and dropping the lists of all.
+    /// Returns the number of items of the INDEXes at some offsets, and the least time of making and dropping all their lists.
     pub fn time(_: &str, bytes: &[u8], places: &[&str]) -> io::Result<(u64, u128)> {
         let indices: Vec<_> = places.iter().map(|place| items_of(bytes, place.parse().unwrap())).collect();
         let mut least = u128::MAX;
@@ -148,22 +148,22 @@ mod timed {
     use std::io::{self, Cursor};
     use std::time::Instant;
 
-    /// How often the reading is timed.
+    /// The number of timed rounds.
     const ROUNDS: u32 = 10;
 
-    /// How many makings are timed together.
+    /// The number of maps made in a round.
     const READINGS: u64 = 5_000;
 
-    /// An operand of this repository's size: a mantissa and an exponent.
+    /// An operand of the same size as this repository's: a mantissa and an exponent.
     type Operand = (i64, i32);
 
-    /// The operators of a dictionary by numbers, each with as many operands as it has.
+    /// Returns the operators of a DICT, numbered, each with a list of as many operands as it has.
     fn operands_of(bytes: &[u8]) -> io::Result<Vec<(u16, Vec<Operand>)>> {
         let operations = Cursor::new(bytes).take::<Operations>()?;
         Ok((0u16..).zip(operations.0.values()).map(|(i, operands)| (i, vec![(1, 0); operands.len()])).collect())
     }
 
-    /// Makes and drops the map of a dictionary often, and counts the operators of all.
+    /// Makes and drops the map of a DICT `READINGS` times, and adds up its operators.
     fn make_often(lists: &[(u16, Vec<Operand>)]) -> u64 {
         let mut count = 0u64;
         for _ in 0..READINGS {
@@ -176,7 +176,7 @@ mod timed {
         count
     }
 
-    /// How many operators a dictionary has, and the least time of making its map.
+    /// Returns the number of operators of a DICT, and the least time of making its map.
     pub fn time(_: &str, bytes: &[u8], _: &[&str]) -> io::Result<(u64, u128)> {
         let lists = operands_of(bytes)?;
         let mut count = 0;
@@ -190,7 +190,7 @@ mod timed {
     }
 }
 
-/// The bytes that hex digits spell.
+/// Decodes hex digits.
 fn decode(digits: &str) -> Vec<u8> {
     let places = (0..digits.len()).step_by(2);
     places.map(|i| u8::from_str_radix(&digits[i..i + 2], 16).unwrap()).collect()

@@ -1,6 +1,5 @@
-/* slowest CASES SEED FONT..: changes bytes of tables CFF in place, calls each function of a glyph over them, and tells of each function the
-   slowest call, by the time that the processor gave it. Each case is one table with one to four changes, opened, and two glyphs of it; then
-   the bytes are put back. */
+/* slowest CASES SEED FONT..: changes bytes of `CFF ` tables, calls the glyph functions, and prints the slowest call of each function, in
+ * wall-clock time. Each case changes one to four bytes of a table, opens it, calls each function for two glyphs, and restores the bytes. */
 #include <stdio.h>
 #include <stdlib.h>
 #include <string.h>
@@ -62,7 +61,7 @@ static int32_t end(int call, int32_t status) {
     return status;
 }
 
-/* All calls of a glyph. */
+/* Makes all calls for a glyph. */
 static void glyph_calls(const subject *s, const psf_font *font, size_t glyph) {
     static psf_segment segments[SEGMENTS];
     static psf_operation operations[SEGMENTS];
@@ -78,8 +77,8 @@ static void glyph_calls(const subject *s, const psf_font *font, size_t glyph) {
     begin(), end(NAME, psf_glyph_name(s->table, s->length, glyph, bytes, sizeof bytes, &count));
 }
 
-/* Where a change is made: in the first bytes, where counts, offsets and dictionaries stand; behind the places of the subroutines and of the char
-   strings; or anywhere. */
+/* Returns the offset of a change: in the first bytes, which have counts, offsets and DICTs; after the start of the subroutines or of the
+   charstrings; or anywhere. */
 static size_t place_of(const subject *s) {
     uint64_t near = 0;
     switch (below(4)) {
@@ -92,7 +91,7 @@ static size_t place_of(const subject *s) {
     return place < s->length ? place : below(s->length);
 }
 
-/* Changes a byte: to any other, by a bit, to an operator, or to that of another place. */
+/* Changes a byte: to any value, by one bit, to an operator, or to a byte at another offset. */
 static uint8_t changed(const subject *s, uint8_t byte) {
     static const uint8_t operators[] = {10, 29, 11, 14, 12, 19, 20, 28, 255, 0, 139};
     switch (below(4)) {
@@ -155,7 +154,7 @@ int main(int argc, char **argv) {
     for (int i = 0; i < fonts; i++)
         if (!load(&subjects[i], argv[i + 3])) return fprintf(stderr, "%s: not read\n", argv[i + 3]), 2;
     for (now_case = 0; now_case < cases; now_case++) {
-        /* each case by a state of its own, so that one can be made again alone */
+        /* each case has its own random state, so that it can be repeated separately */
         state = (seed + 1) * 0x9e3779b97f4a7c15u ^ (now_case + 1) * 0xbf58476d1ce4e5b9u;
         if (state == 0) state = 1;
         next();

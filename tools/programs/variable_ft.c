@@ -1,6 +1,6 @@
-/* How long FreeType takes to draw the glyphs of a variable font. The words are the path of a file, and normalized coordinates in units of
- * 2 ^ -14. The answer is the number of glyphs that are drawn, and the least time in nanoseconds of opening the font, of setting the
- * coordinates, and of loading all glyphs without scale and hints. */
+/* Times FreeType drawing the glyphs of a variable font. The arguments are the path of a file, and normalized coordinates in units of
+ * 2 ^ -14. The program prints the number of glyphs drawn, and the least time in nanoseconds of opening the font, of setting the
+ * coordinates, and of loading all glyphs, unscaled and unhinted. */
 #include <ft2build.h>
 #include FT_FREETYPE_H
 #include FT_MULTIPLE_MASTERS_H

@@ -1,6 +1,7 @@
-/* Whether FreeType draws glyphs of one font as those of another. Two arguments are the paths of the font files. A line of the input
- * is the number of a glyph of the first and that of one of the second. The answer is how many pairs differ: in the points of the
- * outline, unscaled and unhinted, their tags, the ends of contours, or the advance; or where one of the two is refused. */
+/* Counts glyphs that FreeType draws differently in two fonts. The arguments are the paths of the font files. A line of the input is
+ * the number of a glyph of the first font and of one of the second. The program prints the number of pairs, of those that differ, and of
+ * those that FreeType rejects in both fonts. A pair differs in the points of the outline, unscaled and unhinted, their tags, the ends of
+ * contours, or the advance, or if only one of the two is rejected. */
 #include <ft2build.h>
 #include FT_FREETYPE_H
 #include FT_OUTLINE_H

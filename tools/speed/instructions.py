@@ -8,9 +8,11 @@ CRATE is the source folder of the Rust crate, which contains src/. Each FONT is 
 
 valgrind's callgrind counts the instructions of two rounds over all glyphs minus those of none, so starting and reading the file are not
 included. The compiler inlines differently if a program has more calls. Therefore `step`, `step_within` and `draw_program` are counted
-again, each in a program of its own, as `ttf-parser` has one. tools/programs/memory.c counts the requests of one round minus those of none:
-for all glyphs, and for each of the first 300 separately. The script stops if `step`, `next`, `step_within`, the two over subroutines in
-place, and the Rust crate do not all count the same number of operations.
+again, each in a program of its own, as `ttf-parser` has one.
+
+The library tools/programs/memory.c counts the requests of one round minus those of none: for all glyphs, and for each of the first 300
+separately. The times are processor times of 100 rounds, the least of 15 runs. The script stops if `step`, `next`, `step_within`, the two
+over subroutines in place, and the Rust crate do not all count the same number of operations.
 
 The programs are instructions.rt.txt, charstrings.rs and instructions_ttf.rs of tools/programs. The first one is proved in a copy of the
 crates with their out/ folders. Neither CRATE nor this repository is changed.

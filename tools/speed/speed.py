@@ -7,7 +7,7 @@
     tools/speed/speed.py compare REV WORD..
 
 The first command times a long charstring and long real numbers. The others time all glyphs of real fonts, and of a made-up font, `calls`.
-Its only charstring calls a subroutine 10,000 times, which just returns.
+Its only charstring makes 10,000 calls of a subroutine that just returns.
 
 - `charstrings` times a loop over `next`, compared with the same loop over the Rust crate `postscript`.
 - `flat` times a loop over `next`, `run`, `flat_len` and `flatten`, compared with that loop over the Rust crate. The first table also has
