@@ -18,7 +18,7 @@ PSOTF = os.environ.get("PSOTF") or TOP / "crates" / "psotf" / "out" / "psotf"
 
 
 def printed(*words, folder=None, given=os.devnull, **variables):
-    """What a command prints, run in a folder, with a file as its input and with variables beside those of the script."""
+    """Returns what a command prints. It runs in a folder, with a file as input and with additional environment variables."""
     with open(given, "rb") as lines:
         done = subprocess.run(
             words, cwd=folder, stdin=lines, capture_output=True, text=True, check=False, env={**os.environ, **variables},
@@ -29,14 +29,14 @@ def printed(*words, folder=None, given=os.devnull, **variables):
 
 
 def crates_of(top):
-    """The line of each crate in crates.txt, and the words of it that come behind the colon."""
+    """Returns the line of each crate in crates.txt, and the words after its colon."""
     lines = (top / "crates.txt").read_text().splitlines()
     heads = {line: line.partition(":") for line in lines if line and not line.startswith("#")}
     return {head.split()[0]: (line, uses.split()) for line, (head, _, uses) in heads.items()}
 
 
 def below(crates, uses):
-    """Those of the words that are crates, and the crates that these use, the lowest first."""
+    """Returns the words that are crates, and the crates that these use, dependencies first."""
     found = {}
     for name in uses:
         if name in crates:
@@ -45,7 +45,7 @@ def below(crates, uses):
 
 
 def write_crate(folder, line, file, text):
-    """Writes a crate of one file of src/ below a folder, with its line at the end of crates.txt, and gives the crate's folder."""
+    """Writes a crate with one file in src/ below a folder, adds its line to crates.txt, and returns the crate's folder."""
     own = folder / "crates" / line.partition(":")[0]
     for path, content in {f"src/{file}": text, "specs/Lib.antt": "", "proofs/Lib.antt": ""}.items():
         (own / path).parent.mkdir(parents=True)
@@ -56,8 +56,8 @@ def write_crate(folder, line, file, text):
 
 
 def proved(folder, name, uses, top=TOP, changed=str):
-    """The program tools/programs/NAME.rt.txt, its text changed by a function, proved and built in a folder, over copies of the crates
-    below TOP that it uses."""
+    """Proves and builds tools/programs/NAME.rt.txt in a folder, with copies of the crates below `top` that it uses. The function
+    `changed` may edit its text. Returns the program."""
     crates = crates_of(top)
     libraries = below(crates, uses.split())
     for library in libraries:
@@ -69,14 +69,14 @@ def proved(folder, name, uses, top=TOP, changed=str):
 
 
 def cargo(folder, name, more="", version="0.1.0", words=()):
-    """The folder of the programs of the Rust sources in a folder, whose manifest this writes."""
+    """Builds the Rust sources in a folder, with a manifest that it writes; returns the folder of the programs."""
     (folder / "Cargo.toml").write_text(f'[package]\nname = "{name}"\nversion = "{version}"\nedition = "2021"\n{more}')
     printed("cargo", "build", "--quiet", "--release", "--offline", *words, folder=folder)
     return folder / "target" / "release"
 
 
 def rival(folder, crate, name, feature="whole"):
-    """The program tools/programs/NAME.rs, built in a folder over a copy of the source of the Rust crate `postscript`, with a feature."""
+    """Builds tools/programs/NAME.rs in a folder, with a copy of the Rust crate `postscript` and a feature; returns the program."""
     shutil.copytree(pathlib.Path(crate) / "src", folder / "src")
     (folder / "src" / "bin").mkdir()
     shutil.copyfile(PROGRAMS / f"{name}.rs", folder / "src" / "bin" / f"{name}.rs")
@@ -84,7 +84,7 @@ def rival(folder, crate, name, feature="whole"):
 
 
 def parser_program(folder, name):
-    """The program tools/programs/NAME_ttf.rs, built in a folder over Debian's crate `ttf-parser`."""
+    """Builds tools/programs/NAME_ttf.rs in a folder with Debian's crate `ttf-parser`; returns the program."""
     (folder / "src").mkdir(parents=True)
     shutil.copyfile(PROGRAMS / f"{name}_ttf.rs", folder / "src" / "main.rs")
     listed = printed("dpkg", "-L", "librust-ttf-parser-dev").splitlines()
@@ -93,7 +93,7 @@ def parser_program(folder, name):
 
 
 def memory(folder):
-    """tools/programs/memory.c, built in a folder: a library for LD_PRELOAD."""
+    """Builds tools/programs/memory.c in a folder, as a library for LD_PRELOAD."""
     library = folder / "memory.so"
     printed("gcc", "-shared", "-fPIC", "-O2", PROGRAMS / "memory.c", "-o", library)
     return str(library)

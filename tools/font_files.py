@@ -18,7 +18,8 @@ from fontTools.ttLib import TTFont
 
 
 def files_of(*words, ends=(".otf",)):
-    """Of each word: a file, the fonts below a folder, or those of an installed Debian package; a font ends as is said."""
+    """Yields the fonts of each word: a file, the fonts below a folder, or those of an installed Debian package. Font names end in one of
+    `ends`."""
     for word in words:
         path = pathlib.Path(word)
         if path.is_file():
@@ -31,7 +32,7 @@ def files_of(*words, ends=(".otf",)):
 
 
 def fonts_of(*words):
-    """The name of each font with a table `CFF `, without its ending, and the font."""
+    """Yields each font with a `CFF ` table: the file name without its extension, and the font."""
     for path in files_of(*words):
         font = TTFont(path, lazy=True)
         if "CFF " in font:
@@ -39,8 +40,8 @@ def fonts_of(*words):
 
 
 def glyph_lines(path):
-    """The subroutines and glyphs of a font file, each with `global`, `local` or `code`; none where it has no table `CFF `, or several
-    Private dictionaries."""
+    """Returns the subroutines and glyphs of a font file, each with `global`, `local` or `code`; none if it has no `CFF ` table or is
+    CID-keyed."""
     font = TTFont(path, lazy=True)
     if "CFF " not in font:
         return []
@@ -55,12 +56,12 @@ def glyph_lines(path):
 
 
 def spelled(lines):
-    """Such lines as text: a word, a space, and bytes in hex."""
+    """Returns such lines as text: a word, a space, and bytes in hex."""
     return "".join(f"{kind} {code.hex()}\n" for kind, code in lines)
 
 
 def write_glyphs(folder, words, **more):
-    """Writes the glyphs of each font, as such lines, to a file of its name, and more texts to files of theirs; gives the files."""
+    """Writes such lines for each font to a file with the font's name, and further texts to other files; returns the files."""
     folder.mkdir()
     texts = {pathlib.Path(path).stem: spelled(glyph_lines(path)) for path in files_of(*words)}
     for name, text in {**texts, **more}.items():
@@ -70,14 +71,14 @@ def write_glyphs(folder, words, **more):
 
 
 def packages():
-    """Debian's packages fonts-* that hold a file .otf."""
+    """Returns Debian's packages fonts-* with an .otf file."""
     listed = subprocess.run(["apt-file", "search", "-x", r"\.otf$"], stdout=subprocess.PIPE, check=True).stdout.decode()
     names = {line.partition(":")[0] for line in listed.splitlines()}
     return sorted(name for name in names if name.startswith("fonts-"))
 
 
 def fetch(folder, package):
-    """Downloads a package and unpacks it: into one root for all, since files of one package are links to another's."""
+    """Downloads a package and unpacks it. All packages share one root, since files of one may be links to another's."""
     debs = folder / "debs"
     subprocess.run(["apt-get", "download", "-qq", package], cwd=debs, check=True)
     for deb in debs.glob(f"{package}_*.deb"):

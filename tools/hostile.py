@@ -31,7 +31,7 @@ END = b"\x0e"
 
 
 def index(items):
-    """An INDEX with offsets of four bytes."""
+    """Returns an INDEX with offsets of four bytes."""
     if not items:
         return NONE
     offsets, at = [], 1
@@ -42,19 +42,19 @@ def index(items):
 
 
 def number(n):
-    """An operand of five bytes."""
+    """Encodes an operand in five bytes."""
     return b"\x1d" + n.to_bytes(4, "big", signed=True)
 
 
 def font(tops, parts=b"", names=()):
-    """A font whose dictionaries are made once the place behind the global subroutines is known."""
+    """Returns a font; its Top DICTs are functions of the offset after the global subroutines."""
     front = HEADER + index(list(names))
     place = len(front) + len(index([top(0) for top in tops])) + 2 * len(NONE)
     return front + index([top(place) for top in tops]) + NONE + NONE + parts
 
 
 def whole(glyphs, char_set=b"", size=None):
-    """A dictionary, and its char strings, char set, private dictionary and local subroutines behind one another."""
+    """Returns a Top DICT, and its charstrings, charset, Private DICT and local subroutines, one after another."""
     strings, private = index([b"\x0e"] * glyphs), number(6) + SUBRS
 
     def top(place):
@@ -77,7 +77,7 @@ def fault(code):
 
 
 def fonts():
-    """Each shape: its name, the font, and what has to be printed."""
+    """Yields each font: its name, its bytes, and the expected output."""
     yield "65,535 names claimed over ten bytes", HEADER + b"\xff\xff\x01" + bytes(range(1, 11)), fault(1)
     yield "a name of 4 GB claimed", HEADER + b"\x00\x01\x04\x00\x00\x00\x01\xff\xff\xff\xff" + bytes(100), fault(1)
     top, parts = whole(1, size=2**31 - 1)
@@ -113,13 +113,13 @@ def filled(piece, size=SIZE):
 
 
 def nested():
-    """Calls of a local subroutine that calls the next one twice, ten deep, where the last one returns at once."""
+    """Returns calls of a local subroutine that calls the next one twice, ten deep; the last one returns at once."""
     levels = [bytes([0x21 + k, 0x0A]) * 2 + b"\x0b" for k in range(9)] + [b"\x0b"]
     return filled(b"\x20\x0a", 4000), levels
 
 
 def programs():
-    """Each shape: its name, the code, the local subroutines, how many lines are answered, and the last lines."""
+    """Yields each program: its name, charstring and local subroutines, the number of lines in the answer, and the last lines."""
     numbers = filled(b"\x8b", SIZE)
     yield "numbers alone", numbers, [], 2, ["fault 1", "width none"]
     yield "a line of two million points", numbers + b"\x05" + END, [], 3, ["end", "width none"]
@@ -128,20 +128,21 @@ def programs():
     code, levels = nested()
     yield "2,000 times a thousand calls, ten deep", code + END, levels, 2, ["end", "width none"]
     yield "moves", filled(b"\x8c\x16") + END, [], SIZE // 2 + 2, ["end", "width none"]
-    # EndChar leaves four operands out, and the width is the one beneath them.
+    # EndChar takes four operands, and the width is the one below them.
     roll = b"\x1c\x27\x10\x8c\x0c\x1e"
     yield "rolls of 10,000", filled(b"\x8b", 33_000) + filled(roll) + END, [], 2, ["end", "width 0"]
     roll = b"\x1c\x7f\xff\x8c\x0c\x1e"
     yield "rolls of 32,767, the widest", filled(b"\x8b", 33_000) + filled(roll) + END, [], 2, ["end", "width 0"]
     index = b"\x1c\x7f\xff\x0c\x1d\x0c\x12"
     yield "an operand far down, again and again", filled(b"\x8b", 33_000) + filled(index) + END, [], 2, ["end", "width 0"]
-    # Each quotient is less than the number that is divided, by one bit at least, until it is 0.
+    # Each quotient is at least one bit less than the dividend, until it is 0.
     yield "quotients", b"\x8c" + filled(b"\xff\x00\x01\x00\x01\x0c\x0c") + END, [], 2, ["end", "width 0"]
     yield "roots", b"\x8c" + filled(b"\x0c\x1a") + END, [], 2, ["end", "width 1"]
 
 
 def run(words, lines, check):
-    """What is printed on either output, the seconds, and the most memory in MB; the status has to be 0 where it is checked."""
+    """Returns the output of psfont (standard output and error), the seconds, and the peak memory in MB. With `check`, the status must be
+    0."""
     with tempfile.TemporaryFile() as given, tempfile.TemporaryFile() as answers, tempfile.NamedTemporaryFile() as told:
         given.writelines(lines)
         given.seek(0)
@@ -158,7 +159,7 @@ def row(name, data, seconds, memory):
 
 
 def read_fonts():
-    """Prints a row for each font, and how many answers differ."""
+    """Prints a row for each font, and returns the number of differing answers."""
     wrong = 0
     for name, data, wanted in fonts():
         with tempfile.NamedTemporaryFile() as file:
@@ -173,7 +174,7 @@ def read_fonts():
 
 
 def run_programs():
-    """Prints a row for each program, and how many answers differ."""
+    """Prints a row for each program, and returns the number of differing answers."""
     wrong = 0
     for name, code, local, count, wanted in programs():
         lines = [b"code " + code.hex().encode() + b"\n"] + [b"local " + routine.hex().encode() + b"\n" for routine in local]

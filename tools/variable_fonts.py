@@ -27,7 +27,7 @@ MASTERS = [
 
 
 def moved(folder, path, across, up):
-    """A master: each point (x, y) of the small font is moved to x * across + y * up."""
+    """Writes a master: each point (x, y) of the small font moves to x * across + y * up."""
     font = TTFont(GARAMOND)
     options = subset.Options(desubroutinize=True, hinting=False, notdef_outline=True, glyph_names=True)
     options.drop_tables += ["GPOS", "GSUB", "GDEF", "kern", "DSIG", "FFTM"]
@@ -47,7 +47,7 @@ def moved(folder, path, across, up):
 
 
 def variable(folder, count):
-    """A variable font of so many axes."""
+    """Makes a variable font with `count` axes."""
     document = DesignSpaceDocument()
     for tag, name, minimum, default, maximum in AXES[:count]:
         document.addAxis(AxisDescriptor(tag=tag, name=name, minimum=minimum, default=default, maximum=maximum))
@@ -65,7 +65,7 @@ def variable(folder, count):
 
 
 def turned(program, regions):
-    """A program whose blends have their deltas in the other order."""
+    """Returns a program whose blends have their deltas in reverse order."""
     stack = []
     for word in program:
         if word == "blend":
@@ -79,7 +79,7 @@ def turned(program, regions):
 
 
 def mixed(path):
-    """The same font with subroutines, ten nested calls, vsindex, stems and masks."""
+    """Makes the same font with subroutines, ten nested calls, vsindex, stems and masks."""
     font = TTFont(path)
     top = font["CFF2"].cff.topDictIndex[0]
     store = top.VarStore.otVarStore
@@ -120,7 +120,7 @@ def mixed(path):
 
 
 def files_in(folder, word):
-    """The fonts of a word: itself, or those of a package that is downloaded."""
+    """Returns the fonts of a word: the file, or those of a package, which it downloads."""
     if pathlib.Path(word).is_file():
         return [pathlib.Path(word).resolve()]
     place = folder / word

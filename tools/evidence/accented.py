@@ -33,8 +33,8 @@ from building import PSOTF
 from written import built, unlike
 
 
-# Each glyph: its character, its advance, its char string, and the glyphs that it is drawn with. `circumflex` is accented itself, so
-# FreeType refuses `acircumflex`, and fontTools draws it. No glyph has the codes 101 and 194, which `eacute` and `aacute` name.
+# Each glyph: its character, its advance, its charstring, and its components. `circumflex` is itself a `seac` glyph, so FreeType rejects
+# `acircumflex`; fontTools draws it. No glyph has the codes 101 and 194, which `eacute` and `aacute` refer to.
 GLYPHS = {
     ".notdef": (None, 500, [0, 0, "rmoveto", 400, "hlineto", 400, "vlineto", "endchar"], []),
     "agrave": (0xE0, 510, [10, "vmoveto", 20, 300, 97, 193, "endchar"], ["a", "grave"]),
@@ -50,7 +50,7 @@ NAMES = list(GLYPHS)
 
 
 def source_at(path):
-    """The font, written at a path."""
+    """Writes the font to a path."""
     builder = FontBuilder(1000, isTTF=False)
     builder.setupGlyphOrder(NAMES)
     builder.setupCharacterMap({char: name for name, (char, *_) in GLYPHS.items() if char})
@@ -64,7 +64,7 @@ def source_at(path):
 
 
 def closed(gids):
-    """The glyphs that are kept with these, and .notdef."""
+    """Returns these glyphs with all their components, and .notdef."""
     kept = {0, *gids}
     while more := {NAMES.index(other) for gid in kept for other in GLYPHS[NAMES[gid]][3]} - kept:
         kept |= more
@@ -72,7 +72,7 @@ def closed(gids):
 
 
 def drawn(font, name):
-    """What fontTools draws of a glyph, or that it does not."""
+    """Returns what fontTools draws for a glyph, or the type of its exception."""
     glyphs = font.getGlyphSet()
     pen = DecomposingRecordingPen(glyphs)
     try:
@@ -83,7 +83,7 @@ def drawn(font, name):
 
 
 def faults(source, path, kept, own):
-    """What is wrong with a file, where each of its glyphs is made of the one in its place, or of none."""
+    """Returns what is wrong with a file whose glyphs should be these source glyphs, in order; None is an empty glyph."""
     file = TTFont(path, checkChecksums=2)
     order = file.getGlyphOrder()
     if not len(order) == file["maxp"].numGlyphs == len(file["hmtx"].metrics) == file["hhea"].numberOfHMetrics == len(kept):
@@ -100,7 +100,7 @@ def faults(source, path, kept, own):
 
 
 def tried(psotf, program, folder, gids, words):
-    """What is wrong with the file of some glyphs."""
+    """Writes a subset with these glyphs, and returns what is wrong with it."""
     source, path = folder / "source.otf", folder / "subset.otf"
     done = subprocess.run([psotf, "subset", source, "--gids", ",".join(map(str, gids)), *words, "-o", path], capture_output=True, check=True)
     told = done.stderr.decode().splitlines()
@@ -117,7 +117,7 @@ def tried(psotf, program, folder, gids, words):
 
 
 def main(words):
-    # fontTools warns of each component that is missing, which `drawn` tells
+    # fontTools warns about each missing component; `drawn` returns that already
     logging.disable(logging.WARNING)
     psotf = words[0] if words else PSOTF
     files = differ = 0

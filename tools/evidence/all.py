@@ -24,7 +24,7 @@ VARIABLE = f"{TYPE2} crates/postscript_variation crates/postscript_cff2 crates/p
 C = f"{DRAWING} {VARIABLE} crates/postscript_c bindings"
 PSOTF = f"{C} crates/postscript_write crates/postscript_sfnt crates/postscript_sfnt_write crates/postscript_instance crates/psotf"
 EBGARAMOND = "/usr/share/fonts/opentype/ebgaramond/EBGaramond12-Regular.otf /usr/share/fonts/opentype/freefont/FreeSerif.otf"
-#: the name of a log, the command, and the folders that it tests
+#: the name of the log, the command, and the paths that it tests
 SCRIPTS = [
     ("allocations", "tools/evidence/allocations.py && tools/evidence/allocations.py calls", TYPE2 + " crates/psfont"),
     ("glyphs", "/usr/bin/python3 tools/evidence/glyphs.py fonts-lmodern fonts-texgyre fonts-texgyre-math fonts-cantarell", TYPE2),
@@ -67,7 +67,7 @@ def said_by(*words):
 
 
 def run(name, command, fonts):
-    """Runs a script, and keeps what it prints. Returns its status."""
+    """Runs a script, keeps what it prints, and returns its status."""
     words = command.replace("FONTS", fonts).replace("CRATE", os.environ.get("CRATE", "CRATE"))
     print(f"{name}: {words}", flush=True)
     begun = time.time()
@@ -78,7 +78,7 @@ def run(name, command, fonts):
 
 
 def head_of(name):
-    """The lines at the head of a log, by their names."""
+    """Returns the header fields of a log."""
     log = LOGS / f"{name}.log"
     lines = log.read_text(encoding="utf-8").split("\n\n")[0].splitlines() if log.exists() else []
     return dict(line.split(": ", 1) for line in lines if ": " in line)

@@ -52,7 +52,7 @@ OWN_CHAR_SET = "0100040100000001010108a111a90f8da7120000000000010101020e8d130000
 REAL = "01000401000000010101081e12345678901f0500000000"
 TEN_DEEP = [f"{0x21 + k:02x}0a{0x21 + k:02x}0a0b" for k in range(9)] + ["8c160b"]
 
-# A code and its local subroutines, for sessions.
+# Charstrings with their local subroutines, for sessions.
 CODES = [
     ("200a0e", ["8c8d150b"]),
     ("200a0e", TEN_DEEP),
@@ -64,7 +64,7 @@ CODES = [
     ("200a8b0c1516", ["908b0c140b"]),
 ]
 
-# The same for single calls, where no subroutine has to return.
+# The same for single calls; here subroutines need not return.
 CALLED_CODES = [
     ("200a0e", ["8c8d150b"]),
     ("200a", ["200a"]),
@@ -74,20 +74,21 @@ CALLED_CODES = [
     ("8e8c8d15" + "8c" * 200 + "05" + "8c16" * 20 + "0e", []),
 ]
 
-# The numbers from 0 to 31, each stored in the place of its number and all fetched; and dropped and pushed again.
+# The numbers from 0 to 31: each stored at its own index and all fetched; or dropped and pushed again.
 NUMBERS = [f"{0x8b + k:02x}" for k in range(32)]
 STORED = "".join(number * 2 + "0c14" for number in NUMBERS) + "".join(number + "0c15" for number in NUMBERS) + "06"
 DROPPED = "".join(number * 2 + "0c120c12" for number in NUMBERS) + "".join(NUMBERS) + "06"
 
 
 def run(library, words, given, number):
-    """The status, the answers and the messages of the run whose request of this number is refused."""
+    """Runs a program with the request of this number failing; returns its status, its output and its messages."""
     done = subprocess.run(words, input=given, capture_output=True, env=dict(os.environ, LD_PRELOAD=library, REFUSED=str(number)))
     return done.returncode, done.stdout, done.stderr
 
 
 def refuse_each(library, words, given, judge):
-    """Refuses each request of a program in turn: how its runs ended, what it answers without a refusal, and the run that failed."""
+    """Makes each request of a program fail in turn. Returns how the runs ended, the output without a failure, and the run that ended
+    wrongly."""
     status, whole, messages = run(library, words, given, 0)
     ends, number, in_a_row = collections.Counter(), 0, 0
     failed = (number, (status, whole, messages)) if status else None
@@ -103,7 +104,7 @@ def refuse_each(library, words, given, judge):
 
 
 def sessions():
-    """Each session: its name, the words of the program, and its input."""
+    """Yields each session: its name, the arguments of the program, and its input."""
     yield "the stored run", [], (CRATE / "stdin").read_bytes()
     for code, local in CODES:
         lines = [f"code {code}"] + [f"local {routine}" for routine in local] + ["run", "flat"]
@@ -114,7 +115,7 @@ def sessions():
 
 
 def has_one_fault(answers, whole):
-    """Whether one answer, of any number of lines, is FAULT, and the lines around it are those of the whole answers."""
+    """Returns whether one answer, of any number of lines, is replaced by FAULT, and all other lines are those of the expected output."""
     found, wanted = answers.splitlines(), whole.splitlines()
     for place in [place for place, line in enumerate(found) if line == FAULT]:
         before, after = found[:place], found[place + 1:]
@@ -124,7 +125,7 @@ def has_one_fault(answers, whole):
 
 
 def judge_session(status, answers, messages, whole):
-    """How the run of a session ended, or None where it ended as it must not."""
+    """Returns how the run of a session ended, or None if that is not allowed."""
     told = b"psfont: " + FAULT in messages.splitlines()
     if status == 1 and told and whole.startswith(answers):
         return "ended by fault 3"
@@ -136,7 +137,7 @@ def judge_session(status, answers, messages, whole):
 
 
 def refuse_session(library, name, words, given):
-    """Refuses each request of a session in turn, and tells whether each run ended as it must."""
+    """Makes each request of a session fail in turn, and returns whether each run ended as allowed."""
     ends, _, failed = refuse_each(library, [PSFONT, *words], given, judge_session)
     if failed:
         number, (status, answers, messages) = failed
@@ -148,7 +149,7 @@ def refuse_session(library, name, words, given):
 
 
 def asked(library, code):
-    """What the run of a code answers, the number of requests that were made for it and for its flat code, and their bytes."""
+    """Returns the output of a charstring's `run`, the number of requests for `run` and `flat`, and their bytes."""
     with tempfile.NamedTemporaryFile("r") as told:
         done = subprocess.run(
             [PSFONT], input=f"code {code}\nrun\nflat\n".encode(), capture_output=True, check=True,
@@ -158,14 +159,14 @@ def asked(library, code):
 
 
 def compare_stored(library):
-    """Whether stored numbers ask for no memory."""
+    """Returns whether storing numbers makes no memory requests."""
     stored, dropped = asked(library, STORED), asked(library, DROPPED)
     print(f"32 stored numbers: {stored[1]} requests, {stored[2]} bytes; as many dropped: {dropped[1]} requests, {dropped[2]} bytes")
     return stored == dropped and stored[1] > 0
 
 
 def judge_call(call, status, answer, whole):
-    """How the run of a call ended, or None where it ended as it must not."""
+    """Returns how the run of a call ended, or None if that is not allowed."""
     if status == 0 and answer == whole:
         return "whole"
     if status != 0 and not answer:
@@ -180,7 +181,7 @@ def judge_call(call, status, answer, whole):
 
 
 def refuse_call(library, program, call, code, local):
-    """Refuses each request of a call in turn, and tells whether each run ended as it must."""
+    """Makes each request of a call fail in turn, and returns whether each run ended as allowed."""
     given = "\n".join([f"code {code}"] + [f"local {routine}" for routine in local] + [""]).encode()
 
     def judge(status, answers, _, whole):

@@ -3,20 +3,20 @@
 
     tools/evidence/axes.py SEED COUNT [FONT..]
 
-Without a FONT, the script takes Cantarell-VF.otf from Debian's package pango1.0-tests, which it unpacks in a temporary folder and does not
-install. It also makes fonts with two, three and four axes, using fontTools and SEED. They have segment maps, regions that depend on
-several axes, and an index map or none. At the named instances of each font and at 40 random locations it makes these comparisons:
+Without a FONT, the script takes Cantarell-VF.otf from Debian's package pango1.0-tests, unpacked in a temporary folder and not installed.
+It also makes fonts with two, three and four axes, using fontTools and SEED. They have segment maps, regions that depend on several axes,
+and an index map or none. The comparisons at the named instances of each font and at 40 random locations are:
 - Axes and instances are compared with fontTools.
 - Normalized coordinates after `avar` are compared in 16.16 with FreeType. In 2.14 they are compared with the specification's rule in
   integers, and with fontTools' floats.
 - The deltas of each glyph and each metric are compared with fontTools' floats.
-- The advance of each character is compared with hb-shape, and of each glyph with FreeType. fontTools' floats also give both advances: at
+- The advance of each character is compared with hb-shape, and of each glyph with FreeType. Floats of fontTools also give both: at
   coordinates in 16.16, as in FreeType, and at coordinates rounded to 2.14 before `avar`, as in HarfBuzz 6.
 
 Then it makes COUNT fonts with three axes from SEED, with only the tables `fvar`, `avar`, `HVAR` and `MVAR`. Some have axes out of order or
-segment maps without required entries. They have delta-set index maps of each format, delta sets of bytes, words and long words, and
-out-of-range indexes. At 60 locations of each, the program must print line by line the values of this script's reader, which uses integers.
-Each sum must be within the law's bound of the exact sum.
+incomplete segment maps. They have delta-set index maps of each format, delta sets of bytes, words and long words, and out-of-range
+indexes. At 60 locations of each, the program must print line by line the values of this script's reader, which uses integers. Each sum
+must be within the law's bound of the exact sum.
 
 The program is tools/programs/axes.rt.txt, proved in a copy with the crates' results in out/. Needs `rt` on the path, Debian's
 python3-fonttools, hb-shape of libharfbuzz-bin (or the path in the environment variable HB_SHAPE), and libfreetype.so.6. The exit status is
@@ -59,7 +59,7 @@ def number_of(tag):
 
 
 def run(program, lines):
-    """What the program prints of each line: the words of its answer, line by line."""
+    """Returns the words of each line that the program prints for each input line."""
     done = subprocess.run([program], input="".join(f"{line}\n" for line in lines).encode(), stdout=subprocess.PIPE, check=True)
     answers = done.stdout.decode().split("font /")[1:]
     if len(answers) != len(lines):
@@ -67,7 +67,7 @@ def run(program, lines):
     return [[line.split() for line in answer.splitlines()[1:]] for answer in answers]
 
 
-# ---- the rules, in whole numbers
+# ---- the rules, in integers
 
 
 def nearest(n, d):
@@ -75,7 +75,7 @@ def nearest(n, d):
 
 
 def normalized(axis, value):
-    """In 16.16, before `avar`."""
+    """Returns the normalized coordinate in 16.16, before `avar`."""
     minimum, default, maximum = axis
     if not minimum <= default <= maximum:
         return 0
@@ -90,7 +90,7 @@ def first_from(entries, at):
 
 
 def mapped(entries, at):
-    """By a segment map of entries in 2.14, in 16.16."""
+    """Applies a segment map with entries in 2.14 to a coordinate in 16.16."""
     entries = [(start * 4, to * 4) for start, to in entries]
     for end in (-65536, 0, 65536):
         i = first_from(entries, end)
@@ -113,7 +113,7 @@ def shortened(at):
 
 
 def axis_scalars(region, coordinates):
-    """Each axis scalar that counts, exactly."""
+    """Yields the exact scalar of each axis that takes part."""
     for (start, peak, end), at in zip(region, coordinates):
         if not start <= peak <= end or start < 0 < end or peak == 0:
             continue
@@ -124,7 +124,7 @@ def axis_scalars(region, coordinates):
 
 
 def scalar(region, coordinates):
-    """In 16.16, rounded by each axis; the exact one; and how many axes rounded it."""
+    """Returns the scalar in 16.16, rounded after each axis; the exact one; and the number of axes that rounded it."""
     rounded, exact, count = 65536, Fraction(1), 0
     for axis in axis_scalars(region, coordinates):
         rounded = nearest(rounded * axis.numerator, axis.denominator)
@@ -137,7 +137,7 @@ def scalar(region, coordinates):
 
 
 def cantarell(folder):
-    """The font of Debian's package pango1.0-tests."""
+    """Returns the font of Debian's package pango1.0-tests."""
     for command in (["apt-get", "update", "-qq"], ["apt-get", "download", "-qq", "-o", "APT::Sandbox::User=root", "pango1.0-tests"]):
         subprocess.run(command, cwd=folder, check=True)
     package = next(folder.glob("pango1.0-tests_*.deb"))
@@ -146,7 +146,7 @@ def cantarell(folder):
 
 
 class FreeType:
-    """A font as FreeType has it."""
+    """A font opened by FreeType."""
 
     def __init__(self, path, axes):
         self.library, self.axes, self.handle, self.face = ctypes.CDLL("libfreetype.so.6"), axes, ctypes.c_void_p(), ctypes.c_void_p()
@@ -161,7 +161,7 @@ class FreeType:
             sys.exit(f"{name} fails")
 
     def go_to(self, place):
-        """The coordinates behind `avar`, in 16.16."""
+        """Sets the location, and returns the coordinates after `avar`, in 16.16."""
         longs = ctypes.c_long * self.axes
         found = longs()
         self.call("FT_Set_Var_Design_Coordinates", self.face, self.axes, longs(*place))
@@ -179,7 +179,7 @@ def fixed(value):
 
 
 def head_of(font):
-    """The lines of axes and instances that the program must print."""
+    """Returns the lines of axes and instances that the program must print."""
     fvar = font["fvar"]
     lines = []
     for axis in fvar.axes:
@@ -192,7 +192,7 @@ def head_of(font):
 
 
 def shaped(path, characters, axes, place):
-    """The glyph and the advance of each character that gives one glyph, by hb-shape."""
+    """Yields the glyph and the advance of each character that gives one glyph in hb-shape."""
     settings = ",".join(f"{axis.axisTag}={value / 65536!r}" for axis, value in zip(axes, place))
     with tempfile.NamedTemporaryFile("w", suffix=".txt", encoding="utf8") as text:
         text.write("".join(f"{chr(code)}\n" for code in characters))
@@ -207,7 +207,7 @@ def shaped(path, characters, axes, place):
 
 
 def compare_place(path, font, freetype, place, answer, counts, worst):
-    """Compares what is told at a place, and tells how many lines are wrong."""
+    """Compares the output for one location, and returns the number of wrong lines."""
     wrong, fvar, order = 0, font["fvar"], font.getGlyphOrder()
     told = {(words[0], int(words[1])): words[2:] for words in answer if words[0] in ("at", "glyph", "metric")}
     longs, shorts = [], []
@@ -249,12 +249,12 @@ def compare_place(path, font, freetype, place, answer, counts, worst):
 
 
 def away(number):
-    """The nearest whole number, halves away from 0."""
+    """Rounds to the nearest integer, halves away from 0."""
     return int(math.copysign(math.floor(abs(number) + 0.5), number))
 
 
 def first_shortened(font, place):
-    """The coordinates where these come into 2.14 before `avar`."""
+    """Yields the coordinates when rounded to 2.14 before `avar`."""
     for axis, value in zip(font["fvar"].axes, place):
         plain = normalizeValue(value / 65536, (axis.minValue, axis.defaultValue, axis.maxValue))
         segments = font["avar"].segments.get(axis.axisTag, {}) if "avar" in font else {}
@@ -262,14 +262,14 @@ def first_shortened(font, place):
 
 
 def deltas_at(font, coordinates):
-    """What each glyph's advance varies by at the coordinates, by fontTools' floats."""
+    """Returns a function for the delta of each glyph's advance at these coordinates, in fontTools' floats."""
     hvar, order, axes = font["HVAR"].table, font.getGlyphOrder(), font["fvar"].axes
     by_store = VarStoreInstancer(hvar.VarStore, axes, {axis.axisTag: at for axis, at in zip(axes, coordinates)})
     return lambda glyph: by_store[hvar.AdvWidthMap.mapping[order[glyph]] if hvar.AdvWidthMap else glyph]
 
 
 def compare_metrics(font, location, told, counts):
-    """Compares the metrics of the tags with fontTools' floats."""
+    """Compares the metrics of TAGS with fontTools' floats."""
     if "MVAR" not in font:
         return 0
     mvar, wrong = font["MVAR"].table, 0
@@ -286,7 +286,7 @@ def compare_metrics(font, location, told, counts):
 
 
 def characters_of(font):
-    """Characters that hb-shape gives one glyph each."""
+    """Returns characters that give one glyph each in hb-shape."""
     left_out = {0xAD, *range(0x300, 0x370), *range(0x2000, 0x2070)}
     return [code for code in sorted(font.getBestCmap()) if code >= 0x21 and code not in left_out]
 
@@ -314,7 +314,7 @@ def compare(program, path, chance):
 
 
 def support(chance, tags):
-    """A region that depends on some of the axes, each at one side of 0."""
+    """Returns a region that depends on some of the axes, on one side of 0 in each."""
     spans = {}
     for tag in chance.sample(tags, chance.randint(1, len(tags))):
         start, peak, end = sorted(chance.sample(range(2048, 16384, 2048), 3))
@@ -325,7 +325,7 @@ def support(chance, tags):
 
 
 def with_variations(chance, builder_of_font, names, tags):
-    """Gives a font the tables `avar` and `HVAR`."""
+    """Adds the tables `avar` and `HVAR` to a font."""
     font = builder_of_font.font
     font["avar"] = avar = newTable("avar")
     for tag in tags:
@@ -350,7 +350,7 @@ def with_variations(chance, builder_of_font, names, tags):
 
 
 def made(folder, chance, axes):
-    """A font of 60 glyphs, whose outlines are empty."""
+    """Makes a font of 60 glyphs with empty outlines."""
     names = [".notdef", *(f"g{i}" for i in range(1, 60))]
     tags = ["wght", "wdth", "slnt", "opsz"][:axes]
     font = FontBuilder(1000, isTTF=True)
@@ -384,7 +384,7 @@ def words(*numbers):
 
 
 def sfnt(tables):
-    """A file of tables."""
+    """Returns a file with these tables."""
     records, data, place = b"", b"", 12 + 16 * len(tables)
     for tag, table in sorted(tables.items()):
         records += tag.encode() + bytes(4) + be(place + len(data), 4) + be(len(table), 4)
@@ -393,7 +393,7 @@ def sfnt(tables):
 
 
 def random_axes(chance):
-    """Axes, the table `fvar`, and the lines of it."""
+    """Returns axes, the `fvar` table, and its expected lines."""
     axes = [sorted(chance.randrange(-(2**31), 2**31) for _ in range(3)) for _ in range(3)]
     chance.shuffle(axes[2])
     if chance.random() < 0.2:
@@ -415,7 +415,7 @@ def random_axes(chance):
 
 
 def random_maps(chance):
-    """Segment maps, some without entries that they must have or with entries in disorder, and the table `avar`."""
+    """Returns segment maps, some with missing or unordered entries, and the `avar` table."""
     maps = []
     for _ in range(3):
         starts = sorted({-16384, 0, 16384, *(chance.randrange(-16383, 16384) for _ in range(chance.randrange(6)))})
@@ -432,7 +432,7 @@ def random_maps(chance):
 
 
 def random_regions(chance):
-    """Seven regions of three axes."""
+    """Returns seven regions of three axes."""
     def span():
         kind = chance.randrange(4)
         if kind == 0:
@@ -443,7 +443,7 @@ def random_regions(chance):
 
 
 def random_store(chance):
-    """Regions, item variation data, each as its region indexes and delta sets, and the store."""
+    """Returns regions, item variation data (each as its region indexes and delta sets), and the store."""
     regions = random_regions(chance)
     region_list = words(3, len(regions)) + b"".join(words(*span) for region in regions for span in region)
     data, tables = [], []
@@ -462,7 +462,7 @@ def random_store(chance):
 
 
 def random_index_map(chance):
-    """The outer and inner index of each of 20 glyphs, and the map; maybe none, or one without entries."""
+    """Returns the outer and inner index of each of 20 glyphs, and the map, which may be missing or empty."""
     bits, size, form = chance.randrange(1, 17), chance.randrange(1, 5), chance.randrange(2)
     if chance.random() < 0.2:
         return [(0, glyph) for glyph in range(20)], b""
@@ -476,7 +476,7 @@ def random_index_map(chance):
 
 
 def random_records(chance, store):
-    """The indexes of each tag, and the table `MVAR`."""
+    """Returns the indexes of each tag, and the `MVAR` table."""
     size, count = chance.choice([8, 8, 10]), chance.randrange(7)
     records = [(chance.choice(TAGS), chance.randrange(4), chance.randrange(9)) for _ in range(count)]
     place = 0 if chance.random() < 0.1 else 12 + size * count
@@ -489,7 +489,7 @@ def random_records(chance, store):
 
 
 def line_of(word, number, regions, data, index, coordinates):
-    """The line of a delta set; and that the sum is within the bound of the law."""
+    """Returns the line of a delta set, and whether the sum is within the law's bound."""
     outer, inner = index
     if outer >= len(data) or inner >= len(data[outer][1]):
         return [word, number, "none"], True
@@ -503,7 +503,7 @@ def line_of(word, number, regions, data, index, coordinates):
 
 
 def compare_random(program, folder, chance, counts):
-    """Makes a font, compares what is told of it, and tells how many lines are wrong."""
+    """Makes a font, compares the output for it, and returns the number of wrong lines."""
     axes, fvar, head = random_axes(chance)
     maps, avar = random_maps(chance)
     regions, data, store = random_store(chance)

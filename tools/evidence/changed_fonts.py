@@ -101,18 +101,18 @@ EXTREMES += [0xFFFFFF, 0x7FFFFFFF, 0x80000000, 0xFFFFFFFE, 0xFFFFFFFF]
 
 EDGES = [2 ** 15 - 1, -2 ** 15, 2 ** 15, 2 ** 31 - 1, -2 ** 31]
 
-# A font and its fields: places and widths of counts, offset sizes and offsets.
+# A font and its fields: the offsets and widths of its counts, offset sizes and offsets.
 Base = collections.namedtuple("Base", "data fields")
 
-# A word of a dictionary that stands for the place of a part, or for that less the place of another part. The
-# seed keeps its spelling the same while the places are still sought.
+# A word of a DICT for the offset of a part, absolute or relative to another part. The seed keeps its encoding
+# the same while the offsets are still being computed.
 Place = collections.namedtuple("Place", "part origin form seed")
 
-# A part of a font, as items for an INDEX, words for a dictionary, or bytes; `more` widens an INDEX's offsets.
+# A part of a font: items for an INDEX, words for a DICT, or bytes. `more` widens an INDEX's offsets.
 Part = collections.namedtuple("Part", "name kind content more")
 
 
-# Numbers, spelled
+# Encoded numbers
 
 
 def one_in(draw, chances):
@@ -120,7 +120,7 @@ def one_in(draw, chances):
 
 
 def real(draw, words):
-    """A real of these characters; `d` is the nibble that means nothing."""
+    """Encodes a real of these characters; `d` is the reserved nibble."""
     nibbles = []
     at = 0
     while at < len(words):
@@ -137,7 +137,7 @@ def real(draw, words):
 
 
 def real_of_whole(draw, number):
-    """Some text of a whole number."""
+    """Returns one of several texts of an integer."""
     sign, digits = "-" if number < 0 else "", str(abs(number))
     powers = draw.randrange(4)
     return draw.choice([
@@ -152,7 +152,7 @@ def real_of_whole(draw, number):
 
 
 def tight(number):
-    """The shortest integer spelling."""
+    """Returns the one- or two-byte encoding of an integer, if there is one."""
     if -107 <= number <= 107:
         return bytes([number + 139])
     if 108 <= number <= 1131:
@@ -163,7 +163,7 @@ def tight(number):
 
 
 def whole(draw, number, form):
-    """A whole number in one of four forms, or in the next one that holds it."""
+    """Encodes an integer in one of four forms, or in the next one that can hold it."""
     spelled = tight(number) if form == "tight" else None
     if spelled is None and form in ("tight", "short") and -2 ** 15 <= number < 2 ** 15:
         spelled = b"\x1c" + number.to_bytes(2, "big", signed=True)
@@ -184,7 +184,7 @@ def random_real(draw):
 
 
 def random_operand(draw):
-    """An operand of any form; few of them are refused."""
+    """Returns an operand of any form; few are invalid."""
     kind = draw.randrange(10)
     if kind < 3:
         return whole(draw, draw.randint(-107, 107), random_form(draw))
@@ -214,7 +214,7 @@ def random_text(draw):
 
 
 def char_set(draw, glyphs):
-    """A char set for as many glyphs: of format 0, 1 or 2, or of one that is not read."""
+    """Returns a charset for this number of glyphs, of format 0, 1 or 2, or of an unknown format."""
     if one_in(draw, 25):
         return bytes([draw.choice([3, 4, 0x80, 0xFF])]) + bytes(2 * glyphs)
     form = draw.randrange(3)
@@ -235,7 +235,7 @@ def other_operation(draw):
 
 
 def operation(draw, words, operator):
-    """An operation of these operands, at times with others behind them, instead of them or with too few."""
+    """Returns an operation with these operands; sometimes with others added, with others instead, or with too few."""
     if one_in(draw, 12):
         words = words + [random_operand(draw)]
     if one_in(draw, 80):
@@ -252,7 +252,7 @@ def place_word(draw, part, origin=None):
 
 
 def dictionary(draw, operations, others):
-    """The words of a dictionary in a random order, at times with replaced operations, or with a rest."""
+    """Returns the words of a DICT in random order, sometimes with repeated operations or with trailing bytes."""
     words = []
     operations = operations + [other_operation(draw) for _ in range(draw.randint(0, others))]
     draw.shuffle(operations)
@@ -266,7 +266,7 @@ def dictionary(draw, operations, others):
 
 
 def char_set_parts(draw, number, glyphs):
-    """The operation that names a char set, and the part that holds it where it is not predefined."""
+    """Returns the operation that selects a charset, and the part with the charset if it is not predefined."""
     if one_in(draw, 2):
         known = draw.randrange(3)
         return ([] if known == 0 else [number_operation(draw, known, CHAR_SET)]), []
@@ -276,7 +276,7 @@ def char_set_parts(draw, number, glyphs):
 
 
 def private_parts(draw, number):
-    """The operation that names a private dictionary, and its parts; negative places of them come as well."""
+    """Returns the operation for a Private DICT, and its parts. Some offsets are negative."""
     private, subroutines = f"private {number}", f"locals {number}"
     own = not one_in(draw, 8)
     if not own:
@@ -293,7 +293,7 @@ def private_parts(draw, number):
 
 
 def glyph_parts(draw, number, shared):
-    """The operation that names the char strings, their number, and the part that holds them."""
+    """Returns the operation for the CharStrings INDEX, the number of glyphs, and the part with the charstrings."""
     name = f"glyphs {number}"
     glyphs = draw.choice([1, 1, 2, 3, 4, 5, 8, draw.randint(1, 40), draw.randint(0, 1)])
     if one_in(draw, 80):
@@ -306,7 +306,7 @@ def glyph_parts(draw, number, shared):
 
 
 def font_parts(draw, number, shared):
-    """The words of one font's dictionary and the parts that it leads to."""
+    """Returns the words of a font's Top DICT and the parts that it refers to."""
     operations, glyphs, parts = glyph_parts(draw, number, shared)
     for more, further in (char_set_parts(draw, number, glyphs), private_parts(draw, number)):
         operations += more
@@ -322,7 +322,7 @@ def font_parts(draw, number, shared):
 
 
 def spelled(words, places):
-    """The bytes of a dictionary's words, for these places of the parts."""
+    """Returns the bytes of a DICT's words, for these offsets of the parts."""
     pieces = []
     for word in words:
         if isinstance(word, Place):
@@ -333,7 +333,7 @@ def spelled(words, places):
 
 
 def index(items, more):
-    """An INDEX of these items, and its fields."""
+    """Returns an INDEX of these items, and its fields."""
     if not items:
         return b"\x00\x00", [(0, 2)]
     ends = [1]
@@ -355,7 +355,7 @@ def part_bytes(part, places):
 
 
 def lay_out(front, parts, places):
-    """The font for these guessed places of its parts, and the places that they come to have."""
+    """Lays out the font for these guessed offsets of its parts, and returns it with the resulting offsets."""
     data, fields, found = front, [(0, 1), (1, 1), (2, 1), (3, 1)], {}
     for part in parts:
         piece, inner = part_bytes(part, places)
@@ -367,7 +367,7 @@ def lay_out(front, parts, places):
 
 
 def front_bytes(draw, names):
-    """The bytes before the names. A header of a small size is laid over the names that follow it."""
+    """Returns the bytes before the names. If the header size is small, the header overlaps the names."""
     size = draw.choice([4, 4, 4, 4, 5, 7, draw.randint(4, 60)])
     if one_in(draw, 6):
         size = {0: 0, 1: 1}.get(len(names), 3)
@@ -376,7 +376,7 @@ def front_bytes(draw, names):
 
 
 def made_up(draw):
-    """A font with every part, most of them whole and sound."""
+    """Returns a font with every part, most of them complete and valid."""
     names = [random_text(draw) for _ in range(draw.choice([0, 1, 1, 2, 3, 4]))]
     strings, subroutines = random_items(draw, 4, 5), random_items(draw, 3, 5)
     shared = {"names": len(names), "strings": len(strings), "globals": len(subroutines)}
@@ -450,7 +450,7 @@ def remove_slice(draw, base):
 
 
 def wide_numbers(data):
-    """The places and widths of what may be integers of two and four bytes."""
+    """Returns the offsets and widths of bytes that may be integers of two or four bytes."""
     widths = {0x1C: 2, 0x1D: 4}
     return [(place + 1, widths[byte]) for place, byte in enumerate(data) if byte in widths]
 
@@ -464,7 +464,7 @@ def set_extreme(draw, base):
 
 
 def write_operand(draw, base):
-    """Writes an operand, good or bad, over the bytes that stand there."""
+    """Overwrites the bytes at an offset with an operand, valid or invalid."""
     operand = random_operand(draw)
     if one_in(draw, 2):
         operand = real(draw, draw.choice(GOOD_REALS + FAR_REALS + BAD_REALS))
@@ -479,7 +479,7 @@ CHANGES = [
 
 
 def changed(draw, base):
-    """The base with one change or a few; the fields stay where they were."""
+    """Returns the base with one or a few changes; the fields keep their offsets."""
     for _ in range(draw.choice([1, 1, 1, 1, 2, 3])):
         if not base.data:
             break
@@ -488,7 +488,7 @@ def changed(draw, base):
 
 
 def fonts(seed, count):
-    """That many fonts: the known ones as they stand, then made-up ones and changed ones."""
+    """Yields this many fonts: first the known ones unchanged, then made-up and changed ones."""
     draw = random.Random(seed)
     known = [Base(bytes.fromhex(words), []) for words in KNOWN_FONTS]
     for number in range(count):
@@ -503,7 +503,7 @@ def fonts(seed, count):
 
 
 def answers_of(output):
-    """The program's answers, each a list of lines, and what is left of a last one that was cut."""
+    """Returns the program's answers, each a list of lines, and the rest of an incomplete last one."""
     answers, lines = [], []
     for line in output.split(b"\n")[:-1]:
         lines.append(line)
@@ -514,7 +514,7 @@ def answers_of(output):
 
 
 def ask(program, word, batch):
-    """What one process answers to these fonts, and a remark where it did not end well."""
+    """Returns the answers of one process to these fonts, and a remark if it did not end well."""
     lines = "".join(f"{word} {font.hex()}\n" for font in batch).encode()
     try:
         process = subprocess.run([program], input=lines, capture_output=True, timeout=SECONDS_A_BATCH)
@@ -528,7 +528,7 @@ def ask(program, word, batch):
 
 
 def ask_all(program, word, batch):
-    """An answer to each font. Where a process stops early, the font that stopped it is left without one."""
+    """Returns an answer for each font. If a process stops early, the font that stopped it gets NO_ANSWER."""
     answers, remarks = [], []
     while len(answers) < len(batch):
         more, remark = ask(program, word, batch[len(answers):])
@@ -539,7 +539,7 @@ def ask_all(program, word, batch):
 
 
 def expected(word, font):
-    """The second reader's answer as lines, and its number or "read"."""
+    """Returns the second reader's answer as lines, and its error number or "read"."""
     kind, answer = read_font(font, 0, word == "lenient")
     if kind == "ok":
         return [line.encode() for line in answer], "read"
@@ -553,7 +553,7 @@ def show(word, font, ours, theirs):
 
 
 def compare(program, word, batch, kinds):
-    """How many answers to these fonts differ; `kinds` counts the second reader's."""
+    """Returns the number of differing answers for these fonts; `kinds` counts the second reader's answers."""
     answers, remarks = ask_all(program, word, batch)
     differing = len(remarks)
     for remark in remarks:

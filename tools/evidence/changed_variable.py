@@ -4,10 +4,10 @@
     tools/evidence/changed_variable.py SEED CASES WORD..
 
 Each WORD is an OpenType file with a `CFF2` table, or a Debian package; the script downloads the package (without installing it) and takes
-each such file. pango1.0-tests has Cantarell-VF.otf. The script adds the four fonts that tools/variable_fonts.py makes from EB Garamond,
-with two and three axes, each with its own `avar` and `HVAR` tables. Each of the CASES changes one to sixteen bytes, at random from SEED.
-Half of them are in the charstring of a glyph, a quarter in the `CFF2` table, an eighth in its first 200 bytes, and an eighth in `fvar`,
-`avar` or `HVAR`.
+each such file. pango1.0-tests has Cantarell-VF.otf. It adds the four fonts that tools/variable_fonts.py makes from EB Garamond, with two
+and three axes. Each gets its own `avar` and `HVAR` tables. Each of the CASES changes one to sixteen bytes, at random from SEED. Half of
+them are in the charstring of a glyph, a quarter in the `CFF2` table, an eighth in its first 200 bytes, and an eighth in `fvar`, `avar` or
+`HVAR`.
 
 One process (tools/programs/changed_variable.rt.txt, proved in a copy, or the program in the environment variable PROGRAM) reads each table
 and draws two glyphs at a random location, within a limit. Another (tools/programs/changed_variable.c) loads them from memory with
@@ -46,13 +46,13 @@ NONE = "none of these"
 SAID = {FACE_REFUSED: "drawn here, the face refused by FreeType", OTHERWISE: "drawn otherwise", THERE_REFUSED: "drawn here, refused by FreeType",
         HERE_REFUSED: "refused here, drawn by FreeType", COORDINATE: "another coordinate", BY_ONE: "an advance one unit away", ADVANCE: "another advance"}
 
-# what is odd in a run, the first reason first
+# oddities of an execution; the first one that applies is the reason
 ORDER = ["an operator with more operands than it takes", "stems behind a mask or a path", "more than 96 stems", "vsindex behind a blend or an operator",
          "a blend of no operands"]
 
 
 def taken(op, n):
-    """How many of n operands an operator takes, or None where it takes none of these counts."""
+    """Returns how many of n operands an operator takes, or None if it accepts no such count."""
     if op in (4, 22):
         return 1 if n >= 1 else None
     if op == 21:
@@ -79,11 +79,11 @@ def taken(op, n):
 
 
 class Odd(Exception):
-    """Why a reading ends."""
+    """Why reading stops."""
 
 
 class Table:
-    """A table `CFF2`, read as far as it goes."""
+    """A `CFF2` table, read as far as possible."""
 
     def __init__(self, data):
         self.data = data
@@ -167,13 +167,13 @@ class Table:
         return [self.number(place + self.number(place + 8 + 4 * i, 4) + 4, 2) for i in range(self.number(place + 6, 2))]
 
     def part(self, place):
-        """The part that a place is in; the offsets of an INDEX before what they tell."""
+        """Returns the name of the part at an offset; the offsets of an INDEX win over other parts."""
         found = [name for start, end, name in self.parts if start <= place < end]
         return min(found, key=lambda name: not name.startswith("the offsets")) if found else "bytes that no part names"
 
 
 class Run:
-    """The run of a glyph: operators and operands alone, without the values of blends, but for those of the default."""
+    """The execution of a glyph: only operators and operands; a blend leaves its default values."""
 
     def __init__(self, table):
         self.table, self.stack, self.stems, self.odd, self.x, self.steps = table, [], 0, [], [0, 0], 0
@@ -279,7 +279,7 @@ class Run:
 
 
 def reason(font, spans, line):
-    """The reason of an unlike glyph, coordinate or advance, which is told by the words of its line."""
+    """Returns the reason of a differing glyph, coordinate or advance, which its line describes."""
     told, at, answers = line.split("|")
     _, kind, glyph, number, *changes = told.split()
     if int(kind) == HERE_REFUSED:
@@ -296,7 +296,7 @@ def reason(font, spans, line):
 
 
 def outline_reason(data, span, glyph, places):
-    """The reason of an unlike outline."""
+    """Returns the reason of a differing outline."""
     own = bytes(data[span[0]:span[0] + span[1]])
     try:
         table = Table(own)
@@ -322,13 +322,13 @@ def outline_reason(data, span, glyph, places):
 
 
 def spans_of(font):
-    """Where each table of a file stands, and its length."""
+    """Returns the offset and the length of each table of a file."""
     records = [font[12 + 16 * i:28 + 16 * i] for i in range(int.from_bytes(font[4:6], "big"))]
     return {bytes(record[:4]): (int.from_bytes(record[8:12], "big"), int.from_bytes(record[12:], "big")) for record in records}
 
 
 def with_variations(path):
-    """The same font with a segment map for each axis, and with advances that vary."""
+    """Returns the same font with a segment map for each axis and with varying advances."""
     font = TTFont(path)
     tags = [axis.axisTag for axis in font["fvar"].axes]
     axes.with_variations(random.Random(path.name), types.SimpleNamespace(font=font), font.getGlyphOrder(), tags)

@@ -76,13 +76,13 @@ def names(path):
 
 
 def wanted(records, kept):
-    """The records of these identifiers, without those of Macintosh in Roman whose text Windows tells too."""
+    """Returns the records with these name IDs, without Macintosh Roman ones whose text is also in a Windows record."""
     windows = {(record[3], record[4]) for record in records if record[0] == 3}
     return [record for record in records if record[3] in kept and (record[0] != 1 or (record[3], record[4]) not in windows)]
 
 
 def with_names(records, folder):
-    """EB Garamond with another table name."""
+    """Returns EB Garamond with another `name` table."""
     font = TTFont(FONT)
     font["name"].names = []
     for platform, encoding, language, identifier, text in records:
@@ -236,7 +236,7 @@ def _(folder):
     if not LARGE.is_file():
         return
     told = folder / "most"
-    # what begins from here counts this program's own memory as its own at first, so another one begins it
+    # a child of this process would start with this process's memory in its peak, so /usr/bin/time starts it
     words = ["/usr/bin/time", "-f", "%M", "-o", told, str(PSOTF), "inspect", str(LARGE), "--json"]
     subprocess.run(words, stdout=subprocess.DEVNULL, check=True)
     most = int(told.read_text())
@@ -285,7 +285,7 @@ def _(folder):
 
 @functools.cache
 def made():
-    """A variable font of two axes, made of EB Garamond, with an instance Bold."""
+    """Returns a variable font with two axes and an instance Bold, made from EB Garamond."""
     fontTools.varLib.cff.maxStackLimit = 48
     with tempfile.TemporaryDirectory() as folder:
         path = variable(pathlib.Path(folder), 2)
@@ -300,7 +300,7 @@ def made():
 
 
 def varied(folder, change=None):
-    """That font as a file, with a change."""
+    """Writes that font to a file, changed by a function."""
     path = folder / "variable.otf"
     path.write_bytes(made())
     if change is not None:
@@ -322,7 +322,8 @@ def _(folder):
 
 
 def instance(folder, *words, change=None, status=0):
-    """What is said of the instance of words; the file that is written. Where it is refused, what stood there stays, alone."""
+    """Runs `psotf instance`; returns the written file and the messages. If it fails, the old file must be unchanged. It may leave no
+    .part file."""
     path, out = varied(folder, change), folder / "out.otf"
     out.write_bytes(b"old")
     said = run("instance", path, *words, "-o", out, status=status)[1].replace(f"{path}: ", "")
@@ -357,7 +358,7 @@ def _(folder):
 def _(folder):
     static = instance(folder, "--variations", "wght=650,wdth=90")[0].rename(folder / "static.otf")
     words = (("sheet",), ("report",), ("flat",), ("subset", "--text", "Hello"))
-    # a page names itself
+    # a page contains its own name
     of_static, of_place = folder / "of_static" / "out", folder / "of_place" / "out"
     of_static.parent.mkdir()
     of_place.parent.mkdir()
@@ -416,7 +417,7 @@ def _(folder):
 
 
 def without_room(words, out):
-    """Runs these words where a file may have 1,000 bytes, and looks whether the old file stays."""
+    """Runs a command with a limit of 1,000 bytes per file, and checks that the old file is unchanged."""
     out.write_bytes(b"old")
     done = subprocess.run(
         [str(PSOTF), *map(str, words), "-o", str(out)], capture_output=True, check=False, restore_signals=False,

@@ -1,5 +1,5 @@
 #!/usr/bin/env python3
-"""Finds the most expensive glyph of fonts, in units of the limit; a `seac` glyph includes its base and accent.
+"""Finds the most expensive glyph of fonts, in units of the limit. A `seac` glyph includes its base and accent.
 
     tools/evidence/costs.py FOLDER..
 
@@ -17,7 +17,7 @@ from postscript import Error, Font, Status  # noqa: E402
 
 
 def keeps_to(font, glyph, limit):
-    """Whether a glyph's runs take less than a limit. One that is refused does."""
+    """Returns whether a glyph stays within this limit. An invalid glyph does."""
     font._font.limit = limit
     try:
         font[glyph].tight_bounds
@@ -27,7 +27,7 @@ def keeps_to(font, glyph, limit):
 
 
 def cost_of(font, glyph, least):
-    """The least limit that a glyph keeps to, from one on that it does not."""
+    """Returns the smallest sufficient limit of a glyph for which `least` is too small."""
     most = least * 2
     while not keeps_to(font, glyph, most):
         least, most = most, most * 2

@@ -19,7 +19,7 @@ import postscript
 
 
 def refusal(font):
-    """Why a font is refused here; None where it is not."""
+    """Returns why a font fails here, or None."""
     if not font.fits(postscript.LIMIT):
         return "does not fit"
     try:

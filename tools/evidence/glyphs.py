@@ -35,14 +35,14 @@ from font_files import files_of
 DRAWING = """rlineto hlineto vlineto rrcurveto rcurveline rlinecurve vvcurveto hhcurveto vhcurveto hvcurveto
     hflex flex hflex1 flex1""".split()
 
-# A glyph's name, its code, the subroutines that it may call, and the widths that it may have.
+# A glyph's name, its charstring, the subroutines that it may call, and its nominal and default width.
 Glyph = collections.namedtuple("Glyph", "name code globals locals nominal default")
-# What psfont answers: operations, their end and the width, and the flat code.
+# psfont's answer: the operations, the line after them, the width, and the flattened charstring.
 Answer = collections.namedtuple("Answer", "operations end width flat")
 
 
 class Meeting(T2WidthExtractor):
-    """Keeps the operators that are met, in lower case, with their operands but the width."""
+    """Keeps the operators that it meets, in lower case, with their operands except the width."""
 
     def __init__(self, *args):
         self.met = []
@@ -87,7 +87,7 @@ class Meeting(T2WidthExtractor):
 
 
 def drawing(name):
-    """What is done at an operator that draws."""
+    """Returns the method for a drawing operator."""
     return lambda self, index: self.meet(name, self.popall())
 
 
@@ -96,26 +96,26 @@ for operator in DRAWING:
 
 
 class Drawing(T2OutlineExtractor):
-    """Draws, and drops."""
+    """Draws outlines, and supports `drop`."""
 
     def op_drop(self, index):
         self.pop()
 
 
 def charstrings(codes):
-    """Charstrings of their own, since fontTools puts what it reads in place of the bytes."""
+    """Returns new charstrings, since fontTools replaces the bytes by what it reads."""
     return [T2CharString(bytecode=code) for code in codes]
 
 
 def met(glyph, routines):
-    """The operators that fontTools meets, and the width."""
+    """Returns the operators that fontTools meets, and the width."""
     meeting = Meeting(routines.locals, routines.globals, glyph.nominal, glyph.default)
     meeting.execute(T2CharString(bytecode=glyph.code))
     return meeting.met, meeting.width
 
 
 def drawn(glyph, code, local, other):
-    """The outline and the width that fontTools draws."""
+    """Returns the outline and the width that fontTools draws."""
     pen = RecordingPen()
     extractor = Drawing(pen, local, other, glyph.nominal, glyph.default)
     extractor.execute(T2CharString(bytecode=code))
@@ -123,7 +123,7 @@ def drawn(glyph, code, local, other):
 
 
 def glyphs_of(path):
-    """The glyphs of a font file; none where it has no table `CFF `."""
+    """Returns the glyphs of a font file, or none if it has no `CFF ` table."""
     font = TTFont(path, lazy=True)
     if "CFF " not in font:
         return []
@@ -154,13 +154,13 @@ def write_lines(glyphs, lines):
 
 
 def number_of(text):
-    """The bits of an operand."""
+    """Returns the bits of an operand."""
     bits, slash, _ = text.partition("/")
     return int(bits) if slash else int(bits) * 65536
 
 
 def read_answer(lines, loads):
-    """The answers about a glyph whose code and subroutines take so many lines."""
+    """Reads the answers for a glyph whose charstring and subroutines take `loads` lines."""
     for _ in range(loads):
         if next(lines) != "ok":
             raise ValueError("a line was not loaded")
@@ -179,7 +179,7 @@ def read_answer(lines, loads):
 
 
 def answers_of(glyphs):
-    """What psfont answers about the glyphs."""
+    """Returns psfont's answers for the glyphs."""
     with tempfile.TemporaryFile() as lines, tempfile.TemporaryFile() as output:
         write_lines(glyphs, lines)
         lines.seek(0)
@@ -197,7 +197,7 @@ def bits_of(operands):
 
 
 def difference(glyph, answer, routines):
-    """How an answer differs, or None."""
+    """Returns how an answer differs, or None."""
     operations, width = met(glyph, routines)
     if answer.end != "end":
         return answer.end

@@ -51,7 +51,7 @@ told(lambda: font.subset(range(len(font))))
 
 
 def built(name, folder):
-    """A program of C."""
+    """Builds a C program."""
     program = f"{folder}/{name}"
     words = ["-O2", "-Wall", "-Wextra", f"-I{C}", PROGRAMS / f"{name}.c", C / "build" / "libpostscript.a", "-o", program]
     subprocess.run(["cc", *words], check=True)
@@ -63,13 +63,13 @@ def at_most():
 
 
 def columns(words):
-    """What a program prints, and whether it ended by itself."""
+    """Returns the cells that a program prints, and whether it ended without a signal."""
     told = subprocess.run(words, stdout=subprocess.PIPE, text=True, preexec_fn=at_most, env={**os.environ, "PYTHONPATH": str(PYTHON)})
     return told.stdout.split(" | ")[:-1], told.returncode >= 0
 
 
 def row(program, name, data, path):
-    """Prints what a font takes, and tells whether it takes too long."""
+    """Prints the times of a font, and returns whether it is too slow."""
     pathlib.Path(path).write_bytes(data)
     here, ended = columns([program, path])
     there, went = columns([sys.executable, "-c", SCRIPT, path])
@@ -80,15 +80,15 @@ def row(program, name, data, path):
 
 
 def is_slow(doors, cells):
-    """Whether a call took too long."""
+    """Returns whether a call was too slow."""
     return any(float(cell) > MOST for door, cell in zip(doors, cells) if door not in LOOPS and cell != "-")
 
 
 def variable_row(program, name, data, path):
-    """The same of a variable font."""
+    """Prints the times of a variable font, and returns whether it is too slow."""
     pathlib.Path(path).write_bytes(data)
     here, ended = columns([program, path])
-    # a program that is ended in a loop has answered each call
+    # a program that is ended in a loop has finished each single call
     ended = ended or len(here) >= VARIABLE.index(LOOPS[0])
     here += ["-"] * (len(VARIABLE) - len(here))
     print(f"| {name} | {len(data)} |", " | ".join(here), "|", flush=True)
@@ -96,7 +96,7 @@ def variable_row(program, name, data, path):
 
 
 def table(doors, fonts, of, program, words):
-    """Prints a table, and tells whether a row of it is bad."""
+    """Prints a table, and returns whether a row is bad."""
     print("| font | bytes |", " | ".join(doors), "|")
     print("|---" * (len(doors) + 2) + "|")
     bad = False

@@ -63,7 +63,7 @@ def long(n):
 
 
 def index(items):
-    """An INDEX with offsets of three bytes."""
+    """Returns an INDEX with offsets of three bytes."""
     if not items:
         return short(0)
     offsets, at = [], 1
@@ -74,23 +74,23 @@ def index(items):
 
 
 def sharing(items):
-    """An INDEX whose offsets rise and fall: each of the items has the bytes of the first one, and between each two is one without bytes."""
+    """Returns an INDEX whose offsets rise and fall: all items share the bytes of the first, with an empty item between each two."""
     ends = [1, len(items[0]) + 1] * len(items)
     return short(len(ends) - 1) + b"\x03" + b"".join(end.to_bytes(3, "big") for end in ends) + items[0]
 
 
 def operand(n):
-    """A whole number as an operand of a charstring."""
+    """Encodes an integer as an operand of a charstring."""
     return bytes([n + 139]) if -107 <= n <= 107 else b"\x1c" + n.to_bytes(2, "big", signed=True)
 
 
 def call(n, many, operator=CALL_GLOBAL):
-    """A call of subroutine N of so many."""
+    """Encodes a call of subroutine N of a list of `many`."""
     return operand(n - (107 if many < 1240 else 1131 if many < 33900 else 32768)) + operator
 
 
 def plain_font(glyphs, routines=(), char_set=b"", strings=(), tops=1):
-    """A table CFF of glyphs over global subroutines."""
+    """Returns a `CFF ` table with these glyphs and global subroutines."""
     front = HEADER + index([b"A"])
     behind = index(list(strings)) + index(list(routines))
     codes, private = index(glyphs), b""
@@ -105,7 +105,7 @@ def plain_font(glyphs, routines=(), char_set=b"", strings=(), tops=1):
 
 
 def keyed_font(glyphs, select, parts=2, routines=(), private=number(6) + SUBRS, more=b"", listed=index):
-    """A CID-keyed table CFF, whose font dictionaries have the same private dictionary, and so the same local subroutines."""
+    """Returns a CID-keyed `CFF ` table whose Font DICTs share one Private DICT and its local subroutines."""
     front = HEADER + index([b"A"])
     codes, locals_ = index(glyphs), index(list(routines))
 
@@ -128,7 +128,7 @@ def keyed_font(glyphs, select, parts=2, routines=(), private=number(6) + SUBRS, 
 
 
 def segments(count):
-    """A table cmap of format 4, of segments of one character."""
+    """Returns a `cmap` table of format 4, with segments of one character."""
     ends = [3 * i + 1 for i in range(min(count, 20_000))]
     many = len(ends) + 1
     halves = lambda numbers: b"".join(short(n % 65_536) for n in numbers)
@@ -137,7 +137,7 @@ def segments(count):
 
 
 def groups(rows):
-    """A table cmap of format 12."""
+    """Returns a `cmap` table of format 12."""
     body = b"".join(long(first) + long(last) + long(glyph) for first, last, glyph in rows)
     return long(1) + long(0x0003000A) + long(12) + short(12) + short(0) + long(16 + len(body)) + long(0) + long(len(rows)) + body
 
@@ -146,7 +146,8 @@ LETTERS = groups([(65, 66, 1)])
 
 
 def file_of(outlines, glyphs, cmap=LETTERS, more=(), tag=b"CFF ", others=()):
-    """An OpenType file of a table of outlines and others, and how many glyphs it has. The tables of more tags are all others together."""
+    """Returns an OpenType file with this table of outlines and others, and its number of glyphs. Each tag of `more` covers all other
+    tables."""
     tables = {
         tag: outlines,
         b"OS/2": short(4) + bytes(94),
@@ -170,12 +171,12 @@ def file_of(outlines, glyphs, cmap=LETTERS, more=(), tag=b"CFF ", others=()):
 
 
 def nested(leaf, times=3000):
-    """Ten global subroutines, each of which calls the next one so many times, and the last of which is this."""
+    """Returns ten global subroutines. Each calls the next one `times` times; the last one is `leaf`."""
     return [call(i + 1, 10) * times + RETURN for i in range(9)] + [leaf + RETURN]
 
 
 def squared(leaf, near):
-    """Three global subroutines whose runs cost nearly the limit: squares of calls of the last one, which is this."""
+    """Returns three global subroutines whose execution costs nearly the limit, with a square number of calls of `leaf`."""
     times = int((near / (len(leaf) + 3)) ** 0.5)
     return [call(1, 3) * times + RETURN, call(2, 3) * times + RETURN, leaf + RETURN]
 
@@ -194,7 +195,7 @@ BEGIN = ONE * 2 + b"\x15"
 
 
 def runs():
-    """Fonts whose runs cost time: a name, and the file."""
+    """Yields fonts that are expensive to execute: a name, and the file."""
     start = BEGIN + call(0, 10) + END
     yield "nested calls", file_of(plain_font([END, start], nested(b"")), 2)
     for name, leaf in WORK.items():
@@ -209,7 +210,7 @@ def runs():
 
 
 def searched():
-    """Fonts whose tables are long to search, or many."""
+    """Yields fonts with tables that are slow to search, or with many tables."""
     plain = [END] * MANY
     select = b"\x03" + short(MANY) + b"".join(short(i) + bytes([i % 2]) for i in range(MANY)) + short(MANY)
     yield "FDSelect of 65,535 ranges", file_of(keyed_font(plain, select), MANY)
@@ -245,7 +246,7 @@ def at_most():
 
 
 def timed(words):
-    """The seconds of processor time that a command takes, its most memory in MB, and its status; below zero where it is ended."""
+    """Returns the processor seconds of a command, its peak memory in MB, and its status (negative if a signal ended it)."""
     with tempfile.NamedTemporaryFile() as told:
         process = subprocess.Popen(
             ["/usr/bin/time", "-q", "-f", "%U %S %M", "-o", told.name, *words],
@@ -262,7 +263,7 @@ def words_of(command, path, glyphs, out):
 
 
 def row(name, data, glyphs, folder, commands):
-    """Prints what a font takes, and tells whether it takes too long."""
+    """Prints the times of a font, and returns whether it fails."""
     path, out = f"{folder}/font.otf", f"{folder}/out.otf"
     pathlib.Path(path).write_bytes(data)
     cells, memory, bad = [], 0, False
@@ -282,7 +283,7 @@ def row(name, data, glyphs, folder, commands):
 
 
 def table(fonts, commands, words):
-    """Prints the table of these fonts, or of those whose names have one of the words, and gives the status."""
+    """Prints the table of these fonts, or of those with one of the words in their name, and returns the status."""
     print("| font | bytes |", " | ".join([*commands, "MB", *OTHERS]), "|")
     print("|---" * (len(commands) + len(OTHERS) + 3) + "|")
     bad = False

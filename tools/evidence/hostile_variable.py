@@ -39,7 +39,7 @@ COMMANDS = {
 
 
 def index(items):
-    """An INDEX of `CFF2`, with offsets of three bytes."""
+    """Returns a CFF2 INDEX with offsets of three bytes."""
     if not items:
         return long(0)
     ends = itertools.accumulate(map(len, items), initial=1)
@@ -47,20 +47,20 @@ def index(items):
 
 
 def regions_of(count, axes=1):
-    """A list of regions, each of which reaches from the default to an end of each axis."""
+    """Returns a list of regions, each from the default to an end of each axis."""
     return short(axes) + short(count) + (short(0) + short(0x4000) + short(0x4000)) * axes * count
 
 
 def store_of(regions, named=(0,), rows=b"", items=0, times=1):
-    """A store of deltas: regions, and data that name these of them, with so many rows of deltas of one byte. The data stand there so many times,
-    over the same bytes."""
+    """Returns a variation store: regions, and item variation data with these region indexes and rows of one-byte deltas. The data are
+    listed `times` times, at the same offset."""
     data = short(items) + short(0) + short(len(named)) + b"".join(map(short, named)) + rows
     at = 8 + 4 * times
     return short(1) + long(at) + short(times) + long(at + len(regions)) * times + regions + data
 
 
 def outlines(glyphs, routines=(), store=store_of(regions_of(1)), select=b"", parts=1, private=b""):
-    """A table `CFF2` of glyphs over global subroutines; its font dictionaries have the same private dictionary."""
+    """Returns a `CFF2` table with these glyphs and global subroutines; its Font DICTs share one Private DICT."""
     behind, codes = index(list(routines)), index(glyphs)
 
     def dictionary(at):
@@ -81,7 +81,7 @@ def outlines(glyphs, routines=(), store=store_of(regions_of(1)), select=b"", par
 
 
 def axes_of(instances=(), axes=1):
-    """A table fvar: axes, all but the first hidden, and the names of instances."""
+    """Returns an `fvar` table: axes, and instances with these name IDs."""
     rows = b"".join(
         (b"wght" if i == 0 else b"A" + f"{i:03}".encode()[-3:]) + long(100 << 16) + long(400 << 16) + long(900 << 16) + short(0) + short(256)
         for i in range(axes)
@@ -96,18 +96,18 @@ def font(cff2, glyphs, fvar=axes_of(), **others):
 
 
 def plain(routines):
-    """Routines of Type 2 without their last byte, which returns: in `CFF2` they end where they are used up."""
+    """Returns Type 2 subroutines without the `return` at their end, which CFF2 does not have."""
     return [routine[:-1] for routine in routines]
 
 
 def sums(regions):
-    """A blend of as many numbers as the stack of 513 has room for, and lines along them."""
+    """Returns blends of as many numbers as fit on the stack of 513, and lines along them."""
     many = min(512 // (regions + 1), 200)
     return (ZERO * (many * (regions + 1)) + operand(many) + BLEND + LINES) * max(1, 1500 // (many * (regions + 1)))
 
 
 def runs():
-    """Fonts whose runs cost time: a name, and the file."""
+    """Yields fonts that are expensive to execute: a name, and the file."""
     start = BEGIN + call(0, 10)
     work = {"": b"", ", lines": (ONE * 2 + BACK * 2) * 120 + LINES, ", moves": (ONE + MOVE + BACK + MOVE) * 375}
     for name, leaf in work.items():
@@ -130,7 +130,7 @@ def runs():
 
 
 def searched():
-    """Fonts whose tables are long to search, or many."""
+    """Yields fonts with tables that are slow to search, or with many tables."""
     empty = [b""] * MANY
     select = b"\x03" + short(MANY) + b"".join(short(i) + bytes([i % 2]) for i in range(MANY)) + short(MANY)
     yield "FDSelect of 65,535 ranges", font(outlines(empty, select=select, parts=2), MANY)
@@ -159,7 +159,7 @@ def searched():
         yield f"{axes:,} axes", font(varied, 2, axes_of([256], axes), avar=maps)
     for deltas, times in ((1, 1), (30_000, 1), (30_000, 30_000)):
         store = store_of(regions_of(deltas), range(deltas), bytes([1]) * deltas, 1, times)
-        # entries of four bytes, whose lower half is the row
+        # entries of four bytes: the outer index, then the inner index (0)
         mapped = b"\x01\x3f" + long(MANY) + b"".join(short(i % times) + short(0) for i in range(MANY))
         advances = short(1) + short(0) + long(20) + long(20 + len(store)) + long(0) + long(0) + store + mapped
         yield f"65,535 glyphs whose advances are {times} times the same {deltas} deltas", font(outlines(empty), MANY, HVAR=advances)

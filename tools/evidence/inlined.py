@@ -28,7 +28,7 @@ USES = "postscript_type2 postscript_base hex anyhow"
 
 
 def harfbuzz_codes(path):
-    """The codes of the glyphs, in their order, as hb-subset writes them without subroutines."""
+    """Returns the charstrings in glyph order, as hb-subset writes them without subroutines."""
     with tempfile.NamedTemporaryFile(suffix=".otf") as made:
         options = ["--glyphs=*", "--retain-gids", "--desubroutinize", "--notdef-outline", "--glyph-names"]
         subprocess.run(["hb-subset", path, *options, "-o", made.name], check=True)
@@ -38,7 +38,7 @@ def harfbuzz_codes(path):
 
 
 def fonttools_codes(path):
-    """The same as fontTools compiles them."""
+    """Returns the same as compiled by fontTools."""
     font = TTFont(path)
     font["CFF "].cff.desubroutinize()
     codes = []
@@ -50,7 +50,7 @@ def fonttools_codes(path):
 
 
 def inlined_codes(program, lines):
-    """The lengths of the flat codes, and the inlined codes, whose lengths have to be as told."""
+    """Returns the lengths of the flattened charstrings, and the desubroutinized charstrings; their lengths must be the printed ones."""
     answer = subprocess.run([program], input=spelled(lines).encode(), stdout=subprocess.PIPE, check=True).stdout.decode()
     flat, codes = [], []
     for line in answer.splitlines():

@@ -52,7 +52,7 @@ GONE = ["CFF2", "fvar", "avar", "HVAR", "MVAR", "VVAR", "STAT"]
 
 
 def named(font):
-    """The places of the named instances, in units of 2 ^ -14."""
+    """Yields the locations of the named instances, in units of 2^-14."""
     axes = {axis.axisTag: (axis.minValue, axis.defaultValue, axis.maxValue) for axis in font["fvar"].axes}
     maps = font["avar"].segments if "avar" in font else {}
     for instance in font["fvar"].instances:
@@ -61,7 +61,7 @@ def named(font):
 
 
 def told(program, lines):
-    """What the program answers to lines: for each the table, if there is one, and the code and the operations of each glyph."""
+    """Returns the program's answer to each line: the table, if any, and the charstring and operations of each glyph."""
     done = subprocess.run([program], input="".join(f"{line}\n" for line in lines).encode(), capture_output=True, check=False)
     if done.returncode:
         sys.exit(f"the program ended with status {done.returncode}: {done.stderr.decode()}")
@@ -82,7 +82,7 @@ def told(program, lines):
 
 
 def static(path, table, folder):
-    """A font with a table `CFF ` in the place of what varies, as a file."""
+    """Writes a font file with this `CFF ` table instead of the variation tables."""
     font = TTFont(path, recalcBBoxes=False)
     for tag in GONE:
         if tag in font:
@@ -97,12 +97,12 @@ def static(path, table, folder):
 
 
 def masks_of(string):
-    """The bytes of the masks of a charstring without subroutines."""
+    """Returns the mask bytes of a charstring without subroutines."""
     return [word for word in string.program if isinstance(word, bytes)]
 
 
 def masks_beneath(string, shared, local):
-    """The masks of a charstring, through its calls."""
+    """Returns the masks of a charstring, including those in its subroutines."""
     string.decompile()
     found, program = [], string.program
     for before, word in zip([None, *program], program):
@@ -115,12 +115,12 @@ def masks_beneath(string, shared, local):
 
 
 def items_bias(items):
-    """What is added to the number of a subroutine."""
+    """Returns the bias of subroutine numbers."""
     return 107 if len(items) < 1240 else 1131 if len(items) < 33900 else 32768
 
 
 def drawn(font):
-    """The contours of each glyph of a static font, in 16.16 bits."""
+    """Yields the contours of each glyph of a static font, in 16.16."""
     glyphs = font.getGlyphSet()
     for name in font.getGlyphOrder():
         pen, contours = RecordingPen(), []
@@ -134,14 +134,14 @@ def drawn(font):
 
 
 def farthest(ours, theirs):
-    """How far points are from points, or none where there are others."""
+    """Returns the largest distance between corresponding coordinates, or None if the numbers of points differ."""
     if list(map(len, ours)) != list(map(len, theirs)):
         return None
     return max((abs(a - b) for p, q in zip(ours, theirs) for s, t in zip(p, q) for a, b in zip(s, t)), default=0)
 
 
 def is_same(found, wanted):
-    """Whether operations are those that are wanted, in pieces where one of these has more operands than a stack holds."""
+    """Returns whether operations are the wanted ones. Those with more operands than the stack holds must be in pieces."""
     if all(len(operands) <= STACK for _, operands in wanted):
         return found == wanted
     alone = [[(word, tuple(operands)) for word, operands in generalizeCommands([(w, list(o)) for w, o in both])] for both in (found, wanted)]
@@ -149,7 +149,7 @@ def is_same(found, wanted):
 
 
 def says_same(name, string, wanted, width, masks, faults):
-    """Compares a static charstring with the operations, the width and the masks that it must have."""
+    """Compares a static charstring with its wanted operations, width and masks."""
     string.decompile()
     words = [word for word in string.program if isinstance(word, str)]
     if words[-1] != "endchar" or words.count("endchar") != 1 or {"callsubr", "callgsubr", "return"} & set(words):
@@ -179,7 +179,7 @@ def says_same(name, string, wanted, width, masks, faults):
 
 
 def compare_glyphs(font, glyphs, counts):
-    """Compares the codes of glyphs with their operations; tells what is at fault."""
+    """Compares the charstrings of glyphs with their operations; returns the faults."""
     varying, faults = font["CFF2"].cff, []
     for number, (name, (code, wanted)) in enumerate(zip(font.getGlyphOrder(), glyphs)):
         string, _ = varying.topDictIndex[0].CharStrings.getItemAndSelector(name)
@@ -198,7 +198,7 @@ def compare_glyphs(font, glyphs, counts):
 
 
 def compare_outlines(path, font, place, answer, folder, freetype, face, counts):
-    """Compares the outlines of the static table of a place, and its codes with those of the glyphs; tells what is at fault."""
+    """Compares the outlines of the static table at a location, and its charstrings with those of the glyphs; returns the faults."""
     table, glyphs = answer
     own, faults = static(path, table, folder), []
     made = TTFont(own)
@@ -225,7 +225,7 @@ def compare_outlines(path, font, place, answer, folder, freetype, face, counts):
 
 
 def compare_font(program, path, chance, count, folder, freetype):
-    """Compares the static tables of a font; tells how much differs."""
+    """Compares the static tables of a font; returns the number of faults."""
     font = TTFont(path)
     places = list(dict.fromkeys([*places_of(chance, len(font["fvar"].axes), count), *named(font)]))
     answers = told(program, [f"{' '.join(map(str, place))} {path}" for place in places])

@@ -25,7 +25,7 @@ WRAPS = "a sum past 16 bits, or an advance below 0 or past 65,535 (FreeType wrap
 
 
 class Left(Exception):
-    """Why FreeType leaves a table out."""
+    """Why FreeType ignores a table."""
 
 
 def signed(number, size):
@@ -33,13 +33,13 @@ def signed(number, size):
 
 
 class File:
-    """A file, and where a table of it stands."""
+    """A file, and the location of a table in it."""
 
     def __init__(self, data, span):
         self.data, (self.start, self.length) = data, span
 
     def at(self, place, size):
-        """A number of the table, or of what stands behind it in the file."""
+        """Returns a number of the table, or of the bytes after it in the file."""
         place += self.start
         if place < 0 or place + size > len(self.data):
             raise Left("a place past the file")
@@ -53,13 +53,13 @@ class File:
 
 
 def axes_of(fvar):
-    """The tag and the minimum, default and maximum of each axis."""
+    """Returns the tag and the minimum, default and maximum of each axis."""
     places = [fvar.at(4, 2) + 20 * i for i in range(fvar.at(8, 2))]
     return [(fvar.at(place, 4), [fvar.signed_at(place + 4 * k, 4) for k in (1, 2, 3)]) for place in places]
 
 
 def maps_of(avar):
-    """The segment map of each axis; and whether one is cut, where FreeType reads 0."""
+    """Returns the segment map of each axis, and whether one is truncated; FreeType reads 0 there."""
     maps, place, is_cut = [], 8, avar.length < 8
     for _ in range(0 if is_cut else avar.at(6, 2)):
         inside = lambda at: avar.at(at, 2) if at + 2 <= avar.length else 0
@@ -74,7 +74,7 @@ def maps_of(avar):
 
 
 def maps_taken(avar, count, ways):
-    """The maps that are taken: none of a table that is left out."""
+    """Returns the maps that are used, or None if the table is ignored."""
     maps, is_cut = maps_of(avar)
     if OTHER_AVAR in ways and (avar.at(0, 4) != 0x10000 or avar.at(4, 4) != count):
         return None
@@ -95,13 +95,13 @@ def normalized(ends, value, ways):
 
 
 def mul_div(a, b, c):
-    """To the nearest number, halves away from 0; a great one where it is divided by 0."""
+    """Rounds to the nearest integer, halves away from 0; returns a huge number for a division by 0."""
     sign = -1 if (a < 0) ^ (b < 0) ^ (c < 0) else 1
     return sign * ((abs(a) * abs(b) + abs(c) // 2) // abs(c) if c else 0x7FFFFFFF)
 
 
 def first_above(entries, at):
-    """FreeType's way: between the first entry that is above, but the first of all, and the one before it."""
+    """Interpolates as FreeType does: between the first entry above `at`, ignoring entry 0, and the one before it."""
     entries = [(start * 4, to * 4) for start, to in entries]
     for (before, left), (start, to) in zip(entries, entries[1:]):
         if at < start:
@@ -119,7 +119,7 @@ def mapped(entries, at, ways):
 
 
 def coordinate(fvar, avar, asked, axis, ways):
-    """In 16.16."""
+    """Returns a coordinate in 16.16."""
     all_axes = axes_of(fvar)
     tag, ends = all_axes[axis]
     value = asked[axis] if TAGS in ways else [value for (other, _), value in zip(all_axes, asked) if other == tag][-1]
@@ -129,7 +129,7 @@ def coordinate(fvar, avar, asked, axis, ways):
 
 
 def fewest(ways, reaches):
-    """The fewest ways that reach an end, or None."""
+    """Returns the smallest set of deviations that satisfies a condition, or None."""
     for size in range(len(ways) + 1):
         for chosen in itertools.combinations(ways, size):
             if reaches(chosen):
@@ -138,7 +138,7 @@ def fewest(ways, reaches):
 
 
 def why_coordinate(data, spans, axis, asked, told):
-    """The reason of another coordinate; told is ours, in 2.14, and FreeType's, in 16.16."""
+    """Returns the reason of a differing coordinate; `told` is ours, in 2.14, and FreeType's, in 16.16."""
     fvar, avar = (File(data, spans[tag]) for tag in (b"fvar", b"avar"))
     ours, theirs = told
     if axes.shortened(coordinate(fvar, avar, asked, axis, ())) != ours:
@@ -152,7 +152,8 @@ def why_coordinate(data, spans, axis, asked, told):
 
 
 def regions_of(hvar, store):
-    """Where the region list of a store stands, of how many axes and regions it is, and where item variation data stand, by FreeType's checks."""
+    """Returns the offset of the store's region list, its numbers of axes and regions, and the offsets of the item variation data, with
+    FreeType's checks."""
     if hvar.at(store, 2) != 1:
         raise Left("another format of the store")
     count = hvar.at(store + 6, 2)
@@ -164,7 +165,8 @@ def regions_of(hvar, store):
 
 
 def data_at(hvar, place, regions):
-    """Where the delta sets of item variation data stand, how many there are, of how many wide deltas and of which regions, by FreeType's checks."""
+    """Returns the offset of the delta sets of item variation data, their number, the number of wide deltas and the region indexes, with
+    FreeType's checks."""
     items, sizes, count = (hvar.at(place + k, 2) for k in (0, 2, 4))
     if sizes % 32768 > count:
         raise Left("more wide deltas than regions")
@@ -182,7 +184,7 @@ def data_at(hvar, place, regions):
 
 
 def index_of(hvar, place, data, glyph):
-    """The indexes of a glyph, where FreeType takes the whole map."""
+    """Returns the indexes of a glyph if FreeType accepts the whole map."""
     form, entry_form = hvar.at(place, 1), hvar.at(place + 1, 1)
     if form > 1:
         raise Left("another format of the map")
@@ -199,7 +201,7 @@ def index_of(hvar, place, data, glyph):
 
 
 def taken(hvar, count_of_axes, glyph):
-    """The deltas of a glyph and the regions of each, as FreeType has them, or why it leaves the table out."""
+    """Returns the deltas of a glyph and the region of each as FreeType reads them; raises Left if it ignores the table."""
     if hvar.at(0, 2) != 1:
         raise Left("another version")
     place, count, regions, places = regions_of(hvar, hvar.at(4, 4))
@@ -220,7 +222,7 @@ def taken(hvar, count_of_axes, glyph):
 
 
 def delta_set(hvar, glyph):
-    """The deltas of a glyph and the region of each, by the rules; None for a region past the list."""
+    """Returns the deltas of a glyph and the region of each by the rules; None for a region index that is too large."""
     store = hvar.at(4, 4)
     list_at = store + hvar.at(store + 2, 4)
     count, regions = hvar.at(list_at, 2), hvar.at(list_at + 2, 2)
@@ -243,13 +245,13 @@ def delta_set(hvar, glyph):
 
 
 def total(deltas, regions, coordinates):
-    """In whole units; spans and coordinates are in 16.16."""
+    """Returns the sum in whole units; spans and coordinates are in 16.16."""
     at = [*coordinates, *[0] * 64]
     return (sum(delta * (axes.scalar(region, at)[0] if region is not None else 0) for delta, region in zip(deltas, regions)) + 32768) >> 16
 
 
 def advance(hvar, count, glyph, coordinates, left):
-    """By the rules, or as FreeType takes the table."""
+    """Returns the delta by the rules, or as FreeType reads the table."""
     if not left:
         return total(*delta_set(hvar, glyph), coordinates)
     try:
@@ -259,7 +261,7 @@ def advance(hvar, count, glyph, coordinates, left):
 
 
 def wrapped(delta, standard):
-    """What FreeType adds to an advance of hmtx."""
+    """Returns what FreeType adds to the advance in `hmtx`."""
     return (standard + signed(delta % 65536, 2)) % 65536 - standard
 
 
@@ -272,7 +274,7 @@ def why_left(hvar, count, glyph):
 
 
 def why_advance(data, spans, glyph, asked, told):
-    """The reason of another advance; told is how far ours and FreeType's are from that of hmtx, this one, and FreeType's coordinates."""
+    """Returns the reason of a differing advance; `told` is our delta, FreeType's, the advance in `hmtx`, and FreeType's coordinates."""
     fvar, avar, hvar = (File(data, spans[tag]) for tag in (b"fvar", b"avar", b"HVAR"))
     ours, theirs, standard, *there = told
     here = [4 * axes.shortened(coordinate(fvar, avar, asked, axis, ())) for axis in range(len(there))]

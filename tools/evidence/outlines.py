@@ -43,14 +43,14 @@ NAMES = {"M": "moveTo", "L": "lineTo", "C": "curveTo", "Z": "closePath"}
 
 
 def segments_of(path):
-    """The segments of path data, as fontTools names them."""
+    """Yields the segments of path data, with fontTools' names."""
     for letter, rest in re.findall(r"([MLCZ])([^MLCZ]*)", path):
         numbers = [Fraction(text) for text in rest.split()]
         yield NAMES[letter], tuple(zip(numbers[::2], numbers[1::2]))
 
 
 def drawn(recorded):
-    """What fontTools draws."""
+    """Returns what fontTools draws."""
     return [(kind, tuple((Fraction(x), Fraction(y)) for x, y in points)) for kind, points in recorded.value if kind != "addComponent"]
 
 
@@ -59,7 +59,7 @@ def sides_of(text):
 
 
 def is_bounds(found, recorded):
-    """Whether these are the bounds of all points."""
+    """Returns whether these are the bounds of all points."""
     pen = ControlBoundsPen(None)
     recorded.replay(pen)
     wanted = None if pen.bounds is None else [Fraction(side) * 65536 for side in pen.bounds]
@@ -67,14 +67,14 @@ def is_bounds(found, recorded):
 
 
 def excess_of(side, exact, outwards):
-    """By how many 65536ths a side lies further out than fontTools' one, rounded outwards; None where it cuts the curve."""
+    """Returns by how many 65536ths a side is further out than fontTools', rounded outwards; None if it cuts the curve."""
     exact *= 65536
     further = math.floor(exact) - side if outwards < 0 else side - math.ceil(exact)
     return 0 if further == -1 and abs(exact - round(exact)) < 0.001 else further if further >= 0 else None
 
 
 def tightness(found, recorded):
-    """How many sides lie one 65536th further out than fontTools' ones, or None where one lies elsewhere."""
+    """Returns how many sides are one 65536th further out than fontTools', or None if a side differs otherwise."""
     pen = BoundsPen(None)
     recorded.replay(pen)
     if found is None or pen.bounds is None:
@@ -84,7 +84,7 @@ def tightness(found, recorded):
 
 
 def is_accented(recorded):
-    """Whether the glyph is made of two others."""
+    """Returns whether the glyph is made of two others (`seac`)."""
     return any(kind == "addComponent" for kind, _ in recorded.value)
 
 
@@ -93,7 +93,7 @@ def width_of(word, private):
 
 
 def compare(program, path):
-    """Counts the glyphs of a font file, and tells those that differ."""
+    """Counts the glyphs of a font file, and lists those that differ."""
     counts, told = collections.Counter(), []
     lines = glyph_lines(path)
     if not lines:
@@ -122,7 +122,7 @@ def compare(program, path):
 
 
 def compare_all(program, words):
-    """Compares the fonts, as many at a time as there are processors, and counts all."""
+    """Compares the fonts with one process per processor, and adds up the counts."""
     counts = collections.Counter({"different": 0, "left out": 0})
     paths = [path for word in words for path in files_of(word)]
     with concurrent.futures.ProcessPoolExecutor() as pool:
@@ -133,7 +133,7 @@ def compare_all(program, words):
 
 
 def sheet(program, path):
-    """Writes forty glyphs as SVG: eight in a row, with the font's name and licence."""
+    """Writes forty glyphs as SVG, eight in a row, with the font's name and licence."""
     printed = subprocess.run([program], input=spelled(glyph_lines(path)).encode(), stdout=subprocess.PIPE, check=True).stdout.decode().split("\n")
     font = TTFont(path, lazy=True)
     drawn_paths = dict(zip(font.getGlyphOrder(), (line.split(" ", 3)[-1] for line in printed), strict=False))

@@ -61,7 +61,7 @@ DELTAS = ("BlueValues", "OtherBlues", "FamilyBlues", "FamilyOtherBlues", "StemSn
 
 
 class Hints(SimpleT2Decompiler):
-    """Runs a charstring, and keeps whether it met a stem or a mask."""
+    """Runs a charstring, and records whether it has a stem or a mask."""
 
     met = False
 
@@ -77,7 +77,7 @@ class Hints(SimpleT2Decompiler):
 
 
 class Operations(T2WidthExtractor):
-    """Runs a charstring, and keeps each operation up to its end: its name, and its operands without the width."""
+    """Runs a charstring, and records each operation: its name, and its operands without the width."""
 
     def __init__(self, char_string):
         private = char_string.private
@@ -91,7 +91,7 @@ class Operations(T2WidthExtractor):
         self.stems = self.popallWidth()
         self.hintCount += len(self.stems) // 2
 
-    # stems that stand before a mask are counted, and are no operands of it
+    # stems before a mask are counted, and are not operands of the mask
     def op_hintmask(self, index):
         self.keep("hintmask", [])
         return super().op_hintmask(index)
@@ -124,7 +124,7 @@ def operations_of(char_string):
 
 
 def operation_of(operation):
-    """An operation as psotf writes it."""
+    """Returns an operation as psotf writes it."""
     name, *operands = operation
     return name.lower(), [Fraction(operand) for operand in operands]
 
@@ -136,13 +136,13 @@ def has_hint(char_string):
 
 
 def told(*words):
-    """The objects that psotf prints, one a line."""
+    """Returns the objects that psotf prints, one per line."""
     done = subprocess.run([PSOTF, *words, "--json"], capture_output=True, check=True)
     return [json.loads(line, parse_float=decimal.Decimal) for line in done.stdout.splitlines()]
 
 
 def recorded(char_string):
-    """What fontTools draws."""
+    """Records what fontTools draws."""
     pen = RecordingPen()
     char_string.draw(pen)
     return pen
@@ -156,12 +156,13 @@ def sides_of(numbers):
     return None if numbers is None else [int(Fraction(number) * 65536) for number in numbers]
 
 
-# What fontTools adds to a name that stands twice.
+# The suffix that fontTools adds to a repeated name.
+
 ONCE_MORE = re.compile(r"#\d+$")
 
 
 def named_of(glyph, is_cid):
-    """The name of a glyph as fontTools makes it."""
+    """Returns the name of a glyph as fontTools makes it."""
     return f"cid{glyph['cid']:05d}" if is_cid and glyph["name"] is None and glyph["gid"] else glyph["name"] or ".notdef"
 
 
@@ -195,7 +196,7 @@ def values_of(value):
 
 
 def private_differs(found, private):
-    """Whether the operands of a private dictionary differ from those that fontTools reads; deltas are added up."""
+    """Returns whether the operands of a Private DICT differ from those that fontTools reads; deltas are added up."""
     return any(floats_of(found.get(ours)) != values_of(getattr(private, theirs, None)) for theirs, ours in PRIVATE.items()) or any(
         list(itertools.accumulate(floats_of(found.get(name, [])))) != (values_of(getattr(private, name, None)) or []) for name in DELTAS
     )
@@ -208,7 +209,7 @@ def printed(string):
 
 
 def strings_of(top):
-    """The strings of a dictionary by psotf's names, and the registry, the ordering and the supplement."""
+    """Returns the strings of a DICT under psotf's names, and the registry, the ordering and the supplement."""
     found = {ours: [printed(top.rawDict[theirs])] for theirs, ours in STRINGS.items() if theirs in top.rawDict}
     if "ROS" in top.rawDict:
         registry, ordering, supplement = top.rawDict["ROS"]
@@ -222,7 +223,7 @@ def text_of(font, *identifiers):
 
 
 def facts_of(face):
-    """What psotf tells of a face that is compared as it stands."""
+    """Returns the values that psotf prints for a face and that are compared unchanged."""
     cff = face["cff"]
     fields = ("name", "is_cid", "fds", "glyphs", "hinted", "encoding", "char_set", "global_subroutines", "local_subroutines")
     return [face[field] for field in ("units_per_em", "glyphs", "family", "style", "version", "faces")] + [cff[field] for field in fields]
@@ -251,7 +252,7 @@ def face_differs(face, path, font, top):
 
 
 def compare(face):
-    """How many glyphs a face has, how many segments these, how many of them are left out, and a line for each that differs."""
+    """Returns a face's number of glyphs, their number of segments, the number of glyphs left out, and a line for each difference."""
     path, number = face
     font = TTFont(path, lazy=True, fontNumber=number)
     top = font["CFF "].cff.topDictIndex[0]

@@ -36,7 +36,7 @@ MOST_PHRASES = 20000
 MOST_SECONDS = 600
 MOST_LINES_SHOWN = 200
 
-# Two lines that no program needs; their answers part the answers of one program from those of the next.
+# Two lines that no program needs; their answers separate the answers of one program from those of the next.
 MARK = "mark\ncode 0\n"
 MARK_ANSWER = "bad command\nbad hex\n"
 
@@ -68,7 +68,7 @@ CUT_NUMBERS = [b"\x0c", b"\x1c", b"\x1c\x01", b"\xf7", b"\xfe", b"\xff", b"\xff\
 
 
 def whole_spellings(value):
-    """Every spelling of a whole number but the one with a fraction, the shortest first."""
+    """Returns every encoding of an integer except the one with a fraction, the shortest first."""
     spellings = []
     if -107 <= value <= 107:
         spellings.append(bytes([139 + value]))
@@ -84,7 +84,7 @@ def clamp(bits):
 
 
 class Program:
-    """A code with its two lists of subroutines."""
+    """A charstring with its two lists of subroutines."""
 
     def __init__(self, code, global_, local):
         self.code = code
@@ -92,21 +92,21 @@ class Program:
         self.local = local
 
     def lines(self):
-        """The lines that set the program, without those that ask for answers."""
+        """Returns the lines that define the program, without those that ask for answers."""
         parts = [("code", self.code)]
         parts += [("global", routine) for routine in self.global_]
         parts += [("local", routine) for routine in self.local]
         return [f"{command} {routine.hex()}" if routine else command for command, routine in parts]
 
     def expected(self):
-        """The answers by the second interpreter, and the number of the fault or None."""
+        """Returns the second interpreter's answers, and the error number or None."""
         meaning = second.evaluate(self.code, self.global_, self.local, MOST_PHRASES)
         lines = ["ok"] * (1 + len(self.global_) + len(self.local))
         return lines + second.run_lines(meaning) + [second.flat_line(meaning)], meaning.fault
 
 
 class Drawer:
-    """Draws programs from a seeded generator."""
+    """Makes random programs from a seed."""
 
     def __init__(self, seed):
         self.random = random.Random(seed)
@@ -129,7 +129,7 @@ class Drawer:
             return self.grammatical()
         return self.changed(self.ladder() if kind < 0.77 else self.grammatical())
 
-    # Chances and numbers.
+    # Random choices and numbers.
 
     def chance(self, share):
         return self.random.random() < share
@@ -141,7 +141,7 @@ class Drawer:
         return self.random.choice(items)
 
     def spell(self, bits):
-        """A spelling of a number, mostly the shortest."""
+        """Encodes a number, mostly in the shortest form."""
         with_fraction = b"\xff" + bits.to_bytes(4, "big", signed=True)
         if bits % ONE != 0:
             return with_fraction
@@ -171,17 +171,17 @@ class Drawer:
         return self.spell_all(self.bits() for _ in range(count))
 
     def form_byte(self):
-        """A byte that is a whole number by itself, and a harmless mask byte."""
+        """Returns a byte that encodes an integer by itself and is a harmless mask byte."""
         return bytes([self.random.randint(0x20, 0xF6)])
 
     # Parts of a routine. Each begins and mostly ends with an empty stack.
 
     def show(self):
-        """An operator that answers the whole stack."""
+        """Returns an operator that outputs the whole stack."""
         return self.numbers(1) + CODES[self.choice(["HLineTo", "VLineTo"])]
 
     def path(self):
-        """A path operator; one in ten with an operand too many, so that the first gives the width."""
+        """Returns a path operator; one in ten has an extra operand, so that the first gives the width."""
         name = self.choice(PATHS)
         count = self.choice(COUNTS[name][:4])
         if self.chance(0.03):
@@ -194,7 +194,7 @@ class Drawer:
         return self.numbers(count) + CODES[name]
 
     def stem_part(self):
-        """Stem operators, then perhaps masks, the first with more stems that are implied."""
+        """Returns stem operators, then perhaps masks, the first with more, implied stems."""
         part = b""
         for _ in range(self.choice([0, 1, 1, 2, 3])):
             count = self.stem_operands()
@@ -221,7 +221,7 @@ class Drawer:
         return self.numbers(operands) + CODES[self.choice(second.MASKS)] + filling
 
     def plain_change(self):
-        """One operator that changes the end of the stack, with operands of any kind."""
+        """Returns one operator that changes the top of the stack, with operands of any kind."""
         name = self.choice(CHANGING)
         count = second.EFFECTS[name][0] + self.choice([0, 0, 0, 1, 3])
         if self.slip():
@@ -234,7 +234,7 @@ class Drawer:
         return self.spell_all(operands) + CODES[name]
 
     def equal_or_near(self):
-        """Eq and IfElse on numbers that are equal or nearly so."""
+        """Returns Eq or IfElse on numbers that are equal or nearly so."""
         left = self.bits()
         right = clamp(left + self.choice([-1, 0, 0, 1]))
         if self.chance(0.5):
@@ -250,7 +250,7 @@ class Drawer:
         return self.spell_all([left, clamp(-right)]) + CODES["Sub"]
 
     def near_step(self, limit):
-        """A small step, mostly back from a limit to what still fits."""
+        """Returns a small step, mostly back from a limit to a value that fits."""
         inwards = -1 if limit > 0 else 1
         return -inwards * self.random.randint(1, 2) if self.slip() else inwards * self.random.randint(0, 2)
 
@@ -277,7 +277,7 @@ class Drawer:
         return self.spell(max(square, 0)) + CODES["Sqrt"]
 
     def shuffle(self):
-        """Index or Roll, over a known count of numbers, with odd arguments."""
+        """Returns Index or Roll, on a known number of operands, with unusual arguments."""
         count = self.random.randint(1, 9) if self.chance(0.97) else self.random.randint(10, 300)
         part = self.numbers(count)
         if self.chance(0.4):
@@ -294,17 +294,17 @@ class Drawer:
         return part + self.argument(span) + self.argument(shift) + CODES["Roll"]
 
     def argument(self, value):
-        """A whole number, or where the program slips one that is not whole."""
+        """Encodes an integer; on a slip, a number that is not an integer."""
         return self.spell(clamp(value * ONE + (self.choice([1, -1, ONE // 2]) if self.slip() else 0)))
 
     def place(self):
-        """The place of a stored number, mostly one of a few; or where the program slips, none of them."""
+        """Returns the index of a stored number, mostly one of a few; on a slip, an invalid index."""
         if self.slip():
             return self.argument(self.choice(NO_PLACES))
         return self.argument(self.choice(PLACES) if self.chance(0.9) else self.random.randint(0, 31))
 
     def store(self):
-        """Some numbers, the last of which is stored."""
+        """Returns some numbers, and stores the last one."""
         count = 0 if self.slip() else self.choice([1, 1, 1, 2])
         return self.numbers(count) + self.place() + CODES["Put"]
 
@@ -312,7 +312,7 @@ class Drawer:
         return self.place() + CODES["Get"]
 
     def storage_part(self):
-        """Numbers that are stored, fetched and changed; what stands on the stack is shown or stays."""
+        """Returns stores, fetches and changes of numbers; the operands left on the stack are output or stay."""
         draws = [
             (4, self.store),
             (4, self.fetch),
@@ -323,7 +323,7 @@ class Drawer:
         return part if self.chance(0.3) else part + self.fetch() + CODES[self.choice(["HLineTo", "VLineTo"])]
 
     def change_part(self):
-        """Some operators that change the end of the stack, then one that shows the stack."""
+        """Returns some operators that change the top of the stack, then mostly one that outputs the stack."""
         changes = [self.plain_change] * 6 + [self.shuffle] * 3 + [
             self.equal_or_near, self.sum_near_limit, self.product_near_limit, self.quotient_near_limit,
             self.root_near_square]
@@ -331,7 +331,7 @@ class Drawer:
         return part if self.chance(0.1) else part + self.show()
 
     def odd_part(self):
-        """What ends a program with a fault, or an operator without any care for its operands."""
+        """Returns an operator with random operands, or one that is unknown or not supported."""
         if self.chance(0.3):
             return self.choice(UNKNOWN)
         if self.chance(0.3):
@@ -341,7 +341,7 @@ class Drawer:
     # Calls and routines.
 
     def call(self, targets):
-        """A call of a subroutine; it may also be handed operands."""
+        """Returns a call of a subroutine, perhaps with operands for it."""
         part = self.numbers(self.choice([0, 0, 0, 1, 2, 4]))
         if not targets or self.slip():
             name = self.choice(second.CALLS)
@@ -362,7 +362,7 @@ class Drawer:
         return self.argument(operand) + CODES[name]
 
     def body(self, targets, parts):
-        """Some parts of a routine, without its end."""
+        """Returns some parts of a routine, without its end."""
         body = b""
         for _ in range(parts):
             kind = self.random.random()
@@ -410,7 +410,7 @@ class Drawer:
         return self.random.randbytes(self.random.randint(1, 3))
 
     def choice_by(self, weighted):
-        """What one of several draws gives, each taken by its weight."""
+        """Calls one of several functions, chosen by weight, and returns its result."""
         draws = [draw for _, draw in weighted]
         return self.random.choices(draws, [weight for weight, _ in weighted])[0]()
 
@@ -421,14 +421,14 @@ class Drawer:
         return self.choice(LONG_LISTS) if kind < 0.9993 else self.choice(LONGEST_LISTS)
 
     def places(self, size):
-        """The places of a list whose subroutines are drawn; the others tell their place."""
+        """Returns the indexes of a list whose subroutines are made at random; the others push their index."""
         if size <= 12:
             return list(range(size))
         known = {0, 1, size - 1, size - 2, min(size, 65536) - 1, size // 2, self.random.randrange(size)}
         return sorted(place for place in known if place < 65536)
 
     def empty_lists(self):
-        """Two lists whose subroutines push a number by their place, and the places to be drawn anew."""
+        """Returns two lists whose subroutines push a number by their index, and the indexes to replace."""
         lists = {}
         targets = []
         for name in second.CALLS:
@@ -448,7 +448,7 @@ class Drawer:
         self.targets = []
 
     def grammatical(self):
-        """A program whose subroutines mostly call those drawn before them."""
+        """Returns a program whose subroutines mostly call those made before them."""
         self.start()
         lists, targets = self.empty_lists()
         drawn = list(self.targets)
@@ -462,7 +462,7 @@ class Drawer:
         return Program(code, lists["CallGSubr"], lists["CallSubr"])
 
     def ladder(self):
-        """A program whose code calls a subroutine, which calls a subroutine, and so on."""
+        """Returns a program whose charstring calls a subroutine, which calls a subroutine, and so on."""
         self.start()
         rungs = self.rungs(self.choice([1, 2, 3, 5, 8, 9, 10, 10, 10, 11, 12]))
         lists = {name: [b""] * self.sizes[name] for name in second.CALLS}
@@ -477,7 +477,7 @@ class Drawer:
         return Program(code, lists["CallGSubr"], lists["CallSubr"])
 
     def rungs(self, count):
-        """This many subroutines spread over both lists, and the sizes of the lists."""
+        """Returns this many subroutines spread over both lists, and sets the sizes of the lists."""
         self.sizes = {name: 0 for name in second.CALLS}
         rungs = []
         for _ in range(count):
@@ -490,7 +490,7 @@ class Drawer:
         return self.body([], self.choice([0, 0, 1]))
 
     def tower(self):
-        """A program whose subroutines each call the next several times, for long runs."""
+        """Returns a program whose subroutines each call the next several times, for long executions."""
         self.start()
         self.slips = 0.0
         rungs = self.rungs(self.random.randint(3, 10))
@@ -504,7 +504,7 @@ class Drawer:
         return Program(code, lists["CallGSubr"], lists["CallSubr"])
 
     def many_stems(self):
-        """A program with a great many stems, then a mask."""
+        """Returns a program with a large number of stems, then a mask."""
         pairs = self.choice(MANY_STEMS)
         implied = self.random.randint(0, pairs)
         stems = self.form_byte() * (2 * (pairs - implied) + self.chance(0.3)) + CODES["HStemHM"]
@@ -514,7 +514,7 @@ class Drawer:
         return Program(code, [], [])
 
     def random_bytes_program(self):
-        """Bytes without any grammar, at most with many operators among them."""
+        """Returns bytes without any grammar, at most with many operators among them."""
         sizes = [self.choice([0, 0, 0, 1, 2, 5]) for _ in second.CALLS]
         routines = [self.random_routine() for _ in range(1 + sum(sizes))]
         return Program(routines[0], routines[1:1 + sizes[0]], routines[1 + sizes[0]:])
@@ -526,7 +526,7 @@ class Drawer:
         operators = list(CODES.values())
         return b"".join(self.choice(operators) if self.chance(0.3) else self.form_byte() for _ in range(size))
 
-    # Cuts and changes of a program.
+    # Truncations and changes of a program.
 
     def changed(self, program):
         for _ in range(self.choice([1, 1, 1, 2, 3])):
@@ -564,7 +564,7 @@ class Drawer:
 
 
 class Comparison:
-    """Hands programs over, compares the answers and counts."""
+    """Sends programs, compares the answers and counts."""
 
     def __init__(self, psfont):
         self.psfont = psfont
@@ -576,7 +576,7 @@ class Comparison:
         self.endings = collections.Counter()
 
     def batch(self, programs):
-        """Compare some programs by one process."""
+        """Compares some programs with one process."""
         kept = []
         for program in programs:
             try:
@@ -589,7 +589,7 @@ class Comparison:
         self.compare_all(kept, *self.ask([lines for lines, _ in kept]))
 
     def compare_all(self, kept, answers, complaint):
-        """Compare what came up to the first program without an answer; those behind it are counted."""
+        """Compares the programs up to the first one without an answer, and counts those after it."""
         for number, (lines, expected) in enumerate(kept[:len(answers) + 1]):
             self.compare(lines, expected, answers[number] if number < len(answers) else None)
         self.unanswered += max(0, len(kept) - len(answers) - 1)
@@ -598,7 +598,7 @@ class Comparison:
             print(f"psfont gave {len(answers)} answers to {len(kept)} programs {complaint}", flush=True)
 
     def ask(self, programs):
-        """The answers of one process to these programs, and a complaint where it did not end well."""
+        """Returns the answers of one process to these programs, and a complaint if it did not end well."""
         text = "".join("\n".join(lines + ["run", "flat"]) + "\n" + MARK for lines in programs)
         try:
             done = subprocess.run([self.psfont], input=text.encode(), stdout=subprocess.PIPE,

@@ -11,7 +11,7 @@ tables that at least one reader rejects. The checks on each page are:
 - It finds all its glyphs, adds cells when the grid is scrolled, and draws all of them when it is printed.
 - A search for `A` finds the glyph; its cell opens, and the arrow keys step through all of its operations. It then shows as many points as
   `psotf glyph --json` prints.
-- The result of each reader is the one of `psotf inspect --json`.
+- It shows the result of each reader as `psotf inspect --json` prints it.
 - For FONTs, the calls and masks of all glyphs, or of about 500, are those that fontTools meets when it runs them. If all are compared, so
   are the call counts of each subroutine.
 - For FONTs, the parts of the `CFF ` table cover it without gaps.
@@ -54,7 +54,7 @@ EVIL = ["</script><script>document.title='taken'</script>", "<img src=x onerror=
 
 
 def name_table(texts):
-    """A table name: these texts as family, style, full name and version, in UTF-16."""
+    """Returns a `name` table with these texts as family, style, full name and version, in UTF-16."""
     stored = [text.encode("utf-16-be", "surrogatepass") for text in texts]
     records, at = b"", 0
     for number, text in zip((1, 2, 4, 5), stored):
@@ -64,7 +64,7 @@ def name_table(texts):
 
 
 def with_names(data, texts):
-    """A file whose table name has these texts: it stands at the end, and the record tells so."""
+    """Returns a file with a `name` table of these texts, appended at the end, with a matching table record."""
     names = name_table(texts)
     many = int.from_bytes(data[4:6], "big")
     out = bytearray(data + names)
@@ -88,7 +88,8 @@ def hostile():
 
 
 def refused():
-    """Fonts that a reading refuses: all three the first two, the strict and the lenient one the third, the strict one alone the last."""
+    """Yields fonts that readers reject: all three readers the first two fonts, the strict and the lenient one the third, only the strict
+    one the last."""
     square = BEGIN + b"\x8c\x06" * 2 + END
     sound = plain_font([END, square])
     place = sound.index(b"\x1d", 12)
@@ -108,7 +109,7 @@ def browser():
 
 
 def asked_of(driver, page):
-    """What the page asked for beside itself."""
+    """Returns what the page requested besides itself."""
     asked = []
     for entry in driver.get_log("performance"):
         message = json.loads(entry["message"])["message"]
@@ -122,13 +123,13 @@ def ran(*words):
 
 
 def points_told(path, gid):
-    """How many points `psotf glyph --json` tells of a glyph."""
+    """Returns how many points `psotf glyph --json` prints for a glyph."""
     segments = json.loads(ran("glyph", path, "--gid", str(gid), "--json").stdout)["segments"]
     return None if segments is None else sum(len(segment) - 1 for segment in segments) // 2
 
 
 class Calls(SimpleT2Decompiler):
-    """Runs a charstring, and keeps the calls and the masks that it meets."""
+    """Runs a charstring, and records its calls and masks."""
 
     def __init__(self, char_string, part):
         super().__init__(getattr(char_string.private, "Subrs", []), char_string.globalSubrs, char_string.private)
@@ -152,7 +153,7 @@ class Calls(SimpleT2Decompiler):
 
 
 def met(path, gids):
-    """The calls and the masks of glyphs, as fontTools meets them."""
+    """Yields the calls and the masks of glyphs, as fontTools meets them."""
     font = TTFont(path, fontNumber=0, lazy=True)
     top = font["CFF "].cff.topDictIndex[0]
     strings = top.CharStrings
@@ -173,7 +174,7 @@ return arguments[0].map((gid) => {
 
 
 def compare_walks(driver, path, told, faults):
-    """Compares calls and masks with what fontTools meets, and the sums of the calls where all glyphs are compared."""
+    """Compares calls and masks with what fontTools meets, and the call counts if all glyphs are compared."""
     first, rows = told["head"]["from"], told["glyphs"]
     drawn = [first + i for i, row in enumerate(rows) if len(row) != 5]
     gids = drawn if len(rows) < LONG else drawn[:: max(1, len(drawn) // MOST)]
@@ -196,7 +197,7 @@ def compare_walks(driver, path, told, faults):
 
 
 def look_at_parts(told, faults):
-    """The parts of the table CFF cover it, each byte once."""
+    """Checks that the parts of the `CFF ` table cover each byte once."""
     size = next(size for tag, _, size in told["head"]["tables"] if tag == "CFF ")
     at = 0
     for name, place, bytes_ in sorted(told["head"]["parts"], key=lambda part: part[1:]):
@@ -209,7 +210,7 @@ def look_at_parts(told, faults):
 
 
 def refusal_told(refusal):
-    """A refusal, as the page and the command line spell it."""
+    """Returns an error as the page and the command line print it."""
     if refusal is None:
         return ["accepts it"]
     spot = refusal["part"] if refusal["place"] is None else f"{refusal['part']} at byte {refusal['place']:,}"
@@ -217,8 +218,8 @@ def refusal_told(refusal):
 
 
 def look_at_answers(driver, path, told, failure, faults):
-    """The page shows of each reading what `psotf` says of it: `inspect --json`, or of a table that is refused in place the page's block,
-    and the command with it."""
+    """Checks that the page shows each reader's result as `psotf inspect --json` prints it. For a table that the in-place reader rejects,
+    it checks the page's data block and the command's message."""
     if refused := told["head"].get("readings"):
         readings = [refused["in_place"], refused["strict"], refused["lenient"]]
         says, spot, rule = refusal_told(readings[0])
@@ -239,8 +240,8 @@ return [cells.length, cells.filter((cell) => cell.querySelector("path, .why") ==
 
 
 def drawn_by(driver, many):
-    """How many cells there are and how many of them are empty, once all are drawn, or after ten seconds: the change of the medium is told to
-    the page with its next frame."""
+    """Returns the numbers of cells and of empty cells, once all are drawn or after ten seconds: the page learns of the media change with
+    its next frame."""
     until = time.monotonic() + 10
     while True:
         cells, undrawn = driver.execute_script(UNDRAWN)
@@ -250,9 +251,9 @@ def drawn_by(driver, many):
 
 
 def look_at_print(driver, page, told, faults):
-    """On paper each glyph has its cell, and each cell its picture or its reason, the last ones too: by the event before printing, and by
-    the change of the medium alone. The driver waits for ten seconds for the paper, too short for that of more glyphs, or on a machine with
-    much other work: then only the medium is tried."""
+    """Checks that in print each glyph has its cell, and each cell a picture or an error, including the last ones. It tries the event
+    before printing, and only a media change. The driver waits ten seconds for printing, which is too short for more than LONG glyphs or
+    on a busy machine. Then only the media change is tried."""
     many = len(told["glyphs"])
     media = lambda: driver.execute_cdp_cmd("Emulation.setEmulatedMedia", {"media": "print"})
     for how in (driver.print_page, media) if many <= LONG else (media,):
@@ -280,7 +281,7 @@ def look_at_cells(driver, told, faults):
 
 
 def look(driver, path, data, is_ours, faults):
-    """Looks at a page that is open."""
+    """Checks an open page."""
     told = json.loads(data)
     if driver.title == "taken":
         faults.append("a text of the font became a script")
@@ -343,7 +344,7 @@ def look_at_others(driver, folder, told, faults):
 
 
 def shots(driver, folder, name):
-    """The page from its top to its end, as far as a picture goes."""
+    """Takes a screenshot of the page from top to end, up to the maximum picture height."""
     for width in (1280, 400):
         driver.set_window_size(width, 900)
         time.sleep(0.3)

@@ -55,7 +55,7 @@ FLAT_RETURN = bytes.fromhex("8b0c12")
 
 
 class Fault(Exception):
-    """A refusal, with the number that the program prints for it."""
+    """An error, with the number that the program prints for it."""
 
     def __init__(self, number):
         super().__init__(number)
@@ -63,19 +63,19 @@ class Fault(Exception):
 
 
 class TooLong(Exception):
-    """The run takes more phrases than the caller of this module wants to wait for."""
+    """The execution takes more phrases than the caller allows."""
 
 
 # The numbers and phrases of a routine.
 
 
 def is_number(first):
-    """Whether a number begins with this byte."""
+    """Returns whether a number begins with this byte."""
     return first == 0x1C or first >= 0x20
 
 
 def number_size(first):
-    """How many bytes a number has that begins with this byte."""
+    """Returns the size in bytes of a number that begins with this byte."""
     if first == 0x1C:
         return 3
     if first == 0xFF:
@@ -84,7 +84,7 @@ def number_size(first):
 
 
 def number_bits(spelling):
-    """The bits of a number from all of its bytes."""
+    """Returns the bits of a number from all of its bytes."""
     first = spelling[0]
     if first == 0xFF:
         return int.from_bytes(spelling[1:], "big", signed=True)
@@ -98,7 +98,7 @@ def number_bits(spelling):
 
 
 def read_numbers(routine, place):
-    """All numbers that stand at a place, and the place behind them."""
+    """Returns all numbers at an offset, and the offset after them."""
     numbers = []
     while place < len(routine) and is_number(routine[place]):
         size = number_size(routine[place])
@@ -111,7 +111,7 @@ def read_numbers(routine, place):
 
 
 def read_operator(routine, place):
-    """The name of the operator at a place, and the place behind it."""
+    """Returns the name of the operator at an offset, and the offset after it."""
     size = 2 if routine[place:place + 1] == b"\x0c" else 1
     spelling = routine[place:place + size]
     if len(spelling) < size:
@@ -122,7 +122,7 @@ def read_operator(routine, place):
     return name, place + size
 
 
-# How many operands an operator takes that clears the stack.
+# How many operands each operator that clears the stack takes.
 
 
 def exactly(count):
@@ -165,13 +165,13 @@ ALLOWED = {
 
 
 def taken(name, length):
-    """The greatest allowed count of operands that is at most the stack's length, else None."""
+    """Returns the largest allowed count of operands that is at most the stack's length, or None."""
     allowed = ALLOWED[name]
     return next((count for count in range(length, -1, -1) if allowed(count)), None)
 
 
 def beneath_width(name, length):
-    """How many operands lie above the one that gives the width, where there is such a one."""
+    """Returns how many operands are above the one that gives the width, if there is one."""
     if name in MASKS:
         return length - length % 2
     if name == "EndChar":
@@ -179,7 +179,7 @@ def beneath_width(name, length):
     return taken(name, length)
 
 
-# What the operators do that only change the end of the stack.
+# The operators that only change the top of the stack.
 
 
 def fit(bits):
@@ -189,7 +189,7 @@ def fit(bits):
 
 
 def cut(left, right):
-    """The quotient, cut towards zero."""
+    """Returns the quotient, truncated towards zero."""
     whole = abs(left) // abs(right)
     return whole if (left < 0) == (right < 0) else -whole
 
@@ -230,7 +230,7 @@ EFFECTS = {
 
 
 def change_end(name, stack):
-    """Replace the operands at the end of the stack by what the operator makes of them."""
+    """Replaces the operands at the top of the stack by the operator's results."""
     count, effect = EFFECTS[name]
     if len(stack) < count:
         raise Fault(EXPECTED_MORE_OPERANDS if name == "Dup" else EXPECTED_OPERAND)
@@ -238,7 +238,7 @@ def change_end(name, stack):
 
 
 def pop_whole(stack):
-    """Take the top off, which has to be a whole number."""
+    """Pops the top of the stack, which must be an integer."""
     if not stack or stack[-1] % ONE != 0:
         raise Fault(EXPECTED_INTEGER)
     return stack.pop() // ONE
@@ -265,7 +265,7 @@ def roll(stack):
 
 
 def place_of(number):
-    """A number as a place of the stored numbers."""
+    """Returns a number as an index of the stored numbers."""
     if not 0 <= number < STORED_NUMBERS:
         raise Fault(INVALID_OPERAND)
     return number
@@ -284,7 +284,7 @@ def get(stack, stored):
 
 
 def bias(count):
-    """What is added to a call's operand, by the count of subroutines in the list."""
+    """Returns the bias added to a call's operand, for this number of subroutines in the list."""
     if count < 1240:
         return 107
     return 1131 if count < 33900 else 32768
@@ -297,7 +297,7 @@ FINISHED = "finished"
 
 
 class Meaning:
-    """The meaning of one code over two lists of subroutines."""
+    """The meaning of one charstring with two lists of subroutines."""
 
     def __init__(self, global_, local, limit):
         self.subroutines = {"CallGSubr": global_, "CallSubr": local}
@@ -313,7 +313,7 @@ class Meaning:
         self.fault = None
 
     def of_code(self, code):
-        """Carry out the outermost code."""
+        """Executes the outermost charstring."""
         try:
             if self.mean(code, 0) == FINISHED:
                 self.width_shown = self.width
@@ -322,7 +322,7 @@ class Meaning:
         return self
 
     def mean(self, routine, depth):
-        """Carry out a routine while `depth` calls are open, and say how it ended."""
+        """Executes a routine while `depth` calls are open, and returns how it ended."""
         place = 0
         while place < len(routine):
             self.count_phrase()
@@ -361,7 +361,7 @@ class Meaning:
         self.phrases_left -= 1
 
     def callee(self, name, depth):
-        """The routine that a call names."""
+        """Returns the subroutine of a call."""
         subroutines = self.subroutines[name]
         place = pop_whole(self.stack) + bias(len(subroutines))
         if not 0 <= place < len(subroutines):
@@ -371,7 +371,7 @@ class Meaning:
         return subroutines[place]
 
     def carry_out(self, name, routine, place):
-        """Carry out an operator that stays in its routine; gives the place where the next phrase begins."""
+        """Executes an operator that stays in its routine; returns the offset of the next phrase."""
         if name in ALLOWED:
             return self.clear(name, routine, place)
         if name in EFFECTS:
@@ -389,7 +389,7 @@ class Meaning:
         return place
 
     def clear(self, name, routine, place):
-        """Answer an operator that clears the stack."""
+        """Executes an operator that clears the stack, and records it."""
         if name in STEMS or name in MASKS:
             self.stems += len(self.stack) // 2
             if self.stems > MOST_STEMS:
@@ -438,15 +438,15 @@ def flat_line(meaning):
 
 
 def evaluate(code, global_, local, limit=None):
-    """The meaning of a code; raises TooLong where it takes more phrases than the limit."""
+    """Returns the meaning of a charstring; raises TooLong if it takes more phrases than the limit."""
     return Meaning(global_, local, limit).of_code(code)
 
 
 def run(code, global_, local, limit=None):
-    """The lines that the program prints for `run`."""
+    """Returns the lines that the program prints for `run`."""
     return run_lines(evaluate(code, global_, local, limit))
 
 
 def flat(code, global_, local, limit=None):
-    """The line that the program prints for `flat`."""
+    """Returns the line that the program prints for `flat`."""
     return flat_line(evaluate(code, global_, local, limit))

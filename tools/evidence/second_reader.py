@@ -41,7 +41,7 @@ OPERATORS = {
     *range(0x0C00, 0x0C0F), *range(0x0C11, 0x0C18), *range(0x0C1E, 0x0C27),
 }
 
-# Only these of the defaults are ever asked for while a font is read.
+# Reading a font only needs these defaults.
 DEFAULTS = {CHAR_SET: [(0, 0)], ENCODING: [(0, 0)], CHAR_STRING_TYPE: [(2, 0)]}
 
 ENCODING_NAMES = {0: "Standard", 1: "Expert"}
@@ -62,7 +62,7 @@ if hasattr(sys, "set_int_max_str_digits"):
 
 
 class Refused(Exception):
-    """A refusal, by its number."""
+    """An error, with its number."""
 
     def __init__(self, number):
         super().__init__(number)
@@ -70,7 +70,7 @@ class Refused(Exception):
 
 
 class Cursor:
-    """Bytes and a place among them or past their end."""
+    """Bytes and an offset in them or past their end."""
 
     def __init__(self, data, place):
         self.data = data
@@ -91,7 +91,7 @@ class Cursor:
         return int.from_bytes(self.take(width), "big", signed=True)
 
     def ahead(self):
-        """The next byte, which stays."""
+        """Returns the next byte without consuming it."""
         if self.place >= len(self.data):
             raise Refused(WANTING_BYTES)
         return self.data[self.place]
@@ -101,7 +101,7 @@ class Cursor:
 
 
 def bounds_of_followers(first):
-    """The bounds of the bytes that follow a first byte of UTF-8, or None where no sequence begins so."""
+    """Returns the bounds of the bytes after a first byte of UTF-8, or None if no sequence begins with it."""
     if first <= 0x7F:
         return []
     if 0xC2 <= first <= 0xDF:
@@ -116,7 +116,7 @@ def bounds_of_followers(first):
 
 
 def following(data, place, bounds):
-    """How many bytes from the place on keep to the bounds, one after the other."""
+    """Returns how many bytes at an offset are within the bounds, one after the other."""
     count = 0
     for low, high in bounds:
         if place + count >= len(data) or not low <= data[place + count] <= high:
@@ -126,7 +126,7 @@ def following(data, place, bounds):
 
 
 def character(sequence):
-    """The character that a well-formed sequence stands for."""
+    """Returns the character of a well-formed sequence."""
     if len(sequence) == 1:
         return chr(sequence[0])
     point = sequence[0] & (0x7F >> len(sequence))
@@ -136,7 +136,7 @@ def character(sequence):
 
 
 def text(data):
-    """The bytes as text: each longest cut beginning of a sequence, and each other byte, is replaced."""
+    """Decodes bytes: each longest truncated start of a sequence, and each other invalid byte, is replaced."""
     characters = []
     place = 0
     while place < len(data):
@@ -157,7 +157,7 @@ def printable(words):
 
 
 def operand(mantissa, exponent):
-    """The one pair of that value whose mantissa ten does not divide."""
+    """Returns the pair with this value whose mantissa is not a multiple of ten."""
     if mantissa == 0:
         return (0, 0)
     while mantissa % 10 == 0:
@@ -169,7 +169,7 @@ def operand(mantissa, exponent):
 
 
 def real_text(cursor):
-    """The text that the nibbles up to the ending one spell."""
+    """Returns the text of the nibbles up to the end nibble."""
     spelled = []
     while True:
         byte = cursor.number(1)
@@ -209,14 +209,14 @@ def read_number(cursor):
 
 
 def whole_number(pair):
-    """The number as a whole one of 32 bits with its sign."""
+    """Returns the number as a signed 32-bit integer."""
     mantissa, exponent = pair
     if exponent < 0 or not -2 ** 31 <= mantissa * 10 ** exponent < 2 ** 31:
         raise Refused(NOT_A_WHOLE_NUMBER)
     return mantissa * 10 ** exponent
 
 
-# Dictionaries
+# DICTs
 
 
 def begins_operand(byte):
@@ -236,7 +236,7 @@ def read_operation(cursor):
 
 
 def read_dictionary(data):
-    """The operations up to an unfinished rest; a later one replaces an earlier one of its operator."""
+    """Returns the operations, without an incomplete last one; a later operation replaces an earlier one with the same operator."""
     cursor = Cursor(data, 0)
     operations = {}
     try:
@@ -250,17 +250,17 @@ def read_dictionary(data):
 
 
 def operands_of(operations, code):
-    """The operands of an operation, or of its default."""
+    """Returns the operands of an operation, or of its default."""
     return operations.get(code, DEFAULTS.get(code, []))
 
 
 def lacks(operations, code, count):
-    """Whether there are fewer operands than that."""
+    """Returns whether there are fewer operands than `count`."""
     return len(operands_of(operations, code)) < count
 
 
 def whole_numbers(operations, code, count):
-    """The first operands of an operation, or of its default, as whole numbers."""
+    """Returns the first operands of an operation, or of its default, as integers."""
     if lacks(operations, code, count):
         raise Refused(MISSING_OPERATION)
     return [whole_number(pair) for pair in operands_of(operations, code)[:count]]
@@ -270,7 +270,7 @@ def whole_numbers(operations, code, count):
 
 
 def read_index(cursor):
-    """The items of an INDEX."""
+    """Returns the items of an INDEX."""
     count = cursor.number(2)
     if count == 0:
         return []
@@ -287,7 +287,7 @@ def read_index(cursor):
 
 
 def read_char_set(cursor, glyphs):
-    """The name of the char set's format."""
+    """Returns the name of the charset's format."""
     form = cursor.number(1)
     if form > 2:
         raise Refused(UNKNOWN_CHAR_SET)
@@ -306,7 +306,7 @@ def read_char_set(cursor, glyphs):
 
 
 class Font:
-    """The places of a font, which count from its start."""
+    """Resolves the offsets of a font, which count from its start."""
 
     def __init__(self, data, start, lenient):
         self.data = data
@@ -340,7 +340,7 @@ class Font:
         return read_char_set(self.cursor(number), glyphs)
 
     def locals(self, operations):
-        """How many local subroutines the private dictionary leads to."""
+        """Returns the number of local subroutines of the Private DICT."""
         if self.lenient and lacks(operations, PRIVATE, 2):
             return 0
         size, offset = whole_numbers(operations, PRIVATE, 2)
@@ -353,7 +353,7 @@ class Font:
         return len(read_index(self.cursor(offset + further)))
 
     def line(self, operations):
-        """The line of one dictionary, its parts read in the order of the format."""
+        """Returns the line of one Top DICT; its parts are read in the order of the format."""
         encoding = self.encoding(operations)
         glyphs = self.glyphs(operations)
         char_set = self.char_set(operations, glyphs)
@@ -379,7 +379,7 @@ class Font:
 
 
 def read_font(data, start, lenient=False):
-    """The summary of the font at that place, or the number of the refusal."""
+    """Returns the summary of the font at this offset, or the error number."""
     try:
         return ("ok", Font(data, start, lenient).summary())
     except Refused as refusal:

@@ -36,12 +36,12 @@ STANDARD_CODES = {code: cffLib.cffStandardStrings.index(name) for code, name in 
 
 
 def number_at(data, place, size):
-    """The number of so many bytes at a place."""
+    """Returns the number of `size` bytes at an offset."""
     return Cursor(data, place).number(size)
 
 
 class Index:
-    """An INDEX in place, and the place behind it."""
+    """An INDEX in place, and the offset after it."""
 
     def __init__(self, data, place):
         self.data, self.count, self.next = data, number_at(data, place, 2), place + 2
@@ -77,7 +77,7 @@ def offset_of(operations, code, base=0):
 
 
 class Part:
-    """A private dictionary and its subroutines, and the font dictionary that names them, if one does."""
+    """A Private DICT and its subroutines, and its Font DICT, if it has one."""
 
     def __init__(self, data, operations, own):
         self.font_dictionary, self.private, self.subroutines = own, {}, NO_ITEMS
@@ -119,7 +119,7 @@ class Font:
         return [Part(self.data, operations, operations) for operations in own]
 
     def part_of(self, glyph):
-        """The number of a glyph's part."""
+        """Returns the index of a glyph's part."""
         if len(self.parts) == 1:
             return 0
         try:
@@ -149,7 +149,7 @@ class Font:
         return self.strings.get(identifier - len(STANDARD_STRINGS))
 
     def identifiers(self):
-        """The identifier of each glyph that has one."""
+        """Returns the SID or CID of each glyph that has one."""
         place = offset_of(self.operations, CHAR_SET)
         count = self.char_strings.count
         if place < len(PREDEFINED_SETS):
@@ -171,7 +171,7 @@ class Font:
         return found
 
     def codes(self, first_glyphs):
-        """The glyph of each code, and whether the encoding is Expert."""
+        """Returns the glyph of each code, and whether the encoding is Expert."""
         place = offset_of(self.operations, ENCODING)
         count = self.char_strings.count
         if place < 2:
@@ -200,7 +200,7 @@ class Font:
         return codes, False
 
     def advance(self, part, glyph):
-        """The words of an advance. None where a charstring is too long to be run here."""
+        """Returns the words of an advance, or None if a charstring takes too long here."""
         try:
             meaning = second_interpreter.evaluate(self.char_strings.get(glyph), self.subroutines.items(), part.subroutines.items(), MOST_PHRASES)
         except second_interpreter.TooLong:
@@ -269,7 +269,7 @@ def decimal(word, pair):
 
 
 def lines_of(table):
-    """The lines of a table, as the program prints them; `expert` stands for the codes of the Expert encoding."""
+    """Returns the lines of a table as the program prints them, with `expert` for the codes of the Expert encoding."""
     try:
         return list(Font(table).lines())
     except Refused as refusal:

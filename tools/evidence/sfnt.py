@@ -37,14 +37,14 @@ BATCH = 200
 
 
 def faces_of(path):
-    """How many faces a file has, by its header."""
+    """Returns the number of faces of a file, from its header."""
     with open(path, "rb") as file:
         header = file.read(12)
     return struct.unpack(">L", header[8:])[0] if header[:4] == b"ttcf" else 1
 
 
 def best(records, rank):
-    """The first record of the highest rank, which is not 0."""
+    """Returns the first record of the highest rank, if that is not 0."""
     ranks = [rank(record) for record in records]
     return records[ranks.index(max(ranks))] if any(ranks) else None
 
@@ -58,7 +58,7 @@ def name_rank(record):
 
 
 def name_of(font, identifiers):
-    """The name of the first of the identifiers that has one, as code points."""
+    """Returns the name for the first of the name IDs that has one, as code points."""
     for identifier in identifiers:
         record = best([record for record in font["name"].names if record.nameID == identifier], name_rank)
         if record:
@@ -68,7 +68,7 @@ def name_of(font, identifiers):
 
 
 def map_of(font):
-    """The glyph of each character that has one; none where there is no map of a format that is read."""
+    """Returns the glyph of each mapped character, or None if there is no map of a supported format."""
     if "cmap" not in font:
         return None
     table = best(font["cmap"].tables, lambda table: RANKS.get((table.platformID, table.platEncID), 0))
@@ -79,7 +79,7 @@ def map_of(font):
 
 
 def facts_of(path, face):
-    """What fontTools reads of a face."""
+    """Returns what fontTools reads from a face."""
     font = TTFont(path, lazy=True, fontNumber=face)
     glyphs = font["maxp"].numGlyphs
     font.setGlyphOrder([f"glyph{i:05d}" for i in range(glyphs)])
@@ -100,7 +100,7 @@ def facts_of(path, face):
 
 
 def answer_of(line):
-    """A line of the program as a fact."""
+    """Returns a line of the program as a fact."""
     word, _, rest = line.partition(" ")
     words = rest.split()
     if word == "table":
@@ -121,7 +121,7 @@ def run(program, paths, *more):
 
 
 def compare_file(program, path, counts):
-    """Compares each face of a file, and tells how many facts differ."""
+    """Compares each face of a file, and returns the number of differences."""
     done = run(program, [path])
     lines = done.stdout.decode().splitlines()
     faces = faces_of(path)
@@ -156,7 +156,7 @@ def compare(program, words):
 
 
 def small(path):
-    """A font of the tables that are read alone."""
+    """Returns a font with only the tables that the library reads."""
     font = TTFont(path, lazy=True, fontNumber=0)
     tables = [(tag, font.reader[tag]) for tag in KEPT if tag in font.reader]
     place = 12 + len(tables) * 16
@@ -168,14 +168,14 @@ def small(path):
 
 
 def collection(fonts):
-    """A collection of two fonts."""
+    """Returns a collection of two fonts."""
     place = 20 + len(fonts[0])
     header = struct.pack(">4sLLLL", b"ttcf", 0x00010000, 2, 20, place)
     return header + fonts[0] + fonts[1]
 
 
 def change(chance, font):
-    """A font with some bytes changed, most of them in the directory and in the headers of tables."""
+    """Returns a font with some bytes changed, most of them in the directory and in the headers of tables."""
     font = bytearray(font)
     places = [0, 12, *(int.from_bytes(font[20 + i * 16 : 24 + i * 16], "big") for i in range(6))]
     for _ in range(chance.choice([1, 1, 2, 4, 16])):

@@ -20,9 +20,9 @@ It writes one file for each named instance, each end of each axis and PLACES ran
 - The names of a named instance are those of its style. A font with one Font DICT keeps its glyph names.
 - Each hint in a Private DICT is the blended value in floats, rounded to the nearest unit.
 
-With --round the files are written with `--round`. Each point must then be the unrounded one at the nearest whole unit, halves up, and the
-outlines are not compared in floats. The script prints up to eight faults per location. It also prints file sizes, next to those of the
-mutator's files, which keep CFF2.
+With --round the files are written with `--round`. Each point must then be the variable font's, rounded to the nearest whole unit, halves
+up. The outlines are then not compared in floats. The script prints up to eight faults per location. It also prints file sizes, next to
+those of the mutator's files, which keep CFF2.
 
 It runs crates/psotf/out/psotf, or the program in the environment variable PSOTF. Needs Debian's python3-fonttools, libfreetype6,
 libharfbuzz-bin and opentype-sanitizer. The exit status is 1 if anything differs.
@@ -91,21 +91,21 @@ LINKED = {"Regular", "Bold", "Italic", "Bold Italic"}
 
 
 def run(*words, status=0):
-    """What a program prints and says."""
+    """Runs psotf, and returns its output and its messages."""
     done = subprocess.run([str(PSOTF), *map(str, words)], capture_output=True, check=False)
     assert done.returncode == status, f"psotf {' '.join(map(str, words))}: status {done.returncode}: {done.stderr.decode()}"
     return done.stdout.decode(), done.stderr.decode()
 
 
 def glyphs_of(path, *words):
-    """The advance and the segments of each glyph, as psotf tells them."""
+    """Returns the advance and the segments of each glyph, as psotf prints them."""
     printed = run("glyph", path, "--all", "--json", *words)[0].splitlines()
     lines = [json.loads(line, parse_float=decimal.Decimal) for line in printed]
     return [(line["advance"], line["segments"]) for line in lines]
 
 
 def places_of(font, chance, count):
-    """The words of places, with the values along the axes and, of named instances, the name."""
+    """Yields locations: their command-line arguments, their axis values and, for named instances, the name."""
     axes = font["fvar"].axes
     default = {axis.axisTag: axis.defaultValue for axis in axes}
     for instance in font["fvar"].instances:
@@ -120,7 +120,7 @@ def places_of(font, chance, count):
 
 
 def lines_of(font, chance):
-    """A line of text, and lines of random characters of the font."""
+    """Returns a line of text, and lines of random characters of the font."""
     characters = [char for char in sorted(font.getBestCmap()) if chr(char).isprintable()]
     some = [ord(char) for char in "AVWTaeovwynuHbgf`^`^" if ord(char) in characters]
     lines = ["".join(map(chr, chance.choices(by_turns, k=LONG))) for by_turns in (characters, some) for _ in range(LINES // 2)]
@@ -128,7 +128,7 @@ def lines_of(font, chance):
 
 
 def set_by_harfbuzz(path, lines, *words):
-    """The glyphs of lines of text, with their places and advances."""
+    """Returns the glyphs of lines of text, with their positions and advances."""
     done = subprocess.run(
         ["hb-shape", *words, "--no-glyph-names", "--no-clusters", str(path)], input="\n".join(lines), capture_output=True, text=True, check=True,
     )
@@ -153,7 +153,7 @@ def names_are(static, font, name, faults):
 
 
 def widths_are(static, faults):
-    """Compares the widths of charstrings, bearings and boxes with the metrics."""
+    """Compares charstring widths and side bearings with `hmtx`."""
     top = static["CFF "].cff.topDictIndex[0]
     glyphs = static.getGlyphSet()
     for number, name in enumerate(static.getGlyphOrder()):
@@ -170,7 +170,7 @@ def widths_are(static, faults):
 
 
 def moved_metrics(static, made, faults):
-    """Compares what MVAR varies, and the weight, with what the mutator makes."""
+    """Compares the MVAR metrics, the weight and width classes, and hhea's ascent and descent with the mutator's."""
     for tag, field in [*MVAR_ENTRIES.values(), ("OS/2", "usWeightClass"), ("OS/2", "usWidthClass"), ("hhea", "ascent"), ("hhea", "descent")]:
         if tag in made and tag in static:
             ours, theirs = getattr(static[tag], field, None), getattr(made[tag], field, None)
@@ -179,7 +179,7 @@ def moved_metrics(static, made, faults):
 
 
 def scalars_of(font, values, number):
-    """The scalars of the regions of item variation data at a place."""
+    """Returns the scalars of the regions of item variation data at a location."""
     top = font["CFF2"].cff.topDictIndex[0]
     if getattr(top, "VarStore", None) is None:
         return []
@@ -192,7 +192,7 @@ def scalars_of(font, values, number):
 
 
 def hints_are(font, static, values, faults):
-    """Compares each hint with what it blends to at the place."""
+    """Compares each hint with its blended value at the location."""
     old, new = font["CFF2"].cff.topDictIndex[0], static["CFF "].cff.topDictIndex[0]
     news = [part.Private for part in new.FDArray] if hasattr(new, "ROS") else [new.Private]
     for part, private in zip(old.FDArray, news, strict=True):
@@ -203,7 +203,7 @@ def hints_are(font, static, values, faults):
                 continue
             several = isinstance(told, list) and name not in ("StdHW", "StdVW", "BlueScale", "BlueShift", "BlueFuzz")
             edges = told if several else [told]
-            # fontTools adds up the numbers at the default, and not what each of them varies by
+            # fontTools adds up the default values, but not their deltas
             moved = itertools.accumulate(sum(map(operator.mul, edge[1:], scalars)) if isinstance(edge, list) else 0 for edge in edges)
             wanted = [(edge[0] if isinstance(edge, list) else edge) + far for edge, far in zip(edges, moved, strict=True)]
             found = private.rawDict.get(name)
@@ -213,7 +213,7 @@ def hints_are(font, static, values, faults):
 
 
 def names_are_kept(font, static, faults):
-    """Compares the names of glyphs."""
+    """Compares the glyph names."""
     has_one = len(font["CFF2"].cff.topDictIndex[0].FDArray) == 1
     if has_one and (hasattr(static["CFF "].cff.topDictIndex[0], "ROS") or static.getGlyphOrder() != font.getGlyphOrder()):
         faults.append("names of glyphs")
@@ -227,7 +227,7 @@ def at_units(told):
 
 
 def near_mutator(path, values, static, folder, faults):
-    """Compares with what fontTools' mutator makes of the place; the size of its file, and the furthest that points are off."""
+    """Compares with fontTools' mutator at this location; returns the size of its file, and the largest distance of points."""
     made = mutator.instantiateVariableFont(TTFont(path), dict(values))
     made.save(folder / "mutated.otf")
     made = TTFont(folder / "mutated.otf")
@@ -240,7 +240,7 @@ def near_mutator(path, values, static, folder, faults):
 
 
 def near_floats(font, values, static, faults):
-    """Compares with the outlines that fontTools draws at the place by floats; the furthest that points are off."""
+    """Compares with fontTools' outlines at this location in floats; returns the largest distance of points."""
     glyphs, worst = font.getGlyphSet(location=values), 0
     for number, (ours, name) in enumerate(zip(drawn(static), font.getGlyphOrder(), strict=True)):
         pen, contours = RecordingPen(), []
@@ -259,7 +259,7 @@ def near_floats(font, values, static, faults):
 
 
 def compare_place(path, font, words, values, name, folder, freetype, lines, rounds, counts):
-    """Compares the file of a place; tells what is at fault."""
+    """Compares the file of a location; returns the faults."""
     out, faults = folder / "static.otf", []
     _, said = run("instance", path, *words, *rounds, "-o", out)
     counts["said"] |= {said.strip()}
@@ -301,13 +301,13 @@ def compare_place(path, font, words, values, name, folder, freetype, lines, roun
 
 
 def refused(path, words, folder):
-    """What a refusal says, where the file is refused."""
+    """Returns the error message, or None if there is no error."""
     done = subprocess.run([str(PSOTF), "instance", str(path), *words, "-o", str(folder / "none.otf")], capture_output=True, text=True, check=False)
     return done.stderr if done.returncode else None
 
 
 def compare_font(path, chance, count, folder, freetype, rounds):
-    """Compares the static fonts of a font; tells how much differs."""
+    """Compares the static fonts of a font; returns the number of faults."""
     font, differ, refusals = TTFont(path), 0, collections.Counter()
     counts = {"glyphs": 0, "lines": 0, "size": 0, "mutated": 0, "worst": 0, "floats": 0, "said": set()}
     places, lines = list(places_of(font, chance, count)), lines_of(font, chance)
@@ -328,7 +328,7 @@ def compare_font(path, chance, count, folder, freetype, rounds):
 
 
 def with_features(path):
-    """The font with positions of each kind that vary."""
+    """Adds GPOS lookups of each kind with varying values to the font."""
     font = TTFont(path)
     addOpenTypeFeaturesFromString(font, FEATURES)
     assert font["GDEF"].table.VarStore and {lookup.LookupType for lookup in font["GPOS"].table.LookupList.Lookup} == {1, 2, 3, 4, 5, 6}

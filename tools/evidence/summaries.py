@@ -39,24 +39,24 @@ EMPTY = "an item of no bytes", 6
 
 
 def has_empty(index):
-    """Whether an INDEX has an item of no bytes."""
+    """Returns whether an INDEX has an empty item."""
     offsets = getattr(index, "offsets", [])
     return any(low == high for low, high in zip(offsets, offsets[1:]))
 
 
 def private_of(top):
-    """The private dictionary; None where there is none."""
+    """Returns the Private DICT, or None."""
     return top.Private if "Private" in top.rawDict else None
 
 
 def local_subroutines(top):
-    """The local subroutines; none where they are missing."""
+    """Returns the local subroutines; none if they are missing."""
     private = private_of(top)
     return private.Subrs if private is not None and "Subrs" in private.rawDict else []
 
 
 def cause_of(top, lenient):
-    """Why a dictionary's font is refused, and the refusal's number; None where it is not."""
+    """Returns why a Top DICT's font is rejected, and the error number; None if it is accepted."""
     if top.rawDict.get("Encoding", 0) not in (0, 1):
         return "an encoding of its own", 16
     if has_empty(top.CharStrings.charStringsIndex):
@@ -71,13 +71,13 @@ def cause_of(top, lenient):
 
 
 def set_of(top, table):
-    """The name of a dictionary's char set."""
+    """Returns the name of a Top DICT's charset."""
     char_set = top.rawDict.get("charset", 0)
     return CHAR_SETS[char_set] if char_set < 3 else f"Format{table[char_set]}"
 
 
 def line_of(top, table):
-    """What psfont has to tell of a dictionary."""
+    """Returns the line that psfont must print for a Top DICT."""
     encoding = ENCODINGS[top.rawDict.get("Encoding", 0)]
     return f"font {encoding} {set_of(top, table)} glyphs {len(top.CharStrings)} locals {len(local_subroutines(top))}"
 
@@ -87,7 +87,7 @@ def shown(name):
 
 
 def expected(font, table, lenient):
-    """The lines that psfont has to print, the status, and the cause of a refusal."""
+    """Returns the lines that psfont must print, the status, and the cause of an error."""
     cff = font["CFF "].cff
     tops = [cff.topDictIndex[i] for i in range(len(cff.topDictIndex))]
     empty = "" in cff.strings.strings or has_empty(cff.GlobalSubrs)
@@ -102,7 +102,7 @@ def expected(font, table, lenient):
 
 
 def told(word, table, folder):
-    """The lines that psfont prints, on either output, and the status."""
+    """Returns the lines that psfont prints, on standard output and standard error, and the status."""
     path = pathlib.Path(folder) / "table"
     path.write_bytes(table)
     done = subprocess.run([PSFONT, word, path], capture_output=True, text=True)

@@ -46,13 +46,13 @@ NO_HINTING, NO_AUTOHINT = 2, 0x8000
 
 
 def places_of(chance, axes, count):
-    """The default, the ends of each axis, and random places, in units of 2 ^ -14."""
+    """Returns the default, the ends of each axis, and random locations, in units of 2^-14."""
     ends = [tuple(end if i == j else 0 for j in range(axes)) for i in range(axes) for end in (-16384, 16384)]
     return [(0,) * axes, *ends, *(tuple(chance.randint(-16384, 16384) for _ in range(axes)) for _ in range(count))]
 
 
 def told(program, lines):
-    """What the program answers to lines: for each the contours of each glyph, in 16.16 bits, or what is refused."""
+    """Returns the program's answer to each line: the contours of each glyph, in 16.16, or the error."""
     done = subprocess.run([program], input="".join(f"{line}\n" for line in lines).encode(), stdout=subprocess.PIPE, check=False)
     if done.returncode:
         sys.exit(f"the program ended with status {done.returncode}")
@@ -76,19 +76,20 @@ def told(program, lines):
 
 
 def points_of(contour):
-    """The points of a contour."""
+    """Returns the points of a contour."""
     return [point for _, *numbers in contour for point in zip(numbers[::2], numbers[1::2])]
 
 
 def shapes_of(contours, far=0):
-    """The contours of more than one point, without the last where they come back to where they began, not further off than this."""
+    """Returns the contours with more than one point. The last point is dropped if each of its coordinates is at most `far` from the
+    first point's."""
     near = lambda p, q: abs(p[0] - q[0]) <= far and abs(p[1] - q[1]) <= far
     shorter = [points[:-1] if len(points) > 1 and near(points[0], points[-1]) else points for points in contours]
     return [points for points in shorter if len(points) > 1]
 
 
 def drawn_by_fonttools(font, place):
-    """The contours of each glyph, in floats of 16.16 bits."""
+    """Yields the contours of each glyph, as floats in 16.16."""
     location = {axis.axisTag: value / 16384 for axis, value in zip(font["fvar"].axes, place)}
     glyphs = font.getGlyphSet(location=location, normalized=True)
     for name in font.getGlyphOrder():
@@ -130,7 +131,7 @@ class Face(ctypes.Structure):
 
 
 class FreeType:
-    """The library, and the face of a font that is drawn."""
+    """The library, and the fonts that it draws."""
 
     def __init__(self):
         self.calls = ctypes.CDLL("libfreetype.so.6")
@@ -151,7 +152,7 @@ class FreeType:
         self.calls.FT_Set_Var_Blend_Coordinates(face, c_uint(len(place)), (c_long * len(place))(*[value * 4 for value in place]))
 
     def shapes(self, face, glyph, flags):
-        """The points of each contour in 1/128 unit, or none where the glyph is refused."""
+        """Returns the points of each contour in 1/128 unit, or None if the glyph is rejected."""
         if self.calls.FT_Load_Glyph(face, c_uint(glyph), flags):
             return None
         outline, start, found = face.contents.glyph.contents.outline, 0, []
@@ -162,7 +163,7 @@ class FreeType:
         return [points for points in found if len(points) > 1]
 
     def draws(self, face, glyph, contours):
-        """How this glyph is drawn beside these contours, or none where it is refused."""
+        """Returns how FreeType draws this glyph compared with these contours, or None if it rejects the glyph."""
         ours = list(map(points_of, contours))
         cut = lambda to, more=0: shapes_of([((x + more) // to * to // 512, (y + more) // to * to // 512) for x, y in points] for points in ours)
         if (shape := self.shapes(face, glyph, NO_AUTOHINT)) is None:
@@ -178,7 +179,7 @@ class FreeType:
 
 
 def compare_font(program, freetype, path, chance, count):
-    """Compares a font at places; tells how many outlines differ."""
+    """Compares a font at its locations; returns the number of differing outlines."""
     font = TTFont(path)
     places = places_of(chance, len(font["fvar"].axes), count)
     answers = told(program, [f"1 {' '.join(map(str, place))} {path}" for place in places])
@@ -212,7 +213,7 @@ def compare_font(program, freetype, path, chance, count):
 
 
 def changed(chance, path, folder, number, first):
-    """A font whose table has some bytes changed, all of them behind so many, as a file."""
+    """Writes a font with some bytes of its table changed, all at or after offset `first`, or in the first 64 bytes if that is 0."""
     font = bytearray(path.read_bytes())
     tables = {bytes(font[12 + 16 * i:16 + 16 * i]): 12 + 16 * i for i in range(int.from_bytes(font[4:6], "big"))}
     record = tables[b"CFF2"]
@@ -226,7 +227,7 @@ def changed(chance, path, folder, number, first):
 
 
 def compare_changed(program, freetype, fonts, chance, count, folder, behind):
-    """Draws fonts with changed bytes, behind so many or, where that is 0, in the first 64; tells how FreeType draws them."""
+    """Draws fonts with bytes changed at or after offset `behind`, or in the first 64 bytes if that is 0; counts how FreeType draws them."""
     counts = collections.Counter()
     for first in range(0, count, 50):
         batch = []
@@ -260,7 +261,7 @@ def compare_changed(program, freetype, fonts, chance, count, folder, behind):
 
 
 def times(program, folder, path):
-    """Tells how long we take, and FreeType, at a place of a font."""
+    """Prints our time and FreeType's, for one location of a font."""
     place = [8000] * len(TTFont(path, lazy=True)["fvar"].axes)
     given = folder / "times"
     given.write_text(f"1 {' '.join(map(str, place))} {path}\n")

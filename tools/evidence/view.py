@@ -38,18 +38,19 @@ BATCH = 100
 
 
 def open_font(path):
-    """The first face of a file, where it has a table `CFF `."""
+    """Returns the first face of a file if it has a `CFF ` table."""
     font = TTFont(path, lazy=True, fontNumber=0)
     return font if "CFF " in font.reader else None
 
 
 def exact(number):
-    """A number of a dictionary as it is spelled."""
+    """Returns a number of a DICT exactly as written."""
     return Fraction(repr(number)) if isinstance(number, float) else Fraction(number)
 
 
 def width_of(char_string, private):
-    """The width by the difference that fontTools reads, whose quotients are cut to 16.16; or the default one where none is told."""
+    """Returns the width: `nominalWidthX` plus the operand that fontTools reads, with its quotients truncated to 16.16; or
+    `defaultWidthX` if there is no operand."""
     extractor = T2WidthExtractor(getattr(private, "Subrs", []), char_string.globalSubrs, 0, "default")
     extractor.width = "default"
     extractor.execute(char_string)
@@ -63,7 +64,7 @@ def matrix_of(dictionary):
 
 
 def codes_of(top, names):
-    """The glyph of each code; none where fontTools does not read the encoding."""
+    """Returns the glyph of each code."""
     encoding = top.Encoding
     if isinstance(encoding, str):
         from fontTools import cffLib
@@ -75,13 +76,13 @@ def codes_of(top, names):
 
 
 def plain_name(name, names):
-    """A name as the font has it: to one that stands twice fontTools adds `#` and a number."""
+    """Returns a name as it is in the font: fontTools appends `#` and a number to repeated names."""
     plain, mark, number = name.rpartition("#")
     return plain if mark and number.isdigit() and plain in names else name
 
 
 def facts_of(font):
-    """What fontTools reads of a font."""
+    """Returns what fontTools reads from a font."""
     top = font["CFF "].cff.topDictIndex[0]
     keyed = hasattr(top, "ROS")
     names = top.charset
@@ -104,7 +105,7 @@ def facts_of(font):
 
 
 def decimals(words, word):
-    """The decimals behind each such word."""
+    """Returns the decimal after each occurrence of a word."""
     return [Fraction(int(words[i + 1])) * Fraction(10) ** int(words[i + 2]) for i, found in enumerate(words) if found == word]
 
 
@@ -117,7 +118,7 @@ def advance_of(words):
 
 
 def answer_of(line):
-    """A line of the program as a fact, or as several."""
+    """Returns a line of the program as one or more facts."""
     word, *words = line.split()
     if word == "keyed":
         return {"keyed": (words[0] == "true", int(words[2])), "box": decimals(words, "b")}
@@ -137,7 +138,7 @@ def run(program, paths, *more):
 
 
 def compare_file(program, path, font, counts):
-    """Compares a font, and tells how many facts differ."""
+    """Compares a font, and returns the number of differences."""
     done = run(program, [path])
     lines = done.stdout.decode().splitlines()
     differ = int(done.returncode != 0 or lines[:1] != [f"font {path}"])
@@ -171,7 +172,7 @@ def compare(program, words):
 
 
 def change(chance, table, places):
-    """A table with some bytes changed, most of them where its parts begin."""
+    """Returns a table with some bytes changed, most of them where its parts begin."""
     table = bytearray(table)
     for _ in range(chance.choice([1, 1, 2, 4, 16])):
         place = chance.choice(places) + chance.randrange(chance.choice([8, 64, 512]))
@@ -185,14 +186,14 @@ def change(chance, table, places):
 
 
 def places_of(top):
-    """Where the parts of a table begin."""
+    """Returns the offsets where the parts of a table begin."""
     named = [top.rawDict.get(word, 0) for word in ("charset", "Encoding", "CharStrings", "FDArray", "FDSelect")]
     private = top.rawDict.get("Private", (0, 0))[1]
     return [0, 64, private, *(place for place in named if isinstance(place, int))]
 
 
 def made_up(chance):
-    """A small CID-keyed font of two font dictionaries, with FDSelect of format 0 or 3 and a char set of any format."""
+    """Returns a small CID-keyed font with two Font DICTs, an FDSelect of format 0 or 3 and a charset of any format."""
     calls = [b"", b"\x20\x0a", b"\x20\x1d"]
     codes = [chance.choice(calls) + bytes([139 + chance.randrange(3), 139, 139, 0x15, 0x0E])[chance.randrange(2) :] for _ in range(5)]
     index = lambda items: len(items).to_bytes(2, "big") + (
@@ -217,7 +218,7 @@ def made_up(chance):
 
 
 def same_lines(found, wanted):
-    """Whether the lines of a font are the same, where those that are not computed are left out."""
+    """Returns whether the lines of a font are the same, except for those that are not computed."""
     if len(found) != len(wanted):
         return False
     for one, other in zip(found, wanted):
@@ -229,7 +230,7 @@ def same_lines(found, wanted):
 
 
 def sources_of(words):
-    """Tables of fonts that are small, each with the places of its parts."""
+    """Returns the tables of small fonts, each with the offsets of its parts."""
     fonts = [font for font in map(open_font, files_of(*words, ends=(".otf", ".ttc"))) if font is not None]
     tables = [(font.reader["CFF "], places_of(font["CFF "].cff.topDictIndex[0])) for font in fonts]
     return [(table, places) for table, places in tables if len(table) < 60_000]

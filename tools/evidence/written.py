@@ -52,7 +52,7 @@ def is_sound(path):
 
 
 def timed(words):
-    """Whether a command succeeds, and the least time of three runs."""
+    """Returns whether a command succeeds, the least time of three runs, and the messages of a failure."""
     least = None
     for _ in range(3):
         begun = time.monotonic()
@@ -65,7 +65,7 @@ def timed(words):
 
 
 def differences(source, path, gids):
-    """How many glyphs of a file differ from those of the source that they are made of."""
+    """Returns how many glyphs of a file differ from those of its source."""
     written = TTFont(path, checkChecksums=2)
     for tag in written.reader.keys():
         written.reader[tag]
@@ -82,7 +82,7 @@ def differences(source, path, gids):
 
 
 def built(folder):
-    """The program of tools/programs/written_ft.c over FreeType."""
+    """Builds tools/programs/written_ft.c with FreeType."""
     program = folder / "written_ft"
     flags = subprocess.run(["pkg-config", "--cflags", "--libs", "freetype2"], stdout=subprocess.PIPE, check=True).stdout.decode().split()
     subprocess.run(["gcc", "-O2", PROGRAMS / "written_ft.c", "-o", program, *flags], check=True)
@@ -90,7 +90,7 @@ def built(folder):
 
 
 def unlike(program, source, path, gids):
-    """How many pairs of glyphs FreeType compared, and how many differ."""
+    """Returns how many pairs of glyphs FreeType compared, and how many differ."""
     pairs = "".join(f"{gid} {new}\n" for new, gid in enumerate(gids) if gid is not None)
     done = subprocess.run([program, source, path], input=pairs.encode(), stdout=subprocess.PIPE, check=False)
     if done.returncode:
@@ -100,13 +100,13 @@ def unlike(program, source, path, gids):
 
 
 def chosen_of(draw, count):
-    """.notdef, and some other glyphs, drawn at random: `ots-sanitize` accepts no font of one glyph."""
+    """Returns .notdef and some other random glyphs; `ots-sanitize` accepts no font with one glyph."""
     others = range(min(1, count - 1), count)
     return sorted({0, *draw.sample(others, draw.randint(1, min(len(others), MOST)))})
 
 
 def tallied(path, seed, program):
-    """What is counted of one font, in a folder of its own; its glyphs are drawn from the seed and its name."""
+    """Returns the counts for one font, using its own folder. The glyphs depend on the seed and the font's name."""
     with tempfile.TemporaryDirectory() as name:
         return counted(path, pathlib.Path(name), program, random.Random(f"{seed} {pathlib.Path(path).name}"))
 
