@@ -1,10 +1,10 @@
 #!/usr/bin/env python3
 """Runs the examples of the documents: every shell command, and every block of Python, Rust and C.
 
-    tools/bindings/pages.py PSOTF LIBRARY_FOLDER [PAGE..]
+    tools/bindings/pages.py PSOTF PSFONT LIBRARY_FOLDER [PAGE..]
 
-PSOTF is the built program, and LIBRARY_FOLDER contains libpostscript.a and libpostscript.so (bindings/c/build). The default pages are those
-of PAGES. The script works in a new folder with Font.otf and upload.otf (EB Garamond), Variable.otf (Cantarell-VF, from Debian's package
+PSOTF and PSFONT are the built programs, and LIBRARY_FOLDER contains libpostscript.a and libpostscript.so (bindings/c/build). The default pages are those
+of PAGES. The script works in a new folder with Font.otf, upload.otf and Table.cff (EB Garamond), Variable.otf (Cantarell-VF, from Debian's package
 pango1.0-tests, fetched by apt-get download) and fonts/. It skips and counts commands that install something, or that need `rt` or dist/.
 It prints each example that fails, and the status is 1 if one does. Needs cargo, gcc and Debian's fonts-ebgaramond, librsvg2-bin, woff2 and
 fonttools.
@@ -19,7 +19,7 @@ import tempfile
 
 TOP = pathlib.Path(__file__).resolve().parents[2]
 PAGES = ["README.md", "docs/recipes.md", "docs/psotf.md", "docs/psfont.md", "docs/python.md", "docs/rust.md", "docs/c.md", "bindings/python/README.md", "bindings/rust/README.md"]
-SKIPPED = re.compile(r"\brt\b|dist/|apt-get|pip |cargo |make |tools/|^psotf: |^too long")
+SKIPPED = re.compile(r"\brt\b|dist/|apt-get|pip |cargo |make |tools/|^too long")
 FONT = "/usr/share/fonts/opentype/ebgaramond/EBGaramond12-Regular.otf"
 PYTHON = "import postscript\npaths = ['Font.otf', 'upload.otf']\nupload = open('upload.otf', 'rb').read()\n"
 RUST = """fn main() -> Result<(), Box<dyn std::error::Error>> {{
@@ -52,17 +52,30 @@ def blocks(page):
         yield language, body
     plain = re.sub(r"^```.*?^```$", "", text, flags=re.M | re.S)
     for block in re.findall(r"(?:^    .*\n?)+", plain, re.M):
-        for line in block.splitlines():
-            yield "sh", line.strip()
+        lines = [line.strip() for line in block.splitlines()]
+        # a message of the program, not a command
+        if not lines[0].startswith("psotf: "):
+            yield from (("sh", line) for line in lines)
+
+
+def cff_table(file):
+    """Returns the CFF table of an OpenType file."""
+    for at in range(12, 12 + 16 * int.from_bytes(file[4:6], "big"), 16):
+        offset, length = (int.from_bytes(file[i : i + 4], "big") for i in (at + 8, at + 12))
+        if file[at : at + 4] == b"CFF ":
+            return file[offset : offset + length]
+    raise ValueError("no CFF table")
 
 
 class Runner:
-    def __init__(self, psotf, library, work):
+    def __init__(self, psotf, psfont, library, work):
         self.work, self.library = work, library
         (work / "bin").mkdir()
         shutil.copy(psotf, work / "bin" / "psotf")
+        shutil.copy(psfont, work / "bin" / "psfont")
         for name, source in (("Font.otf", FONT), ("upload.otf", FONT)):
             shutil.copy(source, work / name)
+        (work / "Table.cff").write_bytes(cff_table(pathlib.Path(FONT).read_bytes()))
         (work / "fonts").mkdir()
         shutil.copy(FONT, work / "fonts")
         (work / "v" / "bin").mkdir(parents=True)
@@ -100,12 +113,13 @@ class Runner:
 
 
 def main():
-    if len(sys.argv) < 3:
+    if len(sys.argv) < 4:
         sys.exit(__doc__)
-    psotf, library, pages = sys.argv[1], os.path.abspath(sys.argv[2]), sys.argv[3:] or PAGES
+    psotf, psfont, library = map(os.path.abspath, sys.argv[1:4])
+    pages = sys.argv[4:] or PAGES
     ran = failed = skipped = 0
     with tempfile.TemporaryDirectory() as folder:
-        runner = Runner(os.path.abspath(psotf), library, pathlib.Path(folder))
+        runner = Runner(psotf, psfont, library, pathlib.Path(folder))
         for page in pages:
             for language, text in blocks(page):
                 if language == "sh" and SKIPPED.search(text) or "HostRuntime" in text or not text:

@@ -57,7 +57,7 @@ SCRIPTS = [
     ("speed_charstrings", "tools/speed/speed.py charstrings CRATE fonts-ebgaramond fonts-freefont-otf", TYPE2),
     ("readings_fonts", "tools/speed/readings.py fonts CRATE fonts-ebgaramond fonts-freefont-otf", "crates/postscript_base crates/postscript_compact1"),
     ("opening", "tools/speed/opening.py FONTS", VIEW),
-    ("pages", "tools/bindings/pages.py crates/psotf/out/psotf bindings/c/build", PSOTF + " docs README.md"),
+    ("pages", "tools/bindings/pages.py crates/psotf/out/psotf crates/psfont/out/psfont bindings/c/build", PSOTF + " docs README.md"),
     ("dist_test", "tools/dist/dist_test.sh", PSOTF + " tools/dist"),
 ]
 

@@ -113,18 +113,30 @@ fn fonts_that_fit_a_limit(rt: HostRuntime) {
     }
 }
 
+/// What an advance within a limit is, and what is left of the limit.
+fn told_within<R: Abort>(
+    rt: &R,
+    alloc: Global,
+    font: &FontView<'_>,
+    glyph: usize,
+    given: u64,
+) -> (&'static str, u64) {
+    let mut limit = given;
+    let told = match font.advance(alloc, glyph, &mut limit).expect(rt, "a run") {
+        AdvanceWithin::Known(_) => "known",
+        AdvanceWithin::Unknown => "unknown",
+        AdvanceWithin::TooLong => "too long",
+    };
+    (told, limit)
+}
+
 #[test]
 fn advances_within_a_limit(rt: HostRuntime) {
     let alloc = rt.alloc();
     let bytes = joined(&rt, alloc, CID, SELECTIONS[0]);
     let font = FontView::read(alloc, bytes.as_slice()).expect(&rt, "a font");
     for (row, (glyph, given, wanted, left)) in WITHIN.iter().enumerate() {
-        let mut limit = *given;
-        let told = match font.advance(alloc, *glyph, &mut limit).expect(&rt, "a run") {
-            AdvanceWithin::Known(_) => "known",
-            AdvanceWithin::Unknown => "unknown",
-            AdvanceWithin::TooLong => "too long",
-        };
+        let (told, limit) = told_within(&rt, alloc, &font, *glyph, *given);
         is_text(&rt, told, wanted, "the outcome");
         holds_at(&rt, limit == *left, "row", row);
     }
