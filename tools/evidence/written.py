@@ -133,7 +133,7 @@ def counted(path, folder, program, draw):
         kept = [gid if gid in own else None for gid in range(count)] if retained else chosen
         place = folder / f"{number}.otf"
         words = ["--gids", ",".join(map(str, chosen)), *(["--retain-gids"] if retained else [])]
-        subprocess.run([PSOTF, "subset", path, *words, "-o", place], check=True)
+        subprocess.run([PSOTF, "subset", path, "--quiet", *words, "-o", place], check=True)
         files.append((f"subset {' '.join(words)}", place, kept))
     for name, place, gids in files:
         different = differences(source, place, gids)
