@@ -123,7 +123,7 @@ def main(words):
     files = differ = 0
     with tempfile.TemporaryDirectory() as name:
         folder = pathlib.Path(name)
-        program = built(folder)
+        program = built(folder, "written_ft", "freetype2")
         source_at(folder / "source.otf")
         choices = [gids for many in (1, 2, 3) for gids in itertools.combinations(range(len(NAMES)), many)]
         for gids, retained in itertools.product(choices, ([], ["--retain-gids"])):

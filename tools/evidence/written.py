@@ -1,5 +1,5 @@
 #!/usr/bin/python3
-"""Writes fonts with psotf and compares their glyphs with those of the source fonts, using fontTools and FreeType.
+"""Writes fonts with psotf and compares their glyphs with those of the source fonts, using fontTools, FreeType and HarfBuzz.
 
     (cd crates/psotf && rt run -- --help)
     /usr/bin/python3 tools/evidence/written.py SEED [--some N] WORD..
@@ -9,13 +9,14 @@ these fonts, chosen with SEED, and prints them. Each font is written once by `ps
 written three times by `psotf subset` and once by `psotf subset --retain-gids`. The checks on each file are:
 - fontTools draws each glyph with the same segments, and reads the same metrics and the same name or CID.
 - FreeType gives the same points, unscaled and unhinted, and the same advance.
+- HarfBuzz gives the same segments, unscaled, and the same advance.
 - The checksums in the file are right, and `ots-sanitize` accepts it if it accepts the source.
 
 The sizes of the `CFF ` tables and the times of the whole commands are compared with `hb-subset --desubroutinize` of all glyphs. That
 command drops the layout tables GSUB, GPOS and GDEF, which `psotf flat` copies. The script prints each file that differs, and the numbers
 of fonts, files and glyphs. It runs one process per processor.
 
-Needs gcc and Debian's python3-fonttools, libfreetype-dev, opentype-sanitizer and libharfbuzz-bin. The exit status is 1 if anything
+Needs gcc and Debian's python3-fonttools, libfreetype-dev, libharfbuzz-dev, opentype-sanitizer and libharfbuzz-bin. The exit status is 1 if anything
 differs.
 """
 
@@ -81,22 +82,22 @@ def differences(source, path, gids):
     )
 
 
-def built(folder):
-    """Builds tools/programs/written_ft.c with FreeType."""
-    program = folder / "written_ft"
-    flags = subprocess.run(["pkg-config", "--cflags", "--libs", "freetype2"], stdout=subprocess.PIPE, check=True).stdout.decode().split()
-    subprocess.run(["gcc", "-O2", PROGRAMS / "written_ft.c", "-o", program, *flags], check=True)
+def built(folder, name, package):
+    """Builds tools/programs/NAME.c with a package of pkg-config."""
+    program = folder / name
+    flags = subprocess.run(["pkg-config", "--cflags", "--libs", package], stdout=subprocess.PIPE, check=True).stdout.decode().split()
+    subprocess.run(["gcc", "-O2", PROGRAMS / f"{name}.c", "-o", program, *flags], check=True)
     return program
 
 
 def unlike(program, source, path, gids):
-    """Returns how many pairs of glyphs FreeType compared, and how many differ."""
+    """Returns how many pairs of glyphs FreeType or HarfBuzz compared, and how many differ."""
     pairs = "".join(f"{gid} {new}\n" for new, gid in enumerate(gids) if gid is not None)
     done = subprocess.run([program, source, path], input=pairs.encode(), stdout=subprocess.PIPE, check=False)
     if done.returncode:
         return 0, len(gids)
-    compared, differ, refused = map(int, done.stdout.split())
-    return compared - refused, differ
+    compared, differ, *refused = map(int, done.stdout.split())
+    return compared - sum(refused), differ
 
 
 def chosen_of(draw, count):
@@ -105,13 +106,13 @@ def chosen_of(draw, count):
     return sorted({0, *draw.sample(others, draw.randint(1, min(len(others), MOST)))})
 
 
-def tallied(path, seed, program):
+def tallied(path, seed, programs):
     """Returns the counts for one font, using its own folder. The glyphs depend on the seed and the font's name."""
     with tempfile.TemporaryDirectory() as name:
-        return counted(path, pathlib.Path(name), program, random.Random(f"{seed} {pathlib.Path(path).name}"))
+        return counted(path, pathlib.Path(name), programs, random.Random(f"{seed} {pathlib.Path(path).name}"))
 
 
-def counted(path, folder, program, draw):
+def counted(path, folder, programs, draw):
     sums = collections.Counter()
     source = TTFont(path, lazy=True)
     if "CFF " not in source:
@@ -137,15 +138,16 @@ def counted(path, folder, program, draw):
         files.append((f"subset {' '.join(words)}", place, kept))
     for name, place, gids in files:
         different = differences(source, place, gids)
-        compared, other = unlike(program, path, place, gids)
+        (compared, other), (drawn, shapes) = (unlike(program, path, place, gids) for program in programs)
         refused = sound and not is_sound(place)
         sums["files"] += 1
         sums["glyphs"] += sum(gid is not None for gid in gids)
         sums["points"] += compared
-        sums["differ"] += different + other
+        sums["shapes"] += drawn
+        sums["differ"] += different + other + shapes
         sums["unsound"] += refused
-        if different or other or refused:
-            print(f"{path}: {name}: {different} glyphs differ, {other} for FreeType, {'not ' if refused else ''}accepted", flush=True)
+        if different or other or shapes or refused:
+            print(f"{path}: {name}: {different} glyphs differ, {other} for FreeType, {shapes} for HarfBuzz, {'not ' if refused else ''}accepted", flush=True)
     done, theirs, _ = timed(["hb-subset", "--desubroutinize", "--gids=*", "--notdef-outline", "--glyph-names", "--drop-tables+=GSUB,GPOS,GDEF", f"--output-file={theirs_at}", path])
     if done:
         sums["own_bytes"] += len(TTFont(flat, lazy=True).reader["CFF "])
@@ -167,10 +169,10 @@ def main(words):
         fonts = files_of(*words[1:])
     sums = collections.Counter()
     with tempfile.TemporaryDirectory() as name, concurrent.futures.ProcessPoolExecutor() as pool:
-        program = built(pathlib.Path(name))
-        for done in concurrent.futures.as_completed([pool.submit(tallied, path, seed, program) for path in fonts]):
+        programs = [built(pathlib.Path(name), "written_ft", "freetype2"), built(pathlib.Path(name), "written_hb", "harfbuzz")]
+        for done in concurrent.futures.as_completed([pool.submit(tallied, path, seed, programs) for path in fonts]):
             sums.update(done.result())
-    print(f"seed {words[0]}: {sums['fonts']} fonts, {sums['refused']} refused, {sums['files']} files, {sums['glyphs']} glyphs, {sums['points']} also by FreeType, {sums['differ']} differ, {sums['unsound']} not accepted")
+    print(f"seed {words[0]}: {sums['fonts']} fonts, {sums['refused']} refused, {sums['files']} files, {sums['glyphs']} glyphs, {sums['points']} also by FreeType, {sums['shapes']} by HarfBuzz, {sums['differ']} differ, {sums['unsound']} not accepted")
     if sums["their_bytes"]:
         print(f"compared with hb-subset without layout tables: {sums['own_bytes'] / sums['their_bytes']:.4f} of its bytes, {sums['own_seconds'] / sums['their_seconds']:.2f} of its time")
     return sums["differ"] or sums["unsound"]
