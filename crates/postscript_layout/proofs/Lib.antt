@@ -1,0 +1,4 @@
+pub mod Following
+pub mod Cases
+pub mod Listing
+pub mod Stays
