@@ -7,7 +7,7 @@ use Rattle.std.proofs.lemmas.List.Elements.{All-append, All-contains, All-cons, 
 use Rattle.std.proofs.lemmas.List.FromFn.{map-range_with_len_more, length-map-range_with_len, get_or-map-range_with_len}
 use Rattle.postscript_layout.specs.Closure.{Rules}
 use Rattle.postscript_layout.specs.Numbers.{word, words}
-use Rattle.postscript_layout.specs.Steps.{Below, Follows, HoldsMore, IsHeld, IsSame, Makes}
+use Rattle.postscript_layout.specs.Steps.{Below, Follows, HoldsMore, IsHeld, IsSame, Makes, Stays}
 use Rattle.postscript_layout.specs.declared.glyph_set.GlyphSet.{GlyphSet}
 
 pub nat_cases : (a b : ℕ) → (a < b) ⊎ (b ≤ a)
@@ -21,6 +21,11 @@ pub same-then : (a b c : GlyphSet) → IsSame a b → IsSame b c → IsSame a c
 same-then a b c x y off =
     let s = y off in
     let t = x s.0 in (t.0, s.1 ∙ t.1)
+
+pub stays-then : (a b c : GlyphSet) → ((glyph : ℕ) → IsHeld a glyph → IsHeld b glyph) → ((glyph : ℕ) → IsHeld b glyph → IsHeld c glyph) →
+    Stays a b → Stays b c → Stays a c
+stays-then a b c first second x y within off =
+    y (λ glyph h. first glyph (within glyph h)) (x (λ glyph h. within glyph (second glyph h)) off)
 
 -- arrays of numbers
 pub words-more : (table : List ℕ) (offset i : ℕ) → words table offset (i + 1) ≡ words table offset i ++ word table (offset + i * 2) ∷ []
@@ -40,6 +45,7 @@ holds-none a = record {
   there = All-nil (IsHeld a);
   only = λ glyph h. inl h;
   same = λ off. (off, refl);
+  stays = λ within off. off;
 }
 
 pub holds-then : (a b c : GlyphSet) (xs ys : List ℕ) → HoldsMore a xs b → HoldsMore b ys c → HoldsMore a (xs ++ ys) c
@@ -54,6 +60,7 @@ holds-then a b c xs ys x y = record {
     | inr second ↦ inr (Contains-append_right xs ys glyph second)
   ];
   same = same-then a b c x.same y.same;
+  stays = stays-then a b c x.grows y.grows x.stays y.stays;
 }
 
 -- substitutions that are applied
@@ -63,6 +70,7 @@ follows-none rules a none = record {
   done = λ ins outs is h. absurd (none ins outs is);
   least = λ other closed has glyph h. has glyph h;
   same = λ off. (off, refl);
+  stays = λ within off. off;
 }
 
 pub follows-unmade : (rules : Rules) (a : GlyphSet) → ((ins outs : List ℕ) → rules ins outs → All (IsHeld a) ins → ⊥) → Follows rules a a
@@ -71,6 +79,7 @@ follows-unmade rules a never = record {
   done = λ ins outs is h. absurd (never ins outs is h);
   least = λ other closed has glyph h. has glyph h;
   same = λ off. (off, refl);
+  stays = λ within off. off;
 }
 
 pub follows-then : (r s t : Rules) (a b c : GlyphSet) → Follows r a b → Follows s b c →
@@ -86,6 +95,7 @@ follows-then r s t a b c x y split left right = record {
   least = λ other closed has glyph h. y.least other (λ ins outs k. closed ins outs (right ins outs k))
       (x.least other (λ ins outs k. closed ins outs (left ins outs k)) has) glyph h;
   same = same-then a b c x.same y.same;
+  stays = stays-then a b c x.grows y.grows x.stays y.stays;
 }
 
 pub follows-as : (r t : Rules) (a b : GlyphSet) → Follows r a b → ((ins outs : List ℕ) → t ins outs → r ins outs) →
@@ -96,6 +106,7 @@ follows-as r t a b x to from = record {
   done = λ ins outs is h. x.done ins outs (to ins outs is) h;
   least = λ other closed has glyph h. x.least other (λ ins outs k. closed ins outs (from ins outs k)) has glyph h;
   same = x.same;
+  stays = x.stays;
 }
 
 pub follows-makes : (these those : List ℕ) (a b : GlyphSet) → All (IsHeld a) these → HoldsMore a those b → Follows (Makes these those) a b
@@ -108,6 +119,7 @@ follows-makes these those a b held more = record {
         (closed these those (refl, refl) (All-weaker (IsHeld a) (Contains other) has these held)) new
   ];
   same = more.same;
+  stays = more.stays;
 }
 
 pub one-held : (a : GlyphSet) (glyph : ℕ) → IsHeld a glyph → All (IsHeld a) (glyph ∷ [])

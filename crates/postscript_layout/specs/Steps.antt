@@ -13,12 +13,17 @@ IsHeld set glyph = slice_index_or set.marks.items glyph false ≡ true
 abbrev pub IsSame : (old new : GlyphSet) → Type 0
 IsSame old new = new.grown ≡ false → (old.grown ≡ false) × (new.marks.items ≡ old.marks.items)
 
+-- if no glyph is new, the set has not grown
+abbrev pub Stays : (old new : GlyphSet) → Type 0
+Stays old new = ((glyph : ℕ) → IsHeld new glyph → IsHeld old glyph) → old.grown ≡ false → new.grown ≡ false
+
 -- some glyphs are added to the set
 pub record HoldsMore (old : GlyphSet) (added : List ℕ) (new : GlyphSet) : Type 0 where
   pub grows : (glyph : ℕ) → IsHeld old glyph → IsHeld new glyph
   pub there : All (IsHeld new) added
   pub only : (glyph : ℕ) → IsHeld new glyph → IsHeld old glyph ⊎ Contains added glyph
   pub same : IsSame old new
+  pub stays : Stays old new
 
 -- Each of these substitutions was applied to the glyphs of the set, and no other glyphs were added.
 pub record Follows (rules : Rules) (old new : GlyphSet) : Type 0 where
@@ -27,6 +32,7 @@ pub record Follows (rules : Rules) (old new : GlyphSet) : Type 0 where
   pub least : (other : List ℕ) → IsClosedBy rules (Contains other) → ((glyph : ℕ) → IsHeld old glyph → Contains other glyph) →
       (glyph : ℕ) → IsHeld new glyph → Contains other glyph
   pub same : IsSame old new
+  pub stays : Stays old new
 
 -- the substitutions of rules 0 to count - 1 together
 abbrev pub Below : (ℕ → Rules) → (count : ℕ) → Rules

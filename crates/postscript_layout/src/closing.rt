@@ -1,7 +1,8 @@
 //! The closure of glyphs.
-ghost use Rattle.std.specs.Prelude.{◌≡◌, ◌⊎◌, ℕ, ◌+◌, ◌<◌, ◌≤◌, true, false, length, IfOk, OnOk, IfErr, slice_index_or};
+ghost use Rattle.std.specs.Prelude.{◌≡◌, ◌≢◌, ◌⊎◌, ℕ, ◌+◌, ◌<◌, ◌≤◌, true, false, length, IfOk, OnOk, Err, IfErr, slice_index_or};
 ghost use Rattle.std.specs.List.Sorted.{IsStrictlyIncreasing};
 ghost use Rattle.postscript_layout.specs.Closure.{IsClosure};
+ghost use Rattle.postscript_layout.specs.Rounds.{IsTooLow, Suffices};
 ghost use Rattle.postscript_layout.specs.Steps.{AreMarked, IsSettled};
 ghost use Rattle.postscript_layout.specs.Refusals.{IsUsedUp};
 ghost use Rattle.postscript_layout.specs.declared.error.Error.TheVariants as errors;
@@ -16,6 +17,7 @@ fn settle(gsub: &[u8], set: &mut GlyphSet, limit: &mut u64) -> Result<()>
     ensures done { OnOk result (IsSettled gsub.now set.old set.new) }
     ensures spends { limit.new ≤ limit.old }
     ensures why { IfErr result (λ e. IsUsedUp limit.new e) }
+    ensures low { IfErr result (λ _. IsTooLow gsub.now set.old limit.old) }
 {
     while *limit > 0 {
         pay(limit)?;
@@ -64,6 +66,8 @@ pub fn closure(alloc: Global, gsub: &[u8], glyphs: &[u16], limit: &mut u64) -> R
     ensures spends { limit.new ≤ limit.old }
     // An error is `Memory`, or `TooLong` with nothing left of the limit.
     ensures why { IfErr result (λ e. (e ≡ errors.Memory) ⊎ IsUsedUp limit.new e) }
+    // If the limit pays for the needed rounds and one more, the error is never `TooLong`.
+    ensures suffices { Suffices gsub.now glyphs.now limit.old → result ≢ Err errors.TooLong }
 {
     let mut set = GlyphSet::new(alloc)?;
     set.hold_all(glyphs);

@@ -1,7 +1,7 @@
 //! Sets of glyphs.
 ghost use Rattle.std.specs.Prelude.{◌≡◌, ℕ, ◌+◌, ◌^◌, ◌<◌, ◌≤◌, [], ◌∷◌, true, false, length, IfErr, IfOk, OnOk, slice_index_or};
 ghost use Rattle.std.specs.List.{All};
-ghost use Rattle.postscript_layout.specs.Refusals.{IsUsedUp};
+ghost use Rattle.postscript_layout.specs.Costs.{IsShort};
 ghost use Rattle.postscript_layout.specs.declared.error.Error.TheVariants as errors;
 
 use crate::error::{Error, Result};
@@ -29,7 +29,7 @@ fn unmarked(alloc: Global, count: usize) -> Result<Vec<bool>>
 pub(crate) fn pay(limit: &mut u64) -> Result<()>
     ensures paid { OnOk result (limit.new + 1 ≡ limit.old) }
     ensures spends { limit.new ≤ limit.old }
-    ensures why { IfErr result (λ e. IsUsedUp limit.new e) }
+    ensures why { IfErr result (λ e. IsShort 1 limit.old limit.new e) }
 {
     if *limit == 0 {
         return Err(Error::TooLong);
@@ -93,7 +93,8 @@ impl GlyphSet {
         requires few { count < 65536 }
         ensures done { OnOk result (HoldsMore self.old (the_words table.now offset count) self.new) }
         ensures spends { limit.new ≤ limit.old }
-        ensures why { IfErr result (λ e. IsUsedUp limit.new e) }
+        ensures within { OnOk result (limit.old ≤ limit.new + (count)) }
+        ensures why { IfErr result (λ e. IsShort (count) limit.old limit.new e) }
     {
         for k in 0..count {
             pay(limit)?;
@@ -116,7 +117,8 @@ impl GlyphSet {
         ensures yes { IfOk result (λ all. all ≡ true → All (IsHeld self.now) (the_words table.now offset count)) }
         ensures no { IfOk result (λ all. all ≡ false → All (IsHeld self.now) (the_words table.now offset count) → ⊥) }
         ensures spends { limit.new ≤ limit.old }
-        ensures why { IfErr result (λ e. IsUsedUp limit.new e) }
+        ensures within { OnOk result (limit.old ≤ limit.new + (count)) }
+        ensures why { IfErr result (λ e. IsShort (count) limit.old limit.new e) }
     {
         for k in 0..count {
             pay(limit)?;

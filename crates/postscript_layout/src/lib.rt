@@ -8,6 +8,8 @@ pub mod laws;
 mod lookups;
 mod numbers;
 mod substitutions;
+#[cfg(test)]
+mod tests;
 
 pub use closing::closure;
 pub use error::{Error, Result};

@@ -3,7 +3,7 @@ ghost use Rattle.std.specs.Prelude.{◌≡◌, ℕ, ◌⊎◌, ◌+◌, ◌-◌,
 ghost use Rattle.postscript_layout.specs.Numbers.{word as the_word};
 ghost use Rattle.postscript_layout.specs.Substitutions.{ByLookup, BySubtable, Substitutes, SubstitutesGlyph, coverage_of as the_coverage, part_of as the_part, offset_of, type_of};
 ghost use Rattle.postscript_layout.specs.Steps.{Below, Follows, in_range};
-ghost use Rattle.postscript_layout.specs.Refusals.{IsUsedUp};
+ghost use Rattle.postscript_layout.specs.Costs.{IsShort, coverage_cost, glyph_cost, lookup_cost, lookups_cost, part_cost, range_cost, subtable_cost, total};
 
 use crate::error::Result;
 use crate::glyph_set::{GlyphSet, pay};
@@ -34,7 +34,8 @@ fn follow_list(
         (Below (λ i. SubstitutesGlyph gsub.now kind subtable i (the_word gsub.now (coverage + 4 + i * 2))) (the_word gsub.now (coverage + 2)))
         set.old set.new) }
     ensures spends { limit.new ≤ limit.old }
-    ensures why { IfErr result (λ e. IsUsedUp limit.new e) }
+    ensures within { OnOk result (limit.old ≤ limit.new + (total (λ i. glyph_cost gsub.now kind subtable i) (the_word gsub.now (coverage + 2)))) }
+    ensures why { IfErr result (λ e. IsShort (total (λ i. glyph_cost gsub.now kind subtable i) (the_word gsub.now (coverage + 2))) limit.old limit.new e) }
 {
     let count = word(gsub, coverage + 2);
     for i in 0..count {
@@ -57,7 +58,8 @@ fn follow_range(
     requires offset { range < 2 ^ 35 }
     ensures done { OnOk result (Follows (in_range gsub.now kind subtable range) set.old set.new) }
     ensures spends { limit.new ≤ limit.old }
-    ensures why { IfErr result (λ e. IsUsedUp limit.new e) }
+    ensures within { OnOk result (limit.old ≤ limit.new + (total (λ n. glyph_cost gsub.now kind subtable (the_word gsub.now (range + 4) + n)) (the_word gsub.now (range + 2) + 1 - the_word gsub.now range))) }
+    ensures why { IfErr result (λ e. IsShort (total (λ n. glyph_cost gsub.now kind subtable (the_word gsub.now (range + 4) + n)) (the_word gsub.now (range + 2) + 1 - the_word gsub.now range)) limit.old limit.new e) }
 {
     let first = word(gsub, range);
     let end = word(gsub, range + 2) + 1;
@@ -84,7 +86,8 @@ fn follow_ranges(
         (Below (λ r. in_range gsub.now kind subtable (coverage + 4 + r * 6)) (the_word gsub.now (coverage + 2)))
         set.old set.new) }
     ensures spends { limit.new ≤ limit.old }
-    ensures why { IfErr result (λ e. IsUsedUp limit.new e) }
+    ensures within { OnOk result (limit.old ≤ limit.new + (total (λ r. range_cost gsub.now kind subtable (coverage + 4 + r * 6)) (the_word gsub.now (coverage + 2)))) }
+    ensures why { IfErr result (λ e. IsShort (total (λ r. range_cost gsub.now kind subtable (coverage + 4 + r * 6)) (the_word gsub.now (coverage + 2))) limit.old limit.new e) }
 {
     let count = word(gsub, coverage + 2);
     for r in 0..count {
@@ -105,7 +108,8 @@ fn follow_covered(
     requires near { subtable < 2 ^ 33 }
     ensures done { OnOk result (Follows (BySubtable gsub.now kind subtable) set.old set.new) }
     ensures spends { limit.new ≤ limit.old }
-    ensures why { IfErr result (λ e. IsUsedUp limit.new e) }
+    ensures within { OnOk result (limit.old ≤ limit.new + (coverage_cost gsub.now kind subtable (the_coverage gsub.now subtable))) }
+    ensures why { IfErr result (λ e. IsShort (coverage_cost gsub.now kind subtable (the_coverage gsub.now subtable)) limit.old limit.new e) }
 {
     let coverage = coverage_of(gsub, subtable);
     match word(gsub, coverage) {
@@ -132,7 +136,8 @@ fn follow_subtable(
     requires near { subtable < 2 ^ 33 }
     ensures done { OnOk result (Follows (BySubtable gsub.now kind subtable) set.old set.new) }
     ensures spends { limit.new ≤ limit.old }
-    ensures why { IfErr result (λ e. IsUsedUp limit.new e) }
+    ensures within { OnOk result (limit.old ≤ limit.new + (subtable_cost gsub.now kind subtable)) }
+    ensures why { IfErr result (λ e. IsShort (subtable_cost gsub.now kind subtable) limit.old limit.new e) }
 {
     match kind {
         1 | 2 | 3 | 4 | 8 => {
@@ -154,7 +159,8 @@ fn follow_part(
     requires near { subtable < 2 ^ 32 }
     ensures done { OnOk result (Follows (BySubtable gsub.now (type_of gsub.now kind subtable) (offset_of gsub.now kind subtable)) set.old set.new) }
     ensures spends { limit.new ≤ limit.old }
-    ensures why { IfErr result (λ e. IsUsedUp limit.new e) }
+    ensures within { OnOk result (limit.old ≤ limit.new + (part_cost gsub.now kind subtable)) }
+    ensures why { IfErr result (λ e. IsShort (part_cost gsub.now kind subtable) limit.old limit.new e) }
 {
     if kind == 7 {
         let named = word(gsub, subtable + 2);
@@ -172,7 +178,8 @@ fn follow_lookup(gsub: &[u8], lookup: usize, set: &mut GlyphSet, limit: &mut u64
     requires near { lookup < 2 ^ 31 }
     ensures done { OnOk result (Follows (ByLookup gsub.now lookup) set.old set.new) }
     ensures spends { limit.new ≤ limit.old }
-    ensures why { IfErr result (λ e. IsUsedUp limit.new e) }
+    ensures within { OnOk result (limit.old ≤ limit.new + (lookup_cost gsub.now lookup)) }
+    ensures why { IfErr result (λ e. IsShort (lookup_cost gsub.now lookup) limit.old limit.new e) }
 {
     let kind = word(gsub, lookup);
     let count = word(gsub, lookup + 4);
@@ -188,7 +195,8 @@ fn follow_lookup(gsub: &[u8], lookup: usize, set: &mut GlyphSet, limit: &mut u64
 pub(crate) fn follow_all(gsub: &[u8], set: &mut GlyphSet, limit: &mut u64) -> Result<()>
     ensures done { OnOk result (Follows (Substitutes gsub.now) set.old set.new) }
     ensures spends { limit.new ≤ limit.old }
-    ensures why { IfErr result (λ e. IsUsedUp limit.new e) }
+    ensures within { OnOk result (limit.old ≤ limit.new + (lookups_cost gsub.now)) }
+    ensures why { IfErr result (λ e. IsShort (lookups_cost gsub.now) limit.old limit.new e) }
 {
     let list = word(gsub, 8);
     let count = word(gsub, list);

@@ -3,7 +3,7 @@ ghost use Rattle.std.specs.Prelude.{◌≡◌, ◌⊎◌, ◌+◌, ◌-◌, ◌*
 ghost use Rattle.postscript_layout.specs.Numbers.{word as the_word, words as the_words};
 ghost use Rattle.postscript_layout.specs.Substitutions.{SubstitutesGlyph, part_of as the_part, reverse_offset as the_reverse_offset};
 ghost use Rattle.postscript_layout.specs.Steps.{Below, Follows, IsHeld, Makes, joins};
-ghost use Rattle.postscript_layout.specs.Refusals.{IsUsedUp};
+ghost use Rattle.postscript_layout.specs.Costs.{IsShort, glyph_cost, ligature_cost, substitutes_cost, total};
 
 use crate::error::Result;
 use crate::glyph_set::{GlyphSet, pay};
@@ -42,7 +42,8 @@ fn give_several(
     requires held { IsHeld set.old glyph }
     ensures done { OnOk result (Follows (Makes (glyph ∷ []) (the_words gsub.now (offset + 2) (the_word gsub.now offset))) set.old set.new) }
     ensures spends { limit.new ≤ limit.old }
-    ensures why { IfErr result (λ e. IsUsedUp limit.new e) }
+    ensures within { OnOk result (limit.old ≤ limit.new + (the_word gsub.now offset)) }
+    ensures why { IfErr result (λ e. IsShort (the_word gsub.now offset) limit.old limit.new e) }
 {
     let _ = glyph;
     let count = word(gsub, offset);
@@ -56,7 +57,8 @@ fn join(gsub: &[u8], offset: usize, glyph: usize, set: &mut GlyphSet, limit: &mu
     requires held { IsHeld set.old glyph }
     ensures done { OnOk result (Follows (joins gsub.now glyph offset) set.old set.new) }
     ensures spends { limit.new ≤ limit.old }
-    ensures why { IfErr result (λ e. IsUsedUp limit.new e) }
+    ensures within { OnOk result (limit.old ≤ limit.new + (the_word gsub.now (offset + 2) - 1)) }
+    ensures why { IfErr result (λ e. IsShort (the_word gsub.now (offset + 2) - 1) limit.old limit.new e) }
 {
     let _ = glyph;
     let components = word(gsub, offset + 2).saturating_sub(1);
@@ -81,7 +83,8 @@ fn join_each(
     requires held { IsHeld set.old glyph }
     ensures done { OnOk result (Follows (Below (λ k. joins gsub.now glyph (the_part gsub.now offset (offset + 2) k)) (the_word gsub.now offset)) set.old set.new) }
     ensures spends { limit.new ≤ limit.old }
-    ensures why { IfErr result (λ e. IsUsedUp limit.new e) }
+    ensures within { OnOk result (limit.old ≤ limit.new + (total (λ k. ligature_cost gsub.now (the_part gsub.now offset (offset + 2) k)) (the_word gsub.now offset))) }
+    ensures why { IfErr result (λ e. IsShort (total (λ k. ligature_cost gsub.now (the_part gsub.now offset (offset + 2) k)) (the_word gsub.now offset)) limit.old limit.new e) }
 {
     let count = word(gsub, offset);
     for k in 0..count {
@@ -136,7 +139,8 @@ fn follow_several(
     requires held { IsHeld set.old glyph }
     ensures done { OnOk result (Follows (SubstitutesGlyph gsub.now kind subtable i glyph) set.old set.new) }
     ensures spends { limit.new ≤ limit.old }
-    ensures why { IfErr result (λ e. IsUsedUp limit.new e) }
+    ensures within { OnOk result (limit.old ≤ limit.new + (substitutes_cost gsub.now kind subtable i)) }
+    ensures why { IfErr result (λ e. IsShort (substitutes_cost gsub.now kind subtable i) limit.old limit.new e) }
 {
     let _ = kind;
     if !has_offset(gsub, subtable, i) {
@@ -161,7 +165,8 @@ fn follow_ligatures(
     requires held { IsHeld set.old glyph }
     ensures done { OnOk result (Follows (SubstitutesGlyph gsub.now 4 subtable i glyph) set.old set.new) }
     ensures spends { limit.new ≤ limit.old }
-    ensures why { IfErr result (λ e. IsUsedUp limit.new e) }
+    ensures within { OnOk result (limit.old ≤ limit.new + (substitutes_cost gsub.now 4 subtable i)) }
+    ensures why { IfErr result (λ e. IsShort (substitutes_cost gsub.now 4 subtable i) limit.old limit.new e) }
 {
     if !has_offset(gsub, subtable, i) {
         return Ok(());
@@ -210,7 +215,8 @@ fn follow_held(
     requires held { IsHeld set.old glyph }
     ensures done { OnOk result (Follows (SubstitutesGlyph gsub.now kind subtable i glyph) set.old set.new) }
     ensures spends { limit.new ≤ limit.old }
-    ensures why { IfErr result (λ e. IsUsedUp limit.new e) }
+    ensures within { OnOk result (limit.old ≤ limit.new + (substitutes_cost gsub.now kind subtable i)) }
+    ensures why { IfErr result (λ e. IsShort (substitutes_cost gsub.now kind subtable i) limit.old limit.new e) }
 {
     match kind {
         1 => {
@@ -248,7 +254,8 @@ pub(crate) fn follow_glyph(
     requires glyph { glyph < 65536 }
     ensures done { OnOk result (Follows (SubstitutesGlyph gsub.now kind subtable i glyph) set.old set.new) }
     ensures spends { limit.new ≤ limit.old }
-    ensures why { IfErr result (λ e. IsUsedUp limit.new e) }
+    ensures within { OnOk result (limit.old ≤ limit.new + (glyph_cost gsub.now kind subtable i)) }
+    ensures why { IfErr result (λ e. IsShort (glyph_cost gsub.now kind subtable i) limit.old limit.new e) }
 {
     pay(limit)?;
     if !set.holds(glyph) {
