@@ -39,7 +39,7 @@ headed4 {cmap = cmap} at selector gs few log bits s =
     let at10 = stands_second (uint16 r) e 2 (length-uint16 r) at8 in
     let at12 = stands_second (uint16 selector) f 2 (length-uint16 selector) at10 in
     let range : number_at cmap (at + 8) 2 ≡ r =
-        moved cmap _ _ (at + 2 + 2 + 2 + 2) (at + 8) (omega arith) (uint16_stands r (omega (arith, most, few)) (stands_first (uint16 r) e at8)) in
+    moved cmap _ _ (at + 2 + 2 + 2 + 2) (at + 8) (omega arith) (uint16_stands r (omega (arith, most, few)) (stands_first (uint16 r) e at8)) in
     let logarithm : number_at cmap (at + 10) 2 ≡ selector = moved cmap _ _ (at + 2 + 2 + 2 + 2 + 2) (at + 10) (omega arith)
     (uint16_stands selector (omega (arith, bits)) (stands_first (uint16 selector) f at10)) in
     let shift : number_at cmap (at + 12) 2 ≡ n * 2 - r = moved cmap _ _ (at + 2 + 2 + 2 + 2 + 2 + 2) (at + 12) (omega arith)
