@@ -51,6 +51,8 @@ def give(kept, crate):
 def main():
     os.chdir(TOP)
     rt = toolchain()
+    if not hasattr(rt, "Kept"):
+        sys.exit("libraries.py: this version of rt keeps nothing between runs of rt ci")
     rt.Crate.cuts_libraries, rt.Crate.allowed = True, rt.handles_of(str(TOP))
     crates = rt.crates_of(str(TOP))
     kept = rt.Kept(crates)

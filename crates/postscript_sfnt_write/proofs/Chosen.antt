@@ -8,11 +8,13 @@ use Rattle.postscript_sfnt.specs.Maps.{IsMapAt, IsWhole}
 use Rattle.postscript_sfnt.specs.declared.character_map.CharacterMap.{CharacterMap}
 use Rattle.postscript_sfnt.specs.declared.character_map.CharacterMap.TheVariants.{Segments, Groups, Trimmed}
 use Rattle.postscript_sfnt_write.specs.Grouping.{MappingsFit, AreBelow, GroupsFit, IsLarge, IsSmall, encoding_text, end, format12_text, groups, head4_text, large_text, rows_text, small_text}
+use Rattle.postscript_sfnt_write.specs.Headers.{HasHeader12, HasHeader4, HaveHeaders}
 use Rattle.postscript_sfnt_write.specs.Mappings.{AreTold, CharsRise, IsGlyphIn, IsReadable, Tells}
 use Rattle.postscript_sfnt_write.specs.Numbers.{uint16, uint32}
 use Rattle.postscript_sfnt_write.specs.declared.mapping.Group.{Group}
 use Rattle.postscript_sfnt_write.specs.declared.mapping.Mapping.{Mapping}
 use Rattle.postscript_sfnt_write.proofs.Groups.{Say, say}
+use Rattle.postscript_sfnt_write.proofs.Headed.{headed12, headed4, length-format12}
 use Rattle.postscript_sfnt_write.proofs.Mapped.{are12, header12, told_glyph}
 use Rattle.postscript_sfnt_write.proofs.Mapped4.{are4, end_rises, length-rows_text, low_groups, low_with_end, map4, without_end}
 use Rattle.postscript_sfnt_write.proofs.Standing.{Stands, length-uint16, stands_dropped, stands_first, stands_second, uint16_stands, uint32_stands}
@@ -214,6 +216,7 @@ readable cmap at taken w = record { i = taken.i; chosen = taken.chosen; whole = 
 pub record Answer (cmap : List ℕ) (ms : List Mapping) : Type 0 where
   pub read : IsReadable cmap
   pub told : AreTold cmap ms
+  pub headers : HaveHeaders cmap
 
 tells4 : (table : List ℕ) (ms : List Mapping) (n : ℕ) (map : CharacterMap) → number_at table 0 2 ≡ 4 → number_at table 6 2 / 2 ≡ n →
     ((char glyph : ℕ) → IsGlyphOf (first4 table n) (last4 table) (gives4 table n) n char glyph → IsGlyphIn ms char glyph) →
@@ -254,6 +257,23 @@ length-small : length small_text ≡ 20
 unfolding small_text encoding_text uint16 uint32
 length-small = refl
 
+two_headers : {cmap : List ℕ} → Two cmap → HasHeader4 cmap 20 → HaveHeaders cmap
+two_headers {cmap = cmap} it head zero less = inl (subst (HasHeader4 cmap) (sym (placed 0 4 0 3 20 refl it.first)) head)
+two_headers {cmap = cmap} it head (suc zero) less = inl (subst (HasHeader4 cmap) (sym (placed 1 12 3 1 20 refl it.second)) head)
+two_headers {cmap = cmap} it head (suc (suc i)) less = let many = it.counted in absurd (omega (arith, less, many))
+
+four_headers : {cmap : List ℕ} (behind : ℕ) → Four cmap behind → HasHeader4 cmap 36 → HasHeader12 cmap behind → HaveHeaders cmap
+four_headers {cmap = cmap} behind it head last zero less =
+    inl (subst (HasHeader4 cmap) (sym (placed 0 4 0 3 36 refl it.first)) head)
+four_headers {cmap = cmap} behind it head last (suc zero) less =
+    inr (subst (HasHeader12 cmap) (sym (placed 1 12 0 4 behind refl it.second)) last)
+four_headers {cmap = cmap} behind it head last (suc (suc zero)) less =
+    inl (subst (HasHeader4 cmap) (sym (placed 2 20 3 1 36 refl it.third)) head)
+four_headers {cmap = cmap} behind it head last (suc (suc (suc zero))) less =
+    inr (subst (HasHeader12 cmap) (sym (placed 3 28 3 10 behind refl it.fourth)) last)
+four_headers {cmap = cmap} behind it head last (suc (suc (suc (suc i)))) less =
+    let many = it.counted in absurd (omega (arith, less, many))
+
 pub small_answer : (cmap : List ℕ) (gs : List Group) (ms : List Mapping) → CharsRise ms → AreBelow ms → gs ≡ groups (ms ++ end ∷ []) →
     length gs < 8002 → MappingsFit (ms ++ end ∷ []) → IsSmall cmap gs → Answer cmap ms
 small_answer cmap gs ms rise below is few fit text =
@@ -272,6 +292,8 @@ small_answer cmap gs ms rise below is few fit text =
       told = λ i map chosen at. tells4 (drop 20 cmap) ms (length gs) map m.format m.counted
           (λ char glyph of. without_end ms char glyph (told_glyph _ _ _ (length gs) gs (ms ++ end ∷ []) char glyph are says fit of))
           cmap (place_at cmap i) (ap (λ k. drop k cmap) (taken.alone i chosen)) at;
+      headers = two_headers (two (stands_first small_text body s))
+          (headed4 20 text.selector gs few text.selected text.few_bits (stands_second small_text body 20 length-small s));
     }
 
 length-large : (behind : ℕ) → length (large_text behind) ≡ 36
@@ -308,4 +330,9 @@ large_answer cmap low gs ms rise is few small fit fits text =
       told = λ i map chosen at. tells12 (drop behind cmap) ms map h.format
           (λ char glyph of. told_glyph _ _ _ (number_at (drop behind cmap) 12 4) gs ms char glyph are says fit of)
           cmap (place_at cmap i) (ap (λ k. drop k cmap) (taken.alone i chosen)) at;
+      headers = four_headers behind (four behind (omega (arith, few)) (stands_first (large_text behind) (head ++ body) s))
+          (headed4 36 text.selector low few text.selected text.few_bits (stands_first head body at36))
+          (headed12 behind gs small (subst (λ k. Stands body cmap k) on there) (ap length text.text
+          ∙ length-append (large_text behind) (head ++ body) ∙ (let a = length-large behind in let b = length-append head body in
+          let c = length-format12 gs in omega (arith, a, b, c, long))));
     }

@@ -8,4 +8,5 @@ pub mod Measuring
 pub mod Groups
 pub mod Mapped
 pub mod Mapped4
+pub mod Headed
 pub mod Chosen

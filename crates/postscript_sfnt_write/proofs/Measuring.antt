@@ -85,9 +85,8 @@ told bytes metrics text fit i m e =
     }
 
 pub tells_advances : (bytes : List ℕ) (metrics : List Metric) → bytes ≡ metrics_text metrics → MetricsFit metrics → TellsAdvances bytes metrics
-tells_advances bytes metrics text fit hhea advances word of i m e =
-    let less : i < length metrics = metric_below metrics i m e in
-    let count : advances.count ≡ length metrics = of.told.counted.value ∙ sym word.value in
+tells_advances bytes metrics text fit hhea n advances word few of i m less e =
+    let count : advances.count ≡ n = of.told.counted.value ∙ sym word.value in
     let here : number_at bytes (i * 4) 2 ≡ m.advance = (told bytes metrics text fit i m e).advance in
     let yes : nat_lt i advances.count ≡ true = lt-ltb i advances.count (omega (arith, less, count)) in
     ap (λ (xs : List ℕ). advance_of xs advances.count i) of.lent
@@ -97,9 +96,9 @@ pub tells_bearings : (bytes : List ℕ) (metrics : List Metric) → bytes ≡ me
 tells_bearings bytes metrics text fit i m e = ap (two_sided 32768) (told bytes metrics text fit i m e).bearing ∙ (fit i m e).bearing
 
 pub can_be_read : (bytes : List ℕ) (metrics : List Metric) → bytes ≡ metrics_text metrics → CanBeRead bytes metrics
-can_be_read bytes metrics text hhea word some =
+can_be_read bytes metrics text hhea n word some few =
     let long : length bytes ≡ length metrics * 4 = ap length text ∙ length-metrics_text metrics in
-    record { counted = word; some = some; room = omega (arith, long) }
+    record { counted = word; some = some; room = omega (arith, long, few) }
 
 -- a table with another number
 pub has_word : (place n : ℕ) (old new : List ℕ) → place + 2 ≤ length old → n < 2 ^ 16 →

@@ -1,5 +1,6 @@
 -- Groups of characters as they are written: private contracts and proofs alone name this.
 use Rattle.std.specs.Prelude.{◌≡◌, ℕ, ◌+◌, ◌-◌, ◌*◌, ◌%◌, ◌^◌, ◌<◌, ◌==◌, ◌&&◌, Bool, if◌then◌else◌, List, [], ◌∷◌, ◌++◌, Some, length, slice_get}
+use Rattle.postscript_sfnt_write.specs.Headers.{IsLogarithm}
 use Rattle.postscript_sfnt_write.specs.Mappings.{IsMapping}
 use Rattle.postscript_sfnt_write.specs.Numbers.{uint16, uint32}
 use Rattle.postscript_sfnt_write.specs.declared.mapping.Group.{Group}
@@ -90,6 +91,8 @@ small_text = uint16 0 ++ (uint16 2 ++ (encoding_text 0 3 20 ++ encoding_text 3 1
 
 pub record IsSmall (table : List ℕ) (segments : List Group) : Type 0 where
   pub selector : ℕ
+  pub selected : IsLogarithm (length segments) selector
+  pub few_bits : selector < 16
   pub text : table ≡ small_text ++ (head4_text (length segments) selector ++ rows_text segments)
 
 unfoldable pub large_text : (behind : ℕ) → List ℕ
@@ -98,6 +101,8 @@ large_text behind = uint16 0
 
 pub record IsLarge (table : List ℕ) (low all : List Group) : Type 0 where
   pub selector : ℕ
+  pub selected : IsLogarithm (length low) selector
+  pub few_bits : selector < 16
   pub text : table ≡ large_text (52 + length low * 8) ++ ((head4_text (length low) selector ++ rows_text low) ++ format12_text all)
 
 abbrev pub AreBelow : List Mapping → Type 0

@@ -3,6 +3,7 @@ pub mod Checksum
 pub mod Tables
 pub mod Files
 pub mod Mappings
+pub mod Headers
 pub mod Grouping
 pub mod Metrics
 pub mod Layout

@@ -1,5 +1,5 @@
 -- Metrics (ISO/IEC 14496-22, 5.2.3 `hhea`, 5.2.4 `hmtx`, 5.2.6 `maxp` and 5.2.8 `post`).
-use Rattle.std.specs.Prelude.{◌≡◌, ◌⊎◌, ℕ, ◌+◌, ◌*◌, ◌<◌, List, Some, length, take, drop, slice_get}
+use Rattle.std.specs.Prelude.{◌≡◌, ◌⊎◌, ℕ, ◌+◌, ◌*◌, ◌<◌, ◌≤◌, List, Some, length, take, drop, slice_get}
 use Rattle.postscript_sfnt.specs.Lent.{AreAdvancesOf, advance_in}
 use Rattle.postscript_sfnt.specs.Metrics.{HasAdvances, IsWord, signed}
 use Rattle.postscript_sfnt.specs.declared.metrics.Advances.{Advances}
@@ -11,14 +11,15 @@ use Rattle.postscript_sfnt_write.specs.declared.metrics.Metric.{Metric}
 abbrev pub IsMetric : List Metric → (glyph : ℕ) → Metric → Type 0
 IsMetric metrics glyph metric = slice_get metrics glyph ≡ Some metric
 
--- With a table `hhea` of that number of metrics the table has advances, unless there are none.
+-- An `hhea` table whose number of metrics is not 0 and not greater than the number here reads the table.
 abbrev pub CanBeRead : (hmtx : List ℕ) → List Metric → Type 0
-CanBeRead hmtx metrics = (hhea : List ℕ) → IsWord hhea 34 (length metrics) → 0 < length metrics → HasAdvances hhea hmtx (length metrics)
+CanBeRead hmtx metrics = (hhea : List ℕ) (n : ℕ) → IsWord hhea 34 n → 0 < n → n ≤ length metrics → HasAdvances hhea hmtx n
 
--- the advance that is read of each glyph is its own
+-- With such an `hhea` table, the advance of each glyph below that number is the given one. An `hhea` table can count up to 65,535 metrics.
 abbrev pub TellsAdvances : (hmtx : List ℕ) → List Metric → Type 0
-TellsAdvances hmtx metrics = (hhea : List ℕ) (advances : Advances) → IsWord hhea 34 (length metrics) → AreAdvancesOf hhea hmtx advances →
-    (glyph : ℕ) (metric : Metric) → IsMetric metrics glyph metric → advance_in advances glyph ≡ metric.advance
+TellsAdvances hmtx metrics = (hhea : List ℕ) (n : ℕ) (advances : Advances) → IsWord hhea 34 n → n ≤ length metrics →
+    AreAdvancesOf hhea hmtx advances →
+    (glyph : ℕ) (metric : Metric) → glyph < n → IsMetric metrics glyph metric → advance_in advances glyph ≡ metric.advance
 
 -- the left side bearing of each glyph stands behind its advance
 abbrev pub TellsBearings : (hmtx : List ℕ) → List Metric → Type 0

@@ -1,6 +1,7 @@
 //! Writes character maps (ISO/IEC 14496-22, 5.2.1).
 ghost use Rattle.std.specs.Prelude.{◌≡◌, ℕ, ◌+◌, ◌*◌, ◌^◌, ◌<◌, ◌≤◌, [], ◌∷◌, ◌++◌, List, length, IsTrue, ◌↔◌, OnOk, IfOk, IfErr};
 ghost use Rattle.postscript_sfnt_write.specs.Mappings.{AreTold, CharsRise, IsReadable, RefusesMap};
+ghost use Rattle.postscript_sfnt_write.specs.Headers.{HaveHeaders, IsLogarithm};
 ghost use Rattle.postscript_sfnt_write.specs.Grouping.{MappingsFit, AreBelow, MappingFits, GroupFits, GroupsFit, IsLarge, IsSmall, encoding_text, end, format12_text, goes_on as the_goes_on, group_of as the_group_of, group_text, grouped, groups as the_groups, groups_text, head4_text, large_text, row_number, row_text, rows_text};
 ghost use Rattle.postscript_sfnt_write.specs.declared.mapping.Mapping.{Mapping};
 
@@ -226,7 +227,7 @@ fn put_head4(out: &mut Vec<u8>, count: u16, selector: u32) -> std::result::Resul
 fn put_format4(out: &mut Vec<u8>, groups: &[Group]) -> std::result::Result<(), AllocError>
     requires some { 0 < length groups.now }
     requires most { length groups.now < 8002 }
-    ensures { OnOk result ((selector : ℕ)
+    ensures { OnOk result ((selector : ℕ) × IsLogarithm (length groups.now) selector × (selector < 16)
         × (out.new.items ≡ out.old.items ++ (head4_text (length groups.now) selector ++ rows_text groups.now))) }
 {
     let count = groups.len() as u16;
@@ -343,6 +344,7 @@ fn of_both(alloc: Global, mappings: &[Mapping]) -> std::result::Result<Vec<u8>, 
     requires room { 16 + length mappings.now * 12 < 2 ^ 32 }
     ensures read { IfOk result (λ cmap. IsReadable cmap.items) }
     ensures told { IfOk result (λ cmap. AreTold cmap.items mappings.now) }
+    ensures headers { IfOk result (λ cmap. HaveHeaders cmap.items) }
 {
     let low = low_segments(alloc, mappings)?;
     let all = groups(alloc, mappings)?;
@@ -364,6 +366,7 @@ fn of_segments(
     requires fit { MappingsFit (mappings.now ++ end ∷ []) }
     ensures read { IfOk result (λ cmap. IsReadable cmap.items) }
     ensures told { IfOk result (λ cmap. AreTold cmap.items mappings.now) }
+    ensures headers { IfOk result (λ cmap. HaveHeaders cmap.items) }
 {
     let table = small(alloc, segments)?;
     Ok(table)
@@ -384,6 +387,8 @@ pub fn cmap(alloc: Global, mappings: &[Mapping]) -> Result<Vec<u8>>
     ensures read { IfOk result (λ cmap. IsReadable cmap.items) }
     // That subtable maps each character to its given glyph, and all others to 0.
     ensures told { IfOk result (λ cmap. AreTold cmap.items mappings.now) }
+    // Each subtable has its length, the language 0 and, in format 4, its search fields.
+    ensures headers { IfOk result (λ cmap. HaveHeaders cmap.items) }
     // A success means that the characters are in strictly ascending order.
     ensures rise { OnOk result (CharsRise mappings.now) }
     // An error is justified by the order or the number of characters, or it is `Memory`.

@@ -35,9 +35,9 @@ fn put_metric(out: &mut Vec<u8>, metric: Metric) -> std::result::Result<(), Allo
 pub fn hmtx(alloc: Global, metrics: &[Metric]) -> std::result::Result<Vec<u8>, AllocError>
     // The table has four bytes for each glyph.
     ensures size { IfOk result (λ table. length table.items ≡ length metrics.now * 4) }
-    // With an `hhea` table of this number of metrics it can be read, unless there are none.
+    // It can be read with an `hhea` table that counts at least one metric and at most these.
     ensures read { IfOk result (λ table. CanBeRead table.items metrics.now) }
-    // The advance width that is read for each glyph is the given one.
+    // With it, the advance width of each counted glyph is the given one.
     ensures advances { IfOk result (λ table. TellsAdvances table.items metrics.now) }
     // The left side bearing of each glyph follows its advance width.
     ensures bearings { IfOk result (λ table. TellsBearings table.items metrics.now) }

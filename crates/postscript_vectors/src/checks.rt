@@ -1,4 +1,6 @@
 //! How a test fails, and the bytes and texts that tests compare.
+ghost use Rattle.std.specs.Prelude.{IsTrue};
+
 use postscript::{Result, Tape, Value, Walue};
 use std::alloc::Global;
 use std::fmt::Display;
@@ -9,14 +11,20 @@ use std::process::Abort;
 pub type Wanted<T> = std::result::Result<T, u8>;
 
 /// Fails the test if a fact does not hold, and names the fact.
-pub fn holds<R: Abort>(rt: &R, is_so: bool, fact: &str) {
+pub fn holds<R: Abort>(rt: &R, is_so: bool, fact: &str)
+    // If it returns, the fact holds.
+    ensures { IsTrue is_so }
+{
     if !is_so {
         rt.panic(fact)
     }
 }
 
 /// Fails the test if a fact does not hold, and names the row.
-pub fn holds_at<R: Abort>(rt: &R, is_so: bool, place: &str, number: usize) {
+pub fn holds_at<R: Abort>(rt: &R, is_so: bool, place: &str, number: usize)
+    // If it returns, the fact holds.
+    ensures { IsTrue is_so }
+{
     if !is_so {
         panic!(rt; "at {place} {number}")
     }

@@ -1,25 +1,23 @@
 use Rattle.std.proofs.Common.{◌∙◌, ap, length, arith}
-use Rattle.postscript_sfnt_write.proofs.Chosen.{large_answer}
+use Rattle.postscript_sfnt_write.proofs.Chosen.{Answer, large_answer}
 use Rattle.postscript_sfnt_write.proofs.mapping.of_both.Goals as goal
 
-pub returns-clause-read : goal.returns-clause-read
-returns-clause-read c =
+answer : (c : goal.After-drop-low-2) → Answer c.in_ok-table.table.items c.args.mappings.now
+answer c =
     let low = ap length c.as_slice.ensures.value in
     let most = c.in_ok-low.ensures.most in
     let all = ap length c.as_slice-2.ensures.value in
     let few = c.in_ok-all.ensures.few in
     let room = c.requires.room in
-    (large_answer c.in_ok-table.table.items c.as_slice.result.now c.as_slice-2.result.now c.args.mappings.now c.requires.rise
+    large_answer c.in_ok-table.table.items c.as_slice.result.now c.as_slice-2.result.now c.args.mappings.now c.requires.rise
     (c.as_slice-2.ensures.value ∙ c.in_ok-all.ensures.exact) (omega (arith, low, most))
-    (omega (arith, all, few, room)) c.in_ok-all.ensures.fit c.in_ok-table.ensures.fit c.in_ok-table.ensures.text).read
+    (omega (arith, all, few, room)) c.in_ok-all.ensures.fit c.in_ok-table.ensures.fit c.in_ok-table.ensures.text
+
+pub returns-clause-read : goal.returns-clause-read
+returns-clause-read c = (answer c).read
 
 pub returns-clause-told : goal.returns-clause-told
-returns-clause-told c =
-    let low = ap length c.as_slice.ensures.value in
-    let most = c.in_ok-low.ensures.most in
-    let all = ap length c.as_slice-2.ensures.value in
-    let few = c.in_ok-all.ensures.few in
-    let room = c.requires.room in
-    (large_answer c.in_ok-table.table.items c.as_slice.result.now c.as_slice-2.result.now c.args.mappings.now c.requires.rise
-    (c.as_slice-2.ensures.value ∙ c.in_ok-all.ensures.exact) (omega (arith, low, most))
-    (omega (arith, all, few, room)) c.in_ok-all.ensures.fit c.in_ok-table.ensures.fit c.in_ok-table.ensures.text).told
+returns-clause-told c = (answer c).told
+
+pub returns-clause-headers : goal.returns-clause-headers
+returns-clause-headers c = (answer c).headers

@@ -11,3 +11,6 @@ returns-clause-read c = (answer c).read
 
 pub returns-clause-told : goal.returns-clause-told
 returns-clause-told c = (answer c).told
+
+pub returns-clause-headers : goal.returns-clause-headers
+returns-clause-headers c = (answer c).headers
