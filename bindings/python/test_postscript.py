@@ -177,7 +177,7 @@ class Small(Case):
             e = caught.exception
             return e.status, e.glyph, e.cause, str(e)
 
-        self.assertEqual(refusal(lambda: self.font.subset([])), (Status.NO_GLYPHS, None, None, "no glyphs are named"))
+        self.assertEqual(refusal(lambda: self.font.subset([])), (Status.NO_GLYPHS, None, None, "the list of glyphs is empty"))
         self.assertEqual(refusal(lambda: self.font.subset([1, 4], True)), (Status.NO_GLYPH, 4, None, "glyph 4: no such glyph"))
         # the code of the glyph A is spoiled: it returns
         spoiled = Font(self.font.cff.replace(b"\x8b\x16\xf7", b"\x0b\x16\xf7"))
@@ -443,7 +443,7 @@ class Accented(Case):
         # glyph 2 is 0 0 65 65 endchar
         font = Font(CID.replace(bytes.fromhex("92211d160e"), bytes.fromhex("8b8bcccc0e")) + bytes.fromhex("0000000101"))
         self.undrawn(Status.NO_ACCENTS, font[2])
-        self.assertEqual(str(Error(Status.NO_ACCENTS)), "a CID-keyed font has no accented glyphs")
+        self.assertEqual(str(Error(Status.NO_ACCENTS)), "a seac glyph in a CID-keyed font, which has no glyph names")
 
     def test_a_run_that_takes_too_long(self):
         font = Font(nested())

@@ -21,7 +21,7 @@ pub type Result<T> = core::result::Result<T, Error>;
 /// # use postscript::{Error, Font};
 /// let error = Font::from_file(b"no font", 0).unwrap_err();
 /// assert_eq!(error, Error::UnknownFile);
-/// assert_eq!(error.to_string(), "no OpenType file");
+/// assert_eq!(error.to_string(), "not an OpenType file");
 /// ```
 #[derive(Clone, Copy, Debug, PartialEq, Eq, Hash)]
 #[non_exhaustive]

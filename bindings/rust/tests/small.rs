@@ -345,7 +345,7 @@ fn accented_glyphs_that_are_not_drawn() {
     let font = Font::from_table(&bytes).unwrap();
     assert_eq!(font.outline(2), Err(Error::NoAccents));
     assert_eq!(font.tight_bounds(2), Err(Error::NoAccents));
-    assert_eq!(Error::NoAccents.to_string(), "a CID-keyed font has no accented glyphs");
+    assert_eq!(Error::NoAccents.to_string(), "a seac glyph in a CID-keyed font, which has no glyph names");
     assert_eq!(Error::NestedAccent.status(), 50);
 }
 
@@ -374,7 +374,7 @@ fn a_run_that_takes_too_long() {
     assert_eq!(font.operations(0), Err(Error::TooLong));
     let unwritten = (font.with_limit(1000).flat(), font.with_limit(1000).subset(&[0]));
     assert!(matches!(unwritten, (Err(flat), Err(subset)) if flat.error == Error::TooLong && subset == flat));
-    assert_eq!(Error::TooLong.to_string(), "the run takes longer than the limit");
+    assert_eq!(Error::TooLong.to_string(), "the limit is used up");
 }
 
 /// Each beginning of the table, and each table with one byte changed, is opened and drawn, or refused.

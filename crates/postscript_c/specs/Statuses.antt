@@ -1,8 +1,8 @@
--- What statuses say.
+-- The text of each status.
 use Rattle.std.specs.Prelude.{◌≡◌, ◌⊎◌, ℕ, ℤ, pos, negsuc, List, [], ◌∷◌, Option, Some, None, codes, slice_get}
 use Rattle.postscript_c.specs.Texts.{HandsOver, Lent}
 
--- the texts of the statuses, from 0 to 69
+-- the texts of statuses 0 to 69
 abbrev pub texts : List (List ℕ)
 texts =
     codes "done" ∷
@@ -37,50 +37,50 @@ texts =
     codes "found too many stems" ∷
     codes "the program has failed before" ∷
     codes "no such glyph" ∷
-    codes "the room is too small" ∷
-    codes "the file is cut" ∷
-    codes "no OpenType file" ∷
-    codes "there is no such face" ∷
+    codes "the buffer is too small" ∷
+    codes "the file ends early" ∷
+    codes "not an OpenType file" ∷
+    codes "no such face" ∷
     codes "the face has no such table" ∷
-    codes "no character map is read" ∷
+    codes "no readable character map" ∷
     codes "the glyph has no name" ∷
     codes "no such status" ∷
-    codes "the run of a glyph is refused" ∷
-    codes "the font set has not one font" ∷
-    codes "a glyph has no font dictionary" ∷
-    codes "no glyphs are named" ∷
-    codes "a status that is not answered" ∷
-    codes "the font is too large to be written" ∷
-    codes "the run takes longer than the limit" ∷
-    codes "an accented glyph names no codes" ∷
-    codes "a CID-keyed font has no accented glyphs" ∷
-    codes "no glyph is the base or the accent" ∷
-    codes "the base or the accent is accented itself" ∷
+    codes "the charstring of a glyph has an error" ∷
+    codes "the table does not contain exactly one font" ∷
+    codes "a glyph has no Font DICT" ∷
+    codes "the list of glyphs is empty" ∷
+    codes "an unused status" ∷
+    codes "the font is too large to write" ∷
+    codes "the limit is used up" ∷
+    codes "the base and the accent of a seac glyph are not character codes" ∷
+    codes "a seac glyph in a CID-keyed font, which has no glyph names" ∷
+    codes "no glyph has the name of the base or the accent" ∷
+    codes "the base or the accent is itself a seac glyph" ∷
     codes "no such axis" ∷
     codes "no such named instance" ∷
-    codes "there are more coordinates than axes" ∷
-    codes "the table fvar is cut" ∷
-    codes "the table fvar is of no known format" ∷
-    codes "the table avar is cut" ∷
-    codes "the table avar is of no known format" ∷
-    codes "the table HVAR is cut" ∷
-    codes "the table HVAR is of no known format" ∷
-    codes "the tables hhea and hmtx tell no advances" ∷
-    codes "the table CFF2 has no header" ∷
-    codes "the table CFF2 is of another version than 2" ∷
-    codes "the table CFF2 has no Top DICT" ∷
-    codes "the table CFF2 has no global subroutines" ∷
-    codes "an operator of the Top DICT of CFF2 tells no offset" ∷
-    codes "an INDEX that the Top DICT of CFF2 names does not stand" ∷
-    codes "FDSelect of the table CFF2 does not stand" ∷
-    codes "the variation store of the table CFF2 does not stand" ∷
-    codes "item variation data of the table CFF2 do not stand" ∷ []
+    codes "more coordinates than axes" ∷
+    codes "the fvar table ends early" ∷
+    codes "the fvar table has an unknown format" ∷
+    codes "the avar table ends early" ∷
+    codes "the avar table has an unknown format" ∷
+    codes "the HVAR table ends early" ∷
+    codes "the HVAR table has an unknown format" ∷
+    codes "the hhea and hmtx tables are truncated" ∷
+    codes "the header of the CFF2 table is missing or truncated" ∷
+    codes "the major version of the CFF2 table is not 2" ∷
+    codes "the Top DICT of the CFF2 table is truncated" ∷
+    codes "the Global Subr INDEX of the CFF2 table is malformed" ∷
+    codes "the Top DICT of the CFF2 table lacks an offset" ∷
+    codes "an INDEX of the CFF2 table is malformed" ∷
+    codes "FDSelect of the CFF2 table is malformed" ∷
+    codes "the item variation store of the CFF2 table is malformed" ∷
+    codes "item variation data of the CFF2 table are missing" ∷ []
 
 abbrev pub text_of : (status : ℤ) → Option (List ℕ)
 text_of (pos n) = slice_get texts n
 text_of (negsuc n) = None
 
--- the text of a status is handed over, or it has none
+-- the text of a status is copied to the buffer, or the status has none
 abbrev pub TellsText : (of status : ℤ) → (old new : Lent ℕ) → Type 0
 TellsText of status old new =
     ((text : List ℕ) × (text_of of ≡ Some text) × HandsOver text status old new)

@@ -23,25 +23,25 @@ pub enum Error {
     #[error("{0}")]
     Font(Cause),
     /// The sink takes no more segments.
-    #[error("no more segments are taken")]
+    #[error("the sink takes no more segments")]
     Full,
     /// The limit is used up before the end.
-    #[error("the run takes longer than the limit")]
+    #[error("the limit is used up")]
     TooLong,
     /// The font has no glyph with this index, or `FDSelect` gives it no Font DICT of the font.
     #[error("there is no glyph {0}")]
     NoSuchGlyph(usize),
     /// The `endchar` of a glyph has four operands, but the last two are not both codes.
-    #[error("an accented glyph names no codes")]
+    #[error("the base and the accent of a seac glyph are not character codes")]
     NoCode,
     /// A `seac` glyph is in a CID-keyed font, whose glyphs have no names.
-    #[error("a CID-keyed font has no accented glyphs")]
+    #[error("a seac glyph in a CID-keyed font, which has no glyph names")]
     NoAccents,
     /// No glyph of the font has the name that this code has in the standard encoding.
-    #[error("there is no glyph of the code {0}")]
+    #[error("no glyph has the name of code {0} in the standard encoding")]
     MissingComponent(u8),
     /// The glyph with this code is a component of a `seac` glyph, and is a `seac` glyph itself.
-    #[error("the glyph of the code {0} is accented itself")]
+    #[error("the glyph for code {0} is itself a seac glyph")]
     NestedAccent(u8),
 }
 

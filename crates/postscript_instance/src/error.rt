@@ -18,7 +18,7 @@ pub enum Error {
     Font(Cause),
     /// A stem operator or a mask has more than 48 numbers before it, including the width (Technical Note 5177, Appendix
     /// B).
-    #[error("an operator has more operands than a stack of 48 holds")]
+    #[error("an operator has more than 48 operands")]
     TooManyOperands,
     /// A width is given, but the first operator is a line or a curve, which cannot have one (Technical Note 5177, "Type
     /// 2 Charstring Organization").
@@ -26,29 +26,29 @@ pub enum Error {
     NoMove,
     /// A point or the edge of a stem does not fit into 16.16 bits, as it is or rounded. Or the rounded distance to it
     /// does not (Technical Note 5177, "Charstring Number Encoding").
-    #[error("in whole units something leads out of the range of 16 bits")]
+    #[error("a coordinate does not fit into 16 bits")]
     TooFar,
     /// There is no glyph with this number, or its Font DICT is missing or malformed.
     #[error("there is no glyph {0}")]
     NoGlyph(usize),
     /// The item variation data with this number are missing or truncated.
-    #[error("there are no item variation data {0}")]
+    #[error("item variation data {0} are missing")]
     NoData(usize),
     /// The advance width of a glyph is not from 0 to 32767.
     #[error("the advance of glyph {0} is not from 0 to 32767")]
     Advance(usize),
     /// The number of names is not the number of glyphs.
-    #[error("there are not as many names as glyphs")]
+    #[error("the number of names is not the number of glyphs")]
     OtherNames,
     /// Glyph names are given, but the font does not have exactly one Font DICT. A font with glyph names has one Private
     /// DICT.
-    #[error("glyphs with names have one font dictionary, and this font has not one")]
+    #[error("glyph names need exactly one Font DICT")]
     NotOneDictionary,
     /// The font is too large: it has too many glyphs, names, Font DICTs or bytes.
     #[error("the font is too large")]
     TooLarge,
     /// The written font is not read back as the intended font.
-    #[error("what was written is not read back")]
+    #[error("the written font does not read back as intended")]
     NotReadBack,
 }
 

@@ -12,22 +12,22 @@ pub type Result<T> = std::result::Result<T, Error>;
 #[derive(Clone, Copy, Debug, Drop, PartialEq, Eq, Error)]
 pub enum Error {
     /// Out of memory.
-    #[error("memory was refused")]
+    #[error("out of memory")]
     Memory,
     /// The table is truncated.
-    #[error("the table is cut")]
+    #[error("the table ends early")]
     Cut,
     /// The characters are not in strictly ascending order.
-    #[error("the characters do not rise")]
+    #[error("the characters are not in ascending order")]
     CharactersDoNotRise,
     /// The tags of the tables are not in strictly ascending order.
-    #[error("the tags of the tables do not rise")]
+    #[error("the table tags are not in ascending order")]
     TagsDoNotRise,
     /// There are 4,096 tables or more: `searchRange` is too small for them.
-    #[error("there are too many tables")]
+    #[error("too many tables")]
     TooManyTables,
     /// The file or the table would have 2^32 bytes or more.
-    #[error("there are too many bytes")]
+    #[error("too many bytes")]
     TooLarge,
 }
 

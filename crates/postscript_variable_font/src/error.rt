@@ -15,7 +15,7 @@ pub enum Error {
     #[error("out of memory")]
     Memory,
     /// The item variation data with this number are missing or truncated.
-    #[error("there are no item variation data {0}")]
+    #[error("item variation data {0} are missing")]
     MissingData(usize),
 }
 

@@ -20,13 +20,13 @@ pub enum Error {
     #[error("glyph {0}: {1}")]
     Glyph(usize, Cause),
     /// The font set does not have exactly one font.
-    #[error("the font set has not one font")]
+    #[error("the table does not contain exactly one font")]
     SeveralFonts,
     /// The font has no glyph with this number.
     #[error("there is no glyph {0}")]
     MissingGlyph(usize),
     /// FDSelect gives the glyph with this number no Font DICT of the font.
-    #[error("glyph {0} has no font dictionary")]
+    #[error("glyph {0} has no Font DICT")]
     MissingPart(usize),
     /// The charset has no SID or CID for the glyph with this number.
     #[error("glyph {0} has no name")]
@@ -36,11 +36,11 @@ pub enum Error {
     #[error("glyph {0}: its charstring has more than 65535 bytes without calls")]
     LongGlyph(usize),
     /// The list of glyphs is empty.
-    #[error("no glyphs are named")]
+    #[error("the list of glyphs is empty")]
     NoGlyphs,
     /// The font is too large. The limit is 2,000,000,000 bytes for the sum of the new charstrings, the names, the
     /// strings, and four times the size of the input.
-    #[error("the font is too large to be written")]
+    #[error("the font is too large to write")]
     TooLarge,
 }
 

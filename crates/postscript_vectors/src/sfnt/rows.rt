@@ -14,29 +14,29 @@ pub const COLLECTION: &str =
 
 /// Files, the number of a face, and the result of opening it: the number of its tables, or the error.
 pub const REFUSALS: &[(&str, usize, &str)] = &[
-    ("", 0, "the file is cut"),
-    ("4f5454", 0, "the file is cut"),
-    ("4f54544f 0000 0000 0000", 0, "the file is cut"),
+    ("", 0, "the file ends early"),
+    ("4f5454", 0, "the file ends early"),
+    ("4f54544f 0000 0000 0000", 0, "the file ends early"),
     (
         "4f54544f 0001 0000 0000 0000 68656164 00000000 0000003c 000000",
         0,
-        "the file is cut",
+        "the file ends early",
     ),
-    ("774f4646 0000 0000 0000 0000", 0, "no OpenType file"),
-    ("4f54544f", 1, "there is no such face"),
-    ("74746366 00010000 000000", 0, "the file is cut"),
-    ("74746366 00030000 00000001 00000010", 0, "no OpenType file"),
-    ("74746366 00010000 00000000", 0, "there is no such face"),
-    ("74746366 00010000 00000001 000000", 0, "the file is cut"),
-    ("74746366 00010000 00000001 00000010", 0, "the file is cut"),
+    ("774f4646 0000 0000 0000 0000", 0, "not an OpenType file"),
+    ("4f54544f", 1, "no such face"),
+    ("74746366 00010000 000000", 0, "the file ends early"),
+    ("74746366 00030000 00000001 00000010", 0, "not an OpenType file"),
+    ("74746366 00010000 00000000", 0, "no such face"),
+    ("74746366 00010000 00000001 000000", 0, "the file ends early"),
+    ("74746366 00010000 00000001 00000010", 0, "the file ends early"),
     (
         "74746366 00010000 00000001 00000010 74746366 0000 0000 0000 0000",
         0,
-        "no OpenType file",
+        "not an OpenType file",
     ),
     (COLLECTION, 0, "0"),
     (COLLECTION, 1, "0"),
-    (COLLECTION, 2, "there is no such face"),
+    (COLLECTION, 2, "no such face"),
 ];
 
 /// Names: the family for Macintosh, in German and in English; a style of Unicode; a typographic family past the end,
