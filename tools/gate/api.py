@@ -31,6 +31,7 @@ CRATES = (
     "postscript_drawing",
     "postscript_sfnt",
     "postscript_sfnt_write",
+    "postscript_layout",
     "postscript_variation",
     "postscript_cff2",
     "postscript_variable",

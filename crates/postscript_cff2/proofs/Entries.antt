@@ -58,13 +58,13 @@ lasts bytes operator (suc steps) place start found =
     by : (a b c : Bool) → last_from steps bytes operator (place + operand_size bytes place) start found
         ≡ last_of (entries_from steps bytes (place + operand_size bytes place) start) operator found →
         last_from steps bytes operator next next chosen ≡ last_of (entries_from steps bytes next next) operator chosen →
-      (if a then
-      (if b then (if c then found else last_from steps bytes operator next next chosen)
-      else last_from steps bytes operator (place + operand_size bytes place) start found)
-      else found) ≡ last_of (if a then
-      (if b then (if c then [] else one_at bytes place start ∷ entries_from steps bytes next next)
-      else entries_from steps bytes (place + operand_size bytes place) start)
-      else []) operator found
+        (if a then
+        (if b then (if c then found else last_from steps bytes operator next next chosen)
+        else last_from steps bytes operator (place + operand_size bytes place) start found)
+        else found) ≡ last_of (if a then
+        (if b then (if c then [] else one_at bytes place start ∷ entries_from steps bytes next next)
+        else entries_from steps bytes (place + operand_size bytes place) start)
+        else []) operator found
     by false b c x y = refl
     by true false c x y = x
     by true true true x y = refl

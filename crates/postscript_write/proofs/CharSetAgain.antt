@@ -1,5 +1,5 @@
 -- The char set of a font that is written is the one that it was to have.
-use Rattle.std.proofs.Common.{◌≡◌, ◌↔◌, refl, sym, ap, subst, ◌∙◌, inl, inr, ℕ, ◌+◌, ◌-◌, ◌≤◌, ◌<◌, List, length, get_or, drop, Option, Some, None, Bor, Vec, arith}
+use Rattle.std.proofs.Common.{◌≡◌, ◌↔◌, refl, sym, ap, subst, ◌∙◌, inl, inr, ℕ, ◌+◌, ◌-◌, ◌≤◌, ◌<◌, List, length, get_or, Option, Some, None, Bor, Vec, arith}
 use Rattle.std.specs.Option.{option_or}
 use Rattle.std.specs.Prelude.{All}
 use Rattle.std.specs.declared.alloc.Global.{Global}
@@ -24,6 +24,7 @@ use Rattle.postscript_write.specs.declared.strings.Strings.{Strings}
 use Rattle.postscript_write.proofs.CharSetsAgain.{names_same, stands_again}
 use Rattle.postscript_write.proofs.ListedAgain.{list_names, list_stands}
 use Rattle.postscript_write.proofs.NamedEnds.{offset_is, place_held, same_offset}
+use Rattle.postscript_write.proofs.OneCharSet.{EndsBytes}
 use Rattle.postscript_write.proofs.PlacesNamed.{named_by}
 use Rattle.postscript_write.proofs.TextsCut.{cut_length, cut_stands}
 
@@ -101,7 +102,7 @@ pub set_kept : (old : CharSetView) (bytes out : List ℕ) (map new : Dictionary)
     (place : ℕ) → IsCharSetOf old bytes map glyphs →
     look new CharSet ≡ option_or (named_by (place_of (piece_if CharSet char_set) place) CharSet) (look map CharSet) →
     All IsHeld (place_of (piece_if CharSet char_set) place) → 3 ≤ place → TextStands
-    (text_of char_set) out place → drop place out ≡ text_of char_set → IsOwnCharSet bytes map glyphs
+    (text_of char_set) out place → EndsBytes char_set out place → IsOwnCharSet bytes map glyphs
     (items_if char_set) → IsKept old out new glyphs
 set_kept old bytes out map new glyphs None place is look_is held past stands last own = record {
   some = (

@@ -1,5 +1,5 @@
 -- A char set of a font's own names the same glyphs where its text stands at the end of other bytes.
-use Rattle.std.proofs.Common.{◌≡◌, ◌↔◌, refl, sym, ap, subst, ◌∙◌, ◌⊎◌, inl, inr, ℕ, zero, suc, ◌+◌, ◌-◌, ◌*◌, ◌/◌, ◌≤◌, ◌<◌, List, [], ◌∷◌, ◌++◌, append-nil, length, take, drop, length-append, length-drop, Some, arith}
+use Rattle.std.proofs.Common.{◌≡◌, ◌↔◌, refl, false, sym, ap, subst, ◌∙◌, ◌⊎◌, inl, inr, ℕ, zero, suc, ◌+◌, ◌-◌, ◌*◌, ◌/◌, ◌≤◌, ◌<◌, List, [], ◌∷◌, ◌++◌, append-nil, length, take, drop, length-append, length-drop, Some, arith}
 use Rattle.std.proofs.lemmas.List.{drop-append-le, drop-drop}
 use Rattle.std.proofs.lemmas.Bool.{cases_lt}
 use Rattle.std.proofs.Math.Nat.{le-div_iff_mul-le}
@@ -10,9 +10,11 @@ use Rattle.postscript_view.specs.Naming.{NamesBehind}
 use Rattle.postscript_view.specs.declared.char_set.Identifiers.{Identifiers}
 use Rattle.postscript_view.specs.declared.char_set.Identifiers.TheVariants.{ISOAdobe, Expert, ExpertSubset, Listed, Ranges1, Ranges2}
 use Rattle.postscript_view.proofs.Covering.{covered_more}
+use Rattle.postscript_write.specs.Pieces.{is_listed}
 use Rattle.postscript_write.specs.Texts.{TextStands}
 use Rattle.postscript_write.specs.Whole.{CharSetEnds, RangesEnd}
 use Rattle.postscript_write.proofs.Moved.{number_moves, slice_moves}
+use Rattle.postscript_write.proofs.OneCharSet.{not_listed}
 use Rattle.postscript_write.proofs.Standing.{stands_within}
 use Rattle.postscript_write.proofs.TextsCut.{covered_cut}
 use Rattle.postscript_write.proofs.TextsEnd.{number_there}
@@ -128,18 +130,21 @@ ranges_same text bytes size glyphs glyph identifier s ends less =
         whole : bytes ≡ text
         whole = s.there ∙ nothing_behind text s.behind (all ∙ ap length s.there)
 
--- Two char sets stand at the ends of bytes, where their text is the same: they give each glyph the same identifier.
-module _ (text a b : List ℕ) (p q glyphs : ℕ) (sa : TextStands text a p) (sb : TextStands text b q) (last : drop q b ≡ text)
+-- Two charsets have the same text, and ranges end with the bytes: they give each glyph the same SID.
+module _ (text a b : List ℕ) (p q glyphs : ℕ) (sa : TextStands text a p) (sb : TextStands text b q)
+    (last : is_listed text ≡ false → drop q b ≡ text)
     (ends : CharSetEnds a glyphs p (p + length text)) where
-  rest_is : drop (q + 1) b ≡ drop 1 text
-  rest_is = sym (drop-drop 1 q b) ∙ ap (drop 1) last
-
   some : 1 ≤ length text
   some = by ends
     where
       by : CharSetEnds a glyphs p (p + length text) → 1 ≤ length text
       by (inl listed) = let e = listed.1 in omega (arith, e)
       by (inr ranges) = let e = ranges.6 in omega (arith, e)
+
+  rest_is : 1 ≤ number_at a p 1 → drop (q + 1) b ≡ drop 1 text
+  rest_is high =
+      let same = number_there text a p 0 1 p sa some (omega arith) in
+      sym (drop-drop 1 q b) ∙ ap (drop 1) (last (not_listed text some (omega (arith, high, same))))
 
   format : number_at b q 1 ≡ number_at a p 1
   format =
@@ -167,7 +172,7 @@ module _ (text a b : List ℕ) (p q glyphs : ℕ) (sa : TextStands text a p) (sb
           let long : ranges.1 ≡ length (drop 1 text) = let e = ranges.6 in omega (arith, e, length-drop 1 text) in
           let own = subst (λ n. RangesEnd (drop (p + 1) a) size (glyphs - 1) n) long
           (subst (λ n. RangesEnd (drop (p + 1) a) n (glyphs - 1) ranges.1) same ranges.5) in
-          subst (λ xs. IsNamed (drop (p + 1) a) size glyph identifier ↔ IsNamed xs size glyph identifier) (sym rest_is)
+          subst (λ xs. IsNamed (drop (p + 1) a) size glyph identifier ↔ IsNamed xs size glyph identifier) (sym (rest_is (omega (arith, is, least))))
           (ranges_same (drop 1 text) (drop (p + 1) a) size (glyphs - 1) glyph identifier behind own less)
 
   -- identifiers of two bytes each

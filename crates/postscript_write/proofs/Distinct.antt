@@ -1,15 +1,15 @@
 -- The places that a dictionary names are of different operators, and none is of ROS.
-use Rattle.std.proofs.Common.{◌≡◌, refl, sym, subst, ◌∙◌, inl, inr, ℕ, ◌+◌, List, [], ◌∷◌, ◌++◌, length, map, drop, Bool, true, false, Option, Some, None, Vec, if◌then◌else◌, arith}
+use Rattle.std.proofs.Common.{◌≡◌, take, refl, sym, subst, ◌∙◌, inl, inr, ℕ, ◌+◌, List, [], ◌∷◌, ◌++◌, length, map, drop, Bool, true, false, Option, Some, None, Vec, if◌then◌else◌, arith}
 use Rattle.std.specs.List.{Contains}
 use Rattle.std.specs.declared.alloc.Global.{Global}
 use Rattle.postscript_base.specs.Compact1.Dictionary.{Dictionary}
 use Rattle.postscript_base.specs.declared.compact1.operator.Operator.{Operator}
-use Rattle.postscript_base.specs.declared.compact1.operator.Operator.TheVariants.{Encoding, ROS}
+use Rattle.postscript_base.specs.declared.compact1.operator.Operator.TheVariants.{CharSet, Encoding, ROS}
 use Rattle.postscript_view.specs.declared.font.FontView.{FontView}
 use Rattle.postscript_write.specs.LaidOut.{StandardIsAlone}
 use Rattle.postscript_write.specs.Numbered.{IsEncodingFor}
 use Rattle.postscript_write.specs.Once.{AreDistinct}
-use Rattle.postscript_write.specs.Pieces.{Piece, named_places, piece_if, pieces_of, place_of, places, text_of}
+use Rattle.postscript_write.specs.Pieces.{Piece, is_listed, listed_set, named_places, piece_if, pieces_of, place_of, places, ranges_set, text_of}
 use Rattle.postscript_write.specs.Renumbered.{all_renamed}
 use Rattle.postscript_write.specs.declared.dictionaries.Place.{Place}
 use Rattle.postscript_write.specs.declared.layout.Glyphs.{Glyphs}
@@ -38,7 +38,7 @@ pub ros_not_renamed : (strings : Strings) (names : Dictionary) →
 ros_not_renamed strings names has = some_last (all_renamed strings names) ROS has (not_renamed strings names ROS refl)
 
 -- an operator that is none of these is not among them
-not_among : (q : Operator) (others : List Operator) → is_none_of q others ≡ true → Contains others q → ⊥
+pub not_among : (q : Operator) (others : List Operator) → is_none_of q others ≡ true → Contains others q → ⊥
 not_among q others none has = none_among q others none (among others q has)
 
 abbrev of_places : List Place → List Operator
@@ -77,6 +77,27 @@ distinct_places (p ∷ ps) start e =
         (λ has. not_among p.operator (of_pieces ps) other (place_among ps (start + length p.text) p.operator has), before)
     by false other before = before
 
+-- the pieces of a font, given those of its charset: an unnamed one has no place
+abbrev with_sets : (first last : Piece) → Glyphs → (char_strings privates dictionaries : List ℕ) (single : Bool) → List Piece
+with_sets first last glyphs char_strings privates dictionaries single =
+    let pieces : List Piece = pieces_of glyphs char_strings single privates dictionaries in
+    take 2 pieces ++ (first ∷ (take 3 (drop 3 pieces) ++ last ∷ []))
+
+abbrev no_piece : Piece
+no_piece = record { operator = ROS; named = false; counted = false; text = [] }
+
+distinct_all : (glyphs : Glyphs) (start : ℕ) (char_strings privates dictionaries : List ℕ) (single : Bool) (char_set : Option (Vec ℕ Global)) →
+    AreDistinct (of_places (places start (with_sets (piece_if CharSet (listed_set char_set)) (piece_if CharSet (ranges_set char_set))
+    glyphs char_strings privates dictionaries single)))
+distinct_all glyphs start char_strings privates dictionaries single None =
+    distinct_places (with_sets (piece_if CharSet None) no_piece glyphs char_strings privates dictionaries single) start refl
+distinct_all glyphs start char_strings privates dictionaries single (Some text) = by (is_listed text.items)
+  where
+    by : (b : Bool) → AreDistinct (of_places (places start (with_sets (piece_if CharSet (if b then Some text else None))
+        (piece_if CharSet (if b then None else Some text)) glyphs char_strings privates dictionaries single)))
+    by true = distinct_places (with_sets (piece_if CharSet (Some text)) no_piece glyphs char_strings privates dictionaries single) start refl
+    by false = distinct_places (with_sets no_piece (piece_if CharSet (Some text)) glyphs char_strings privates dictionaries single) start refl
+
 -- the places that the dictionary of a font names
 pub distinct_named : (glyphs : Glyphs) (start : ℕ) (char_strings privates dictionaries : List ℕ) (single : Bool) → StandardIsAlone glyphs →
     AreDistinct (map (λ place. place.operator)
@@ -90,7 +111,7 @@ distinct_named glyphs start char_strings privates dictionaries single alone = by
     others = drop 1 ps
 
     all : AreDistinct (map (λ place. place.operator) (places start ps))
-    all = distinct_places ps start refl
+    all = distinct_all glyphs start char_strings privates dictionaries single glyphs.char_set
 
     by : (b : Bool) → glyphs.standard ≡ b → AreDistinct (map (λ place. place.operator) (named_places glyphs.standard start ps))
     by false e = subst (λ b. AreDistinct (map (λ place. place.operator) (named_places b start ps))) (sym e) all

@@ -97,7 +97,7 @@ module _ {font : FontView} {glyphs : Glyphs} {codes : List (List ℕ)} {out : Li
       record {
         is = look_named Private (private_named w ∙ ap (λ ps. named_by ps Private) same) (record { private = λ has. let never = subst IsSome no_ros has in absurd (cc); select = λ _. (λ same. absurd (cc), λ same. absurd (cc)) })
             refl;
-        held = subst (All IsHeld) same (each_held w).1.1.1.0;
+        held = subst (All IsHeld) same (each_held w).1.1.1.1.0;
         own = own.each 0 part there;
         many = many;
         none = λ e. subst (λ m. first_two_of (look (unwrap_or m font.dictionary) Private) ≡ None) no_font (w.none_named 0 part there e);
@@ -117,7 +117,7 @@ module _ {font : FontView} {glyphs : Glyphs} {codes : List (List ℕ)} {out : Li
   -- FDArray names the font dictionaries
   pub array_there : IsSome glyphs.select → (look t.new FDArray ≡ Some (whole (pos (place w FDArray)) ∷ [])) × (place w FDArray < 2 ^ 31)
   array_there some =
-      let low = array_low glyphs.select w.put.dictionaries (place w FDArray) (each_held w).1.1.1.1.0 some in
+      let low = array_low glyphs.select w.put.dictionaries (place w FDArray) (each_held w).1.1.1.1.1.0 some in
       (own_look (named w) t.named t.new FDArray t.placed (array_named w ∙ low.0), low.1)
 
   keyed : (items : List (List ℕ)) → IsRead font → IsSome glyphs.select → IsSome (look font.dictionary ROS) →
@@ -135,7 +135,7 @@ module _ {font : FontView} {glyphs : Glyphs} {codes : List (List ℕ)} {out : Li
   pub char_strings_there : (look t.new CharStrings ≡ Some (whole (pos (place w CharStrings)) ∷ [])) × (place w CharStrings < 2 ^ 31)
   char_strings_there = (
     own_look (named w) t.named t.new CharStrings t.placed (char_strings_named w),
-    place_held CharStrings (place w CharStrings) (each_held w).1.1.0,
+    place_held CharStrings (place w CharStrings) (each_held w).1.1.1.0,
   )
 
   char_strings : IsRead font → AreCharStrings out t.new codes
@@ -192,7 +192,7 @@ laid_out font glyphs codes out w read exactly = record {
     names = refl;
     no_global = refl;
     dictionary = font_says glyphs.strings font.dictionary t.named t.new (named w) (places_are glyphs.standard w.put.start (pieces w)
-        (search rules, (search rules, (search rules, (search rules, (search rules, (search rules, tt)))))))
+        (search rules, (search rules, (search rules, (search rules, (search rules, (search rules, (search rules, tt))))))))
         t.renamed t.placed;
     parts = parts.like;
   };

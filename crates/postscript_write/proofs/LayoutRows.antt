@@ -1,14 +1,17 @@
--- Known texts and places of what is written (Technical Note 5176, sections 5, 10, 13 and 19).
-use Rattle.std.proofs.Common.{◌≡◌, refl, ap, ℕ, List, [], ◌∷◌, length, true, false}
+-- Known texts and offsets of a new font (Technical Note 5176, sections 5, 10, 13, 18 and 19).
+use Rattle.std.proofs.Common.{◌≡◌, refl, ap, ℕ, List, [], ◌∷◌, length, true, false, Vec, if◌then◌else◌, arith}
+use Rattle.postscript_write.proofs.Distinct.{not_among}
 use Rattle.postscript_write.proofs.Pieces.{behind_all, texts_in}
 use Rattle.std.specs.Prelude.{Option, Some, None, slice_index_or}
 use Rattle.std.specs.Option.{unwrap_or}
-use Rattle.postscript_base.specs.declared.compact1.operator.Operator.TheVariants.{CharSet, CharStrings, Encoding, FullName, Private}
-use Rattle.postscript_write.specs.Pieces.{Piece, place_at, places}
+use Rattle.std.specs.declared.alloc.Global.{Global}
+use Rattle.postscript_base.specs.declared.compact1.operator.Operator.TheVariants.{CharSet, CharStrings, Encoding, FullName, Private, ROS}
+use Rattle.postscript_write.specs.Once.{AreDistinct, HasNoLaterRos}
+use Rattle.postscript_write.specs.Pieces.{Piece, is_listed, listed_set, place_at, places, ranges_set}
 use Rattle.postscript_write.specs.NewStrings.{left_of, names_text}
 use Rattle.postscript_write.specs.Renumbered.{new_identifier, renamed}
 use Rattle.postscript_write.specs.Room.{index_room}
-use Rattle.postscript_write.specs.Selected.{listed_text, ranges_text}
+use Rattle.postscript_write.specs.Selected.{LiesInOne, listed_text, ranges_text}
 use Rattle.postscript_write.specs.Texts.{number_text}
 use Rattle.postscript_write.specs.declared.strings.Strings.{Strings}
 
@@ -62,3 +65,34 @@ one_behind_the_other : (e c p s : List ℕ) → length e ≡ 4 → length c ≡ 
     (places 100 pieces ≡ place_at Encoding 100 ∷ place_at CharStrings 104
     ∷ record { operator = Private; size = Some 12; offset = 134 } ∷ place_at CharSet 146 ∷ []) × (behind_all 100 (texts_in pieces) ≡ 153)
 one_behind_the_other e c p s is_e is_c is_p is_s = rw (is_e, is_c, is_p, is_s) (refl, refl)
+
+-- glyph 3 of the five lies in the second range, which begins with glyph 2
+third_in_second : LiesInOne (0 ∷ 0 ∷ 1 ∷ 1 ∷ 1 ∷ []) (0 ∷ 2 ∷ []) 5 3
+third_in_second = record { range = 1; there = omega arith; from = omega arith; to = omega arith; same = refl }
+
+-- a charset of the letters A and B: format 0 is before the charstrings, and format 1 is last
+letters_listed : (set : Vec ℕ Global) → set.items ≡ 0 ∷ 0 ∷ 34 ∷ 0 ∷ 35 ∷ [] → (listed_set (Some set) ≡ Some set) × (ranges_set (Some set) ≡ None)
+letters_listed set is = (
+  ap (λ (xs : List ℕ). if is_listed xs then Some set else None) is,
+  ap (λ (xs : List ℕ). if is_listed xs then None else Some set) is,
+)
+
+letters_in_a_range : (set : Vec ℕ Global) → set.items ≡ 1 ∷ 0 ∷ 34 ∷ 1 ∷ [] → (listed_set (Some set) ≡ None) × (ranges_set (Some set) ≡ Some set)
+letters_in_a_range set is = (
+  ap (λ (xs : List ℕ). if is_listed xs then Some set else None) is,
+  ap (λ (xs : List ℕ). if is_listed xs then None else Some set) is,
+)
+
+-- an operator that occurs twice, and ROS after another operator
+once_each : AreDistinct (ROS ∷ CharStrings ∷ Private ∷ [])
+once_each =
+    (not_among ROS (CharStrings ∷ Private ∷ []) refl, (not_among CharStrings (Private ∷ []) refl, (not_among Private [] refl, tt)))
+
+private_twice : AreDistinct (Private ∷ CharStrings ∷ Private ∷ []) → ⊥
+private_twice distinct = distinct.0 (1, omega arith, refl)
+
+ros_first : HasNoLaterRos (ROS ∷ CharStrings ∷ [])
+ros_first = not_among ROS (CharStrings ∷ []) refl
+
+ros_later : HasNoLaterRos (CharStrings ∷ ROS ∷ []) → ⊥
+ros_later first = first (0, omega arith, refl)

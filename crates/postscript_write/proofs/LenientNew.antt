@@ -211,20 +211,20 @@ module _ (flat : List ℕ) (old new : View) (laid : IsLaidOut flat 0 new) (heade
       let none = subst (λ (xs : List (List ℕ)). IsOpened flat t.strings_next xs t.next) repeats.no_global t.are_subroutines in
       none_opened flat ends.2.2.0 t.next (subst (λ p. IsOpened flat p [] t.next) (sym strings.end) none)
 
-  codes_named : HasFirst own_map CharStrings (pos whole.2.2.0)
-  codes_named = offset_first own_map CharStrings whole.2.2.0 whole.2.2.2.1.0
+  codes_named : HasFirst own_map CharStrings (pos whole.2.2.2.0)
+  codes_named = offset_first own_map CharStrings whole.2.2.2.0 whole.2.2.2.2.1.0
 
-  codes_at : whole.2.2.0 ≡ laid.char_strings.named.0
-  codes_at = one_first own_map CharStrings whole.2.2.0 laid.char_strings.named.0 codes_named laid.char_strings.named.1
+  codes_at : whole.2.2.2.0 ≡ laid.char_strings.named.0
+  codes_at = one_first own_map CharStrings whole.2.2.2.0 laid.char_strings.named.0 codes_named laid.char_strings.named.1
 
-  codes : Strict flat whole.2.2.0 new.char_strings whole.2.2.2.0 laid.char_strings.named.2.0
+  codes : Strict flat whole.2.2.2.0 new.char_strings whole.2.2.2.2.0 laid.char_strings.named.2.0
   codes =
       let named = laid.char_strings.named in
-      strict_as flat whole.2.2.0 named.0 whole.2.2.2.0 named.2.0 whole.2.2.2.1.1.0 new.char_strings codes_at
-      whole.2.2.2.1.1.1
+      strict_as flat whole.2.2.2.0 named.0 whole.2.2.2.2.0 named.2.0 whole.2.2.2.2.1.1.0 new.char_strings codes_at
+      whole.2.2.2.2.1.1.1
       named.2.2 codes_some
 
-  codes_place : IsPlace (0 + whole.2.2.0)
+  codes_place : IsPlace (0 + whole.2.2.2.0)
   codes_place = let at = codes_at in subst IsPlace (omega (arith, at)) laid.char_strings.named.2.1
 
   locals : (manner : _) → ((operands : Option Decimal) → operands ≡ None → IsLacking manner operands) →
@@ -287,15 +287,15 @@ module _ (flat : List ℕ) (old new : View) (laid : IsLaidOut flat 0 new) (heade
           are_parts = (
             local.1,
             record {
-              char_strings_next = whole.2.2.2.0;
+              char_strings_next = whole.2.2.2.2.0;
               encoding = is_encoding;
               char_strings = (
-                whole.2.2.0,
+                whole.2.2.2.0,
                 codes_named,
                 laid.char_strings.type,
                 codes_place,
                 subst
-                    (λ p. IsIndex flat p codes.index whole.2.2.2.0) (on whole.2.2.0) codes.is,
+                    (λ p. IsIndex flat p codes.index whole.2.2.2.2.0) (on whole.2.2.2.0) codes.is,
               );
               char_set = subst (λ n. HasCharSet flat 0 n own_map set) (sym (ap length codes.items_are)) is_set;
               locals = local.2;

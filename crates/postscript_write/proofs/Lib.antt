@@ -16,6 +16,7 @@ pub mod PlacesNamed
 pub mod RosFirst
 pub mod Distinct
 pub mod Pieces
+pub mod OneCharSet
 pub mod Put
 pub mod Lengths
 pub mod Room

@@ -1,5 +1,5 @@
 -- A font that is written has the names that it was to have.
-use Rattle.std.proofs.Common.{◌≡◌, ◌⊎◌, ◌↔◌, refl, sym, ap, subst, ◌∙◌, inl, inr, ℕ, zero, suc, ◌+◌, ◌-◌, ◌≤◌, ◌<◌, List, [], length, get_or, Option, Some, None, Bool, true, false, nat_lt, if◌then◌else◌, Vec, arith}
+use Rattle.std.proofs.Common.{◌≡◌, ◌⊎◌, ◌↔◌, refl, sym, ap, subst, ◌∙◌, inl, inr, ℕ, zero, suc, ◌+◌, ◌-◌, ◌<◌, List, [], length, get_or, Option, Some, None, Bool, true, false, nat_lt, if◌then◌else◌, Vec, arith}
 use Rattle.std.specs.Option.{is_some, unwrap_or}
 use Rattle.std.proofs.lemmas.List.{get_or_default}
 use Rattle.std.specs.Prelude.{All, Any, MatchBool}
@@ -7,7 +7,7 @@ use Rattle.std.specs.declared.alloc.Global.{Global}
 use Rattle.postscript_base.specs.Compact1.Defaults.{look}
 use Rattle.postscript_base.specs.Index.Lent.{items_of}
 use Rattle.postscript_base.specs.declared.compact1.operator.Operator.{Operator}
-use Rattle.postscript_base.specs.declared.compact1.operator.Operator.TheVariants.{CharSet, ROS}
+use Rattle.postscript_base.specs.declared.compact1.operator.Operator.TheVariants.{ROS}
 use Rattle.postscript_type2.specs.Program.Routines.{texts}
 use Rattle.postscript_view.specs.CharSets.{IsCharSetOf}
 use Rattle.postscript_view.specs.Contents.{View}
@@ -37,7 +37,7 @@ use Rattle.postscript_write.proofs.NamedAgain.{same_operands}
 use Rattle.postscript_write.proofs.ReadAgain.{one_view}
 use Rattle.postscript_view.specs.Layout.{IsLaidOut}
 use Rattle.postscript_write.proofs.NoByteBeside.{dictionary_is, set_last, set_look}
-use Rattle.postscript_write.proofs.Put.{each_held, name_apart, named, place, some_tables, stand, tables_stand}
+use Rattle.postscript_write.proofs.Put.{name_apart, named, set_held, set_late, set_place, set_text, tables_stand}
 use Rattle.postscript_write.proofs.TablesStand.{TablesStand}
 use Rattle.postscript_write.proofs.Operators.{among}
 use Rattle.postscript_write.proofs.StringsAgain.{glyph_has, new_low, operator_same, string_again, string_needed}
@@ -117,22 +117,19 @@ all_naming P of k d less =
 module _ {font : FontView} {glyphs : Glyphs} {codes : List (List ℕ)} {out : List ℕ} (w : IsPutTogether font glyphs codes out)
     (t : TablesStand font glyphs (named w) out) (old : CharSetView) (sources : Sources)
     (is : IsCharSetOf old font.bytes.now font.dictionary (length (items_of font.char_strings))) where
-  past : 3 ≤ place w CharSet
-  past = omega (arith, some_tables w)
-
   kept_set : IsOwnCharSet font.bytes.now font.dictionary (length (items_of font.char_strings)) (items_if glyphs.char_set) →
       IsKept old out t.new (length (items_of font.char_strings))
   kept_set own =
-      set_kept old font.bytes.now out font.dictionary t.new (length (items_of font.char_strings)) glyphs.char_set (place w CharSet) is
-      (set_look w t) (each_held w).1.1.1.1.1.0 past (stand w).1.1.1.1.1.0 (set_last w t) own
+      set_kept old font.bytes.now out font.dictionary t.new (length (items_of font.char_strings)) glyphs.char_set (set_place w) is
+      (set_look w t) (set_held w) (set_late w) (set_text w) (set_last w t) own
 
   listed_set : (identifiers : List ℕ) → items_if glyphs.char_set ≡ Some (names_text glyphs.strings identifiers) →
       length codes ≡ 1 + length identifiers →
       ((i : ℕ) → i < length identifiers → new_identifier glyphs.strings (get_or identifiers i 0) < 65536) → AreListed glyphs.strings
       identifiers out t.new (length codes)
   listed_set identifiers own many low =
-      set_listed font.bytes glyphs.strings identifiers out font.dictionary t.new (length codes) glyphs.char_set (place w CharSet)
-      (set_look w t) (each_held w).1.1.1.1.1.0 past (stand w).1.1.1.1.1.0 own many low
+      set_listed font.bytes glyphs.strings identifiers out font.dictionary t.new (length codes) glyphs.char_set (set_place w)
+      (set_look w t) (set_held w) (set_late w) (set_text w) own many low
 
   -- the operators keep their operands, where strings keep their identifiers
   operators_kept : glyphs.strings.renumbered.items ≡ [] → SameAt naming font.dictionary t.new

@@ -19,11 +19,11 @@ use Rattle.postscript_write.specs.ArrangedText.{tables_text}
 use Rattle.postscript_write.specs.Given.{AreGiven}
 use Rattle.postscript_write.specs.Index.{FitsIndex}
 use Rattle.postscript_write.specs.LaidOut.{SelectsExactly}
-use Rattle.postscript_write.specs.Pieces.{piece_if, pieces_text, place_of, standard_place, text_of}
+use Rattle.postscript_write.specs.Pieces.{piece_if, pieces_text, place_of, ranges_set, standard_place, text_of}
 use Rattle.postscript_write.specs.Privates.{private_offset, private_text, privates_text}
 use Rattle.postscript_write.specs.Room.{IsRead}
 use Rattle.postscript_write.specs.Texts.{TextStands}
-use Rattle.postscript_write.specs.Whole.{CharSetEnds, HasNoByteBeside, IndexEnds, NamedEnds, OwnEnds, PrivatesEnd, TablesEnd}
+use Rattle.postscript_write.specs.Whole.{HasNoByteBeside, IndexEnds, NamedEnds, OtherSetEnds, PrivatesEnd, TablesEnd}
 use Rattle.postscript_write.specs.Written.{IsPutTogether}
 use Rattle.postscript_write.specs.declared.layout.Glyphs.{Glyphs}
 use Rattle.postscript_write.specs.declared.layout.Private.{Private as OwnPrivate}
@@ -32,11 +32,12 @@ use Rattle.postscript_write.proofs.Heads.{dictionaries_are}
 use Rattle.postscript_write.proofs.IndexStands.{writes_indices}
 use Rattle.postscript_write.proofs.LaidOut.{array_there, char_strings_there, has_only, header_there, keyed_is, look_named, ros_is}
 use Rattle.postscript_write.proofs.NamedEnds.{array_ends, char_set_ends, encoding_ends, offset_is, own_look, select_ends}
+use Rattle.postscript_write.proofs.OneCharSet.{EndsBytes, ranges_last}
 use Rattle.postscript_write.proofs.PartsWritten.{has_dictionary}
 use Rattle.postscript_write.proofs.Pieces.{all_end as texts_end, texts_in}
 use Rattle.postscript_write.proofs.PlacesNamed.{named_by, kept_of, whole_is}
 use Rattle.postscript_write.proofs.PrivatesStand.{EndsBehind, all_end, one_dictionary, private_ends}
-use Rattle.postscript_write.proofs.Put.{privates_stand, dictionaries_stand, encoding_named, end_is, each_held, named, pieces, place, select_named, set_named, some_tables, stand}
+use Rattle.postscript_write.proofs.Put.{privates_stand, dictionaries_stand, encoding_named, end_is, each_held, last_place, named, pieces, place, select_named, set_held, set_late, set_named, set_place, set_text, some_tables, stand}
 use Rattle.postscript_write.proofs.Rests.{none_fit}
 use Rattle.postscript_write.proofs.TablesStand.{TablesStand, tables_length, tables_there}
 
@@ -143,15 +144,17 @@ module _ {font : FontView} {glyphs : Glyphs} {codes : List (List ℕ)} {out : Li
       (look font.dictionary Encoding)
   encoding_look = look_named w t Encoding (encoding_named w) (kept_of font.dictionary Encoding refl refl refl) refl
 
-  pub set_look : look t.new CharSet ≡ option_or (named_by (place_of (piece_if CharSet glyphs.char_set) (place w CharSet)) CharSet)
+  pub set_look : look t.new CharSet ≡ option_or (named_by (place_of (piece_if CharSet glyphs.char_set) (set_place w)) CharSet)
       (look font.dictionary CharSet)
   set_look = look_named w t CharSet (set_named w) (kept_of font.dictionary CharSet refl refl refl) refl
 
-  set_end : place w CharSet + length (text_of glyphs.char_set) ≡ length out
+  set_end : last_place w + length (text_of (ranges_set glyphs.char_set)) ≡ length out
   set_end = texts_end (texts_in (pieces w)) w.put.start ∙ end_is w
 
-  pub set_last : drop (place w CharSet) out ≡ text_of glyphs.char_set
-  set_last = last_there (text_of glyphs.char_set) out (place w CharSet) (stand w).1.1.1.1.1.0 set_end
+  pub set_last : EndsBytes glyphs.char_set out (set_place w)
+  set_last =
+      ranges_last glyphs.char_set out (place w CharSet) (last_place w)
+      (last_there (text_of (ranges_set glyphs.char_set)) out (last_place w) (stand w).1.1.1.1.1.1.0 set_end)
 
   none_beside : (parts : List PrivateDict) (names strings subroutines : List (List ℕ)) → IsRead font → SelectsExactly font glyphs →
       AreGiven font glyphs (length codes) → AreParts out t.new parts →
@@ -176,25 +179,29 @@ module _ {font : FontView} {glyphs : Glyphs} {codes : List (List ℕ)} {out : Li
       (own_look (named w) t.named t.new FDSelect t.placed (select_named w)) h.1.0 keyed.0 keyed.1 s.1.0 given.select in
       let of_codes : NamedEnds t.new CharStrings (IndexEnds out) (place w CharStrings) (place w Private) = (
         offset_is t.new CharStrings (place w CharStrings) char_strings.1 char_strings.0,
-        (codes, writes_indices codes out (place w CharStrings) w.char_strings_fit s.1.1.0),
+        (codes, writes_indices codes out (place w CharStrings) w.char_strings_fit s.1.1.1.0),
       ) in
       let of_array = array_ends t.new out glyphs.select w.put.dictionaries (place w FDArray) array keyed.0 keyed.1 w.put.dictionaries_fit
-      s.1.1.1.1.0 in
-      let of_set = subst (λ n. OwnEnds t.new CharSet 3 (CharSetEnds out (length codes)) (place w CharSet) n) set_end
-      (char_set_ends font.dictionary t.new out glyphs.char_set (length codes) (place w CharSet) set_look h.1.1.1.1.1.0
-      (omega (arith, start)) s.1.1.1.1.1.0 set_last given.char_set) in (
+      s.1.1.1.1.1.0 in
+      let of_sets = char_set_ends font.dictionary t.new out glyphs.char_set (length codes) (place w CharSet) (last_place w) set_look
+      (set_held w) (set_late w) (set_text w) set_last given.char_set in
+      let of_ranges = subst (OtherSetEnds out t.new (length codes) (last_place w)) set_end of_sets.1 in (
         w.put.start,
         of_tables,
         (
           place w FDSelect,
           of_encoding,
           (
-            place w CharStrings,
+            place w CharSet,
             of_select,
             (
-              place w Private,
-              of_codes,
-              (place w FDArray, privates_end parts read exactly are, (place w CharSet, of_array, (length out, of_set, refl))),
+              place w CharStrings,
+              of_sets.0,
+              (
+                place w Private,
+                of_codes,
+                (place w FDArray, privates_end parts read exactly are, (last_place w, of_array, (length out, of_ranges, refl))),
+              ),
             ),
           ),
         ),

@@ -4,7 +4,7 @@ use Rattle.std.specs.List.{concat}
 use Rattle.std.specs.Ordering.{eq_by_cmp}
 use Rattle.std.specs.Prelude.{All}
 use Rattle.std.proofs.lemmas.Cmp.{eq_by_cmp_equiv}
-use Rattle.std.proofs.lemmas.List.{get_or-append_right, map-append}
+use Rattle.std.proofs.lemmas.List.{append-nil, append_assoc, get_or-append_right, map-append}
 use Rattle.std.proofs.Math.ListN.{get_or-append}
 use Rattle.std.proofs.lemmas.List.Elements.{All-append, All-cons, All-nil}
 use Rattle.std.proofs.lemmas.List.Sums.{sum_by-append}
@@ -51,7 +51,7 @@ abbrev pub are_distinct : List Piece → Bool
 are_distinct [] = true
 are_distinct (p ∷ ps) = if is_other p.operator ps then are_distinct ps else false
 
-one_other : (p : Piece) (offset : ℕ) (operator : Operator) → eq_by_cmp operator_cmp operator p.operator ≡ false →
+pub one_other : (p : Piece) (offset : ℕ) (operator : Operator) → eq_by_cmp operator_cmp operator p.operator ≡ false →
     named_by (place_of p offset) operator ≡ None
 one_other p offset operator other = by p.named
   where
@@ -73,6 +73,15 @@ none_named (p ∷ ps) start operator other =
     let differ = parted (eq_by_cmp operator_cmp operator p.operator) (is_other operator ps) other in
     before (place_of p start) (places (start + length p.text) ps) operator (one_other p start operator differ.0)
     ∙ none_named ps (start + length p.text) operator differ.1
+
+-- the places of one piece more
+pub places_more : (ps : List Piece) (p : Piece) (start : ℕ) →
+    places start (ps ++ p ∷ []) ≡ places start ps ++ place_of p (behind_all start (texts_in ps))
+places_more [] p start = append-nil (place_of p start)
+places_more (q ∷ ps) p start =
+    let next : ℕ = start + length q.text in
+    ap (λ xs. place_of q start ++ xs) (places_more ps p next)
+    ∙ sym (append_assoc (place_of q start) (places next ps) (place_of p (behind_all next (texts_in ps))))
 
 -- the operator of each names its place alone
 abbrev pub AreTold : List Piece → (all : List Place) → (start : ℕ) → Type 0

@@ -1,8 +1,8 @@
 -- What is put together: its pieces stand, and its dictionary names them.
-use Rattle.std.proofs.Common.{◌≡◌, refl, sym, ap, subst, ◌∙◌, ℕ, ◌+◌, ◌<◌, ◌≤◌, List, [], ◌∷◌, ◌++◌, length, length-append, map, get_or, pos, Vec, Option, Some, None, Bool, true, false, arith, if◌then◌else◌}
+use Rattle.std.proofs.Common.{◌≡◌, refl, take, sym, ap, subst, ◌∙◌, ℕ, ◌+◌, ◌<◌, ◌≤◌, List, [], ◌∷◌, ◌++◌, length, length-append, map, get_or, pos, Vec, Option, Some, None, Bool, true, false, arith, if◌then◌else◌}
 use Rattle.std.specs.Ordering.{eq_by_cmp}
 use Rattle.std.specs.Option.{is_some, option_or}
-use Rattle.std.specs.Prelude.{IsSome}
+use Rattle.std.specs.Prelude.{All, IsSome}
 use Rattle.std.specs.declared.alloc.Global.{Global}
 use Rattle.std.proofs.lemmas.List.{append-nil, map-append}
 use Rattle.postscript_base.specs.Compact1.Decimal.{Decimal}
@@ -22,7 +22,7 @@ use Rattle.postscript_write.specs.Dictionaries.{IsHeld, operation_of}
 use Rattle.postscript_write.specs.Index.{index_text}
 use Rattle.postscript_write.specs.Once.{IsToldOnce, TellsRosFirst}
 use Rattle.postscript_write.specs.Parts.{naming}
-use Rattle.postscript_write.specs.Pieces.{Piece, named_places, piece_if, pieces_text, place_at, place_in, place_of, places, standard_place}
+use Rattle.postscript_write.specs.Pieces.{Piece, named_places, piece_if, pieces_text, place_at, place_in, place_of, places, ranges_set, standard_place, text_of}
 use Rattle.postscript_write.specs.Privates.{private_offset, private_text, privates_text}
 use Rattle.postscript_write.specs.Texts.{TextStands}
 use Rattle.postscript_write.specs.Written.{IsPutTogether}
@@ -32,8 +32,9 @@ use Rattle.postscript_write.specs.declared.layout.Private.{Private as OwnPrivate
 use Rattle.postscript_write.proofs.Arranged.{private_there}
 use Rattle.postscript_write.proofs.NamedAgain.{AreApart}
 use Rattle.postscript_write.proofs.Operators.{each_is, parted}
-use Rattle.postscript_write.proofs.Pieces.{AllHeld, AllStand, AreTold, all_held, all_right, all_stand, all_told, is_other, none_named, texts_in}
-use Rattle.postscript_write.proofs.PlacesNamed.{before, last_append, named_by}
+use Rattle.postscript_write.proofs.OneCharSet.{of_both, one_named, set_at}
+use Rattle.postscript_write.proofs.Pieces.{AllHeld, AllStand, AreTold, all_held, all_right, all_stand, all_told, behind_all, is_other, none_named, one_other, places_more, texts_in}
+use Rattle.postscript_write.proofs.PlacesNamed.{before, behind, last_append, named_by}
 use Rattle.postscript_write.proofs.Standing.{stands_amid}
 use Rattle.postscript_write.proofs.TablesStand.{TablesStand, dictionaries_there, header_is, index_there, tables_are}
 
@@ -86,9 +87,28 @@ module _ {font : FontView} {glyphs : Glyphs} {codes : List (List ℕ)} {out : Li
   pub some_tables : 4 ≤ w.put.start
   some_tables = let begins = w.put.begins in omega (arith, begins)
 
-  -- what the dictionary names
-  told : AreTold pieces (places w.put.start pieces) w.put.start
-  told = all_told pieces w.put.start refl
+  -- the pieces without the last one
+  abbrev front : List Piece
+  front = take 6 pieces
+
+  abbrev last : Piece
+  last = piece_if CharSet (ranges_set glyphs.char_set)
+
+  abbrev pub last_place : ℕ
+  last_place = behind_all w.put.start (texts_in front)
+
+  places_are : places w.put.start pieces ≡ places w.put.start front ++ place_of last last_place
+  places_are = places_more front last w.put.start
+
+  -- the offsets that the Top DICT has
+  told : AreTold front (places w.put.start front) w.put.start
+  told = all_told front w.put.start refl
+
+  past_last : {x : Option (List Decimal)} (operator : Operator) → eq_by_cmp operator_cmp operator CharSet ≡ false →
+      named_by (places w.put.start front) operator ≡ x → named_by (places w.put.start pieces) operator ≡ x
+  past_last operator other is =
+      ap (λ xs. named_by xs operator) places_are
+      ∙ behind (places w.put.start front) (place_of last last_place) operator (one_other last last_place operator other) ∙ is
 
   past_standard : {x : Option (List Decimal)} (operator : Operator) → eq_by_cmp operator_cmp operator Encoding ≡ false →
       named_by (places w.put.start pieces) operator ≡ x → named_by named operator ≡ x
@@ -102,25 +122,45 @@ module _ {font : FontView} {glyphs : Glyphs} {codes : List (List ℕ)} {out : Li
   pub encoding_named : named_by named Encoding ≡ named_by
       (standard_place glyphs.standard ++ place_of (piece_if Encoding glyphs.encoding) w.put.start) Encoding
   encoding_named =
-      let front : List Place = standard_place glyphs.standard in
+      let standard : List Place = standard_place glyphs.standard in
       let own : List Place = place_of (piece_if Encoding glyphs.encoding) w.put.start in
-      in_front front (places w.put.start pieces) Encoding ∙ ap (λ x. option_or x (named_by front Encoding)) told.0
-      ∙ sym (in_front front own Encoding)
+      in_front standard (places w.put.start pieces) Encoding ∙ ap (λ x. option_or x (named_by standard Encoding)) (past_last Encoding refl told.0)
+      ∙ sym (in_front standard own Encoding)
 
   pub select_named : named_by named FDSelect ≡ named_by (place_of (piece_if FDSelect glyphs.select) (place FDSelect)) FDSelect
-  select_named = past_standard FDSelect refl told.1.0
+  select_named = past_standard FDSelect refl (past_last FDSelect refl told.1.0)
 
   pub char_strings_named : named_by named CharStrings ≡ Some (whole (pos (place CharStrings)) ∷ [])
-  char_strings_named = past_standard CharStrings refl told.1.1.0
+  char_strings_named = past_standard CharStrings refl (past_last CharStrings refl told.1.1.1.0)
 
   pub private_named : named_by named Private ≡ named_by (place_of (private_piece glyphs.select w.privates) (place Private)) Private
-  private_named = past_standard Private refl told.1.1.1.0
+  private_named = past_standard Private refl (past_last Private refl told.1.1.1.1.0)
 
   pub array_named : named_by named FDArray ≡ named_by (place_of (array_piece glyphs.select w.put.dictionaries) (place FDArray)) FDArray
-  array_named = past_standard FDArray refl told.1.1.1.1.0
+  array_named = past_standard FDArray refl (past_last FDArray refl told.1.1.1.1.1.0)
 
-  pub set_named : named_by named CharSet ≡ named_by (place_of (piece_if CharSet glyphs.char_set) (place CharSet)) CharSet
-  set_named = past_standard CharSet refl told.1.1.1.1.1.0
+  -- the offset of the charset
+  abbrev pub set_place : ℕ
+  set_place = set_at glyphs.char_set (place CharSet) last_place
+
+  pub set_named : named_by named CharSet ≡ named_by (place_of (piece_if CharSet glyphs.char_set) set_place) CharSet
+  set_named =
+      past_standard CharSet refl
+      (ap (λ xs. named_by xs CharSet) places_are ∙ in_front (places w.put.start front) (place_of last last_place) CharSet
+      ∙ ap (option_or (named_by (place_of last last_place) CharSet)) told.1.1.0 ∙ one_named glyphs.char_set (place CharSet) last_place)
+
+  pub set_text : TextStands (text_of glyphs.char_set) out set_place
+  set_text =
+      of_both (λ text n. TextStands (text_of text) out n) glyphs.char_set (place CharSet) last_place stand.1.1.0 stand.1.1.1.1.1.1.0
+
+  pub set_held : All IsHeld (place_of (piece_if CharSet glyphs.char_set) set_place)
+  set_held =
+      of_both (λ text n. All IsHeld (place_of (piece_if CharSet text) n)) glyphs.char_set (place CharSet) last_place each_held.1.1.0
+      each_held.1.1.1.1.1.1.0
+
+  pub set_late : 3 ≤ set_place
+  set_late =
+      of_both (λ text n. 3 ≤ n) glyphs.char_set (place CharSet) last_place (omega (arith, some_tables)) (omega (arith, some_tables))
 
   pub name_apart : AreApart named
   name_apart operator is = none_by operator (each_is (λ o. is_other o pieces) naming refl operator is)
@@ -146,12 +186,12 @@ module _ {font : FontView} {glyphs : Glyphs} {codes : List (List ℕ)} {out : Li
       }
 
   pub codes_stand : IsIndexAt out (place CharStrings) codes
-  codes_stand = index_there codes out (place CharStrings) w.put.small w.char_strings_fit stand.1.1.0
+  codes_stand = index_there codes out (place CharStrings) w.put.small w.char_strings_fit stand.1.1.1.0
 
   pub dictionaries_stand : IsSome glyphs.select → IsIndexAt out (place FDArray) w.put.dictionaries
   dictionaries_stand =
-      dictionaries_there glyphs.select w.put.dictionaries out (place FDArray) w.put.small w.put.dictionaries_fit stand.1.1.1.1.0
+      dictionaries_there glyphs.select w.put.dictionaries out (place FDArray) w.put.small w.put.dictionaries_fit stand.1.1.1.1.1.0
 
   pub privates_stand : (number : ℕ) → number < length w.privates →
       TextStands (private_text (get_or w.privates number None)) out (private_offset (place Private) w.privates number)
-  privates_stand number less = private_there w.privates number out (place Private) less stand.1.1.1.0
+  privates_stand number less = private_there w.privates number out (place Private) less stand.1.1.1.1.0

@@ -1,6 +1,6 @@
 -- Where the char set stands that is written, and that a CID-keyed font names no private dictionary but in its font dictionaries,
 -- and another one neither font dictionaries nor FDSelect.
-use Rattle.std.proofs.Common.{◌≡◌, refl, sym, true, ap, subst, ◌∙◌, ℕ, ◌≤◌, List, Option, Some, None, Vec, arith}
+use Rattle.std.proofs.Common.{◌≡◌, refl, sym, true, ap, subst, ◌∙◌, ℕ, ◌≤◌, List, Option, Some, None, Vec}
 use Rattle.std.specs.Option.{option_or}
 use Rattle.std.specs.Prelude.{All, IsSome}
 use Rattle.std.specs.declared.alloc.Global.{Global}
@@ -24,7 +24,7 @@ use Rattle.postscript_write.proofs.NamedEnds.{offset_is, own_look, place_held}
 use Rattle.postscript_write.proofs.NoByteBeside.{set_look}
 use Rattle.postscript_write.proofs.Operators.{is_none_of}
 use Rattle.postscript_write.proofs.PlacesNamed.{named_by, not_renamed}
-use Rattle.postscript_write.proofs.Put.{array_named, array_piece, each_held, named, place, private_named, private_piece, select_named, some_tables, stand}
+use Rattle.postscript_write.proofs.Put.{array_named, array_piece, named, place, private_named, private_piece, select_named, set_held, set_late, set_place, set_text}
 use Rattle.postscript_write.proofs.TablesStand.{TablesStand}
 
 set_stands : (old new : Dictionary) (out : List ℕ) (text : Option (Vec ℕ Global)) (place : ℕ) →
@@ -56,9 +56,7 @@ module _ {font : FontView} {glyphs : Glyphs} {codes : List (List ℕ)} {out : Li
     (t : TablesStand font glyphs (named w) out) where
   pub set_there : HasCharSetText font.dictionary glyphs.char_set out t.new
   set_there =
-      let start = some_tables w in
-      set_stands font.dictionary t.new out glyphs.char_set (place w CharSet) (set_look w t) (each_held w).1.1.1.1.1.0 (omega (arith, start))
-      (stand w).1.1.1.1.1.0
+      set_stands font.dictionary t.new out glyphs.char_set (set_place w) (set_look w t) (set_held w) (set_late w) (set_text w)
 
   -- what the places do not name, and what the dictionary of the font is left without
   look_none : (operator : Operator) → named_by (named w) operator ≡ None → is_none_of operator naming ≡ true →

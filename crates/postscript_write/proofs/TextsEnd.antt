@@ -1,11 +1,13 @@
 -- Texts of parts end in bytes where they end alone.
-use Rattle.std.proofs.Common.{◌≡◌, refl, sym, ap, subst, ◌∙◌, inl, inr, ℕ, ◌+◌, ◌*◌, ◌-◌, ◌%◌, ◌≤◌, List, ◌++◌, length, length-drop, take, drop, arith}
+use Rattle.std.proofs.Common.{◌≡◌, refl, false, sym, ap, subst, ◌∙◌, inl, inr, ℕ, ◌+◌, ◌*◌, ◌-◌, ◌%◌, ◌≤◌, List, ◌++◌, length, length-drop, take, drop, arith}
 use Rattle.std.proofs.lemmas.List.{drop-append-le, drop-drop, take-append-le}
 use Rattle.postscript_base.specs.Index.{number_at}
 use Rattle.postscript_base.specs.Numbers.{big_endian}
+use Rattle.postscript_write.specs.Pieces.{is_listed}
 use Rattle.postscript_write.specs.Texts.{TextStands}
 use Rattle.postscript_write.specs.Whole.{CharSetEnds, CodesEnd, EncodingEnds, RangesEnd, SelectEnds, SupplementsEnd}
 use Rattle.postscript_write.proofs.Endings.{behind_codes}
+use Rattle.postscript_write.proofs.OneCharSet.{not_listed}
 
 -- a number of a text is read where the text stands
 pub number_there : (text out : List ℕ) (place k size at : ℕ) → TextStands text out place → k + size ≤ length text → at ≡ place + k →
@@ -66,14 +68,19 @@ select_there text out place glyphs stands (inr (format, is, sentinel)) =
     (omega (arith, is)) (omega (arith, count)) in
     inr (first ∙ format, omega (arith, is, count), last ∙ sentinel)
 
--- a char set is the last part, so that ranges too end where they do alone
-pub char_set_there : (text out : List ℕ) (place glyphs : ℕ) → TextStands text out place → drop place out ≡ text →
-    CharSetEnds text glyphs 0 (length text) →
+pub some_char_set : (text : List ℕ) (glyphs : ℕ) → CharSetEnds text glyphs 0 (length text) → 1 ≤ length text
+some_char_set text glyphs (inl (format, is)) = omega (arith, is)
+some_char_set text glyphs (inr (size, len, format, least, most, ends, is)) = omega (arith, is)
+
+-- a charset of ranges is the last part, so that ranges too end where they do alone
+pub char_set_there : (text out : List ℕ) (place glyphs : ℕ) → TextStands text out place →
+    (is_listed text ≡ false → drop place out ≡ text) → CharSetEnds text glyphs 0 (length text) →
     CharSetEnds out glyphs place (place + length text)
 char_set_there text out place glyphs stands last (inl (format, is)) =
     let first = number_there text out place 0 1 place stands (omega (arith, is)) (omega arith) in
     inl (first ∙ format, omega (arith, is))
 char_set_there text out place glyphs stands last (inr (size, len, format, least, most, ends, is)) =
     let first = number_there text out place 0 1 place stands (omega (arith, is)) (omega arith) in
-    let same : drop 1 text ≡ drop (place + 1) out = ap (drop 1) (sym last) ∙ drop-drop 1 place out in
+    let ranges : is_listed text ≡ false = not_listed text (omega (arith, is)) (omega (arith, format, least)) in
+    let same : drop 1 text ≡ drop (place + 1) out = ap (drop 1) (sym (last ranges)) ∙ drop-drop 1 place out in
     inr (size, len, first ∙ format, least, most, subst (λ (xs : List ℕ). RangesEnd xs size (glyphs - 1) len) same ends, omega (arith, is))

@@ -1,12 +1,18 @@
 -- The glyphs that are told are those that are written.
 use Rattle.std.proofs.Common.{◌≡◌, refl, sym, ap, subst, ◌∙◌, ℕ, List, [], ◌∷◌, ◌++◌, length, Bool, true, false}
-use Rattle.std.specs.Prelude.{Some, map, if◌then◌else◌}
+use Rattle.std.specs.Prelude.{IfOk, Result, Ok, Err, Some, Vec, map, if◌then◌else◌}
+use Rattle.std.specs.declared.alloc.Global.{Global}
+use Rattle.postscript_drawing.specs.Components.{glyphs_of}
+use Rattle.postscript_view.specs.Value.{view_shown}
 use Rattle.postscript_view.specs.declared.font.FontView.{FontView}
-use Rattle.postscript_write.specs.Components.{AreClosed, IsOpened, IsReached, is_named, is_drawn_with}
+use Rattle.postscript_write.specs.Components.{AreClosed, AreKept, IsOpened, IsReached, IsSubset, is_named, is_drawn_with}
+use Rattle.postscript_write.specs.Drawings.{AreLike, AreLikeKept, DrawsKept, DrawsTheSame, IsSourceAt, Likeness}
 use Rattle.postscript_write.specs.Glyphs.{Sources}
-use Rattle.postscript_write.specs.Kept.{KeptAreWritten}
+use Rattle.postscript_write.specs.Kept.{HasAllKept, KeptAreWritten}
 use Rattle.postscript_write.specs.Making.{IsCutFont}
+use Rattle.postscript_write.specs.SameGlyphs.{GlyphsKept, IsSameGlyph}
 use Rattle.postscript_write.specs.Sources.{chosen, is_kept, kept_of}
+use Rattle.postscript_write.specs.declared.error.Error.{Error}
 use Rattle.postscript_write.proofs.Drawings.{component-moved, many-of}
 use Rattle.postscript_write.proofs.Marks.{kept_more}
 use Rattle.std.proofs.Common.{add-one, zero, suc}
@@ -49,3 +55,22 @@ kept-are-written named bytes flat kept k s =
       is = s.written.is;
       made = subst (λ (sources : Sources). IsCutFont sources bytes s.written.old flat s.written.new) same s.written.made;
     }
+
+kept-alike : (IsLike : Likeness) (named bytes flat kept : List ℕ) → AreKept named bytes kept → AreLikeKept IsLike chosen named bytes flat →
+    AreLike IsLike (λ glyphs. map Some kept) bytes flat
+kept-alike IsLike named bytes flat kept k s old new glyph i was is source =
+    let n : ℕ = glyphs_of old in
+    let many : glyphs_of k.are.font ≡ n = many-of bytes k.are.font (view_shown old) k.are.opened was.laid in
+    let all : kept ≡ kept_of s.0 n = k.all ∙ ap (kept_of k.closed) many
+    ∙ same-kept k.closed s.0 (one-closed bytes named k.closed s.0 k.are s.1) n in
+    s.2 old new glyph i was is (subst (λ (xs : List ℕ). IsSourceAt (map Some xs) i glyph) all source)
+
+pub has-kept : (r : Result (Vec ℕ Global) Error) (named bytes : List ℕ) → IfOk r (λ flat. IsSubset IsCutFont chosen named bytes flat.items) →
+    IfOk r (λ flat. DrawsKept chosen named bytes flat.items) → IfOk r (λ flat. GlyphsKept chosen named bytes flat.items) →
+    IfOk r (λ flat. HasAllKept named bytes flat.items)
+has-kept (Ok flat) named bytes written drawn same = λ kept k. record {
+  written = kept-are-written named bytes flat.items kept k written;
+  drawn = kept-alike DrawsTheSame named bytes flat.items kept k drawn;
+  same = kept-alike IsSameGlyph named bytes flat.items kept k same;
+}
+has-kept (Err e) named bytes written drawn same = tt

@@ -15,6 +15,7 @@ use Rattle.postscript_write.specs.Room.{HasFew, HasRoom, index_room}
 use Rattle.postscript_write.specs.declared.dictionaries.Place.{Place}
 use Rattle.postscript_write.specs.declared.layout.Glyphs.{Glyphs}
 use Rattle.postscript_write.proofs.Few.{all_bytes}
+use Rattle.postscript_write.proofs.OneCharSet.{set_length}
 use Rattle.postscript_write.proofs.Pieces.{all_end, texts_in}
 use Rattle.postscript_write.proofs.Room.{index_most, named_few, named_held, renamed_few, they_fit}
 use Rattle.postscript_write.proofs.TablesStand.{tables_length}
@@ -39,7 +40,7 @@ codes_fit font glyphs codes room = let all = room.all in they_fit codes room.few
 
 -- at most so many bytes have the tables
 abbrev pub tables_room : FontView → Glyphs → ℕ
-tables_room font glyphs = index_room (items_of font.names) + index_room (texts glyphs.strings.texts.items) + (length font.bytes.now + 149)
+tables_room font glyphs = index_room (items_of font.names) + index_room (texts glyphs.strings.texts.items) + (length font.bytes.now + 160)
 
 -- these tables are not refused, but for memory
 abbrev pub RefusesTables : FontView → Glyphs → (dictionary : List ℕ) → List Piece → (start : ℕ) → Type 0
@@ -64,9 +65,9 @@ module _ (font : FontView) (glyphs : Glyphs) (codes : List (List ℕ)) (char_str
       let all = room.all in
       let some = few.privates in
       let strings = few.char_strings in
-      omega (arith, all_end (texts_in pieces) start, all, strings, some, most, begins)
+      omega (arith, all_end (texts_in pieces) start, set_length glyphs.char_set, all, strings, some, most, begins)
 
-  dictionary_within : length dictionary + places_size named ≤ length font.bytes.now + 132
+  dictionary_within : length dictionary + places_size named ≤ length font.bytes.now + 143
   dictionary_within = omega (arith, long, renamed_few glyphs.strings font.dictionary, named_few glyphs.standard pieces start)
 
   -- so have the tables
@@ -94,5 +95,5 @@ module _ (font : FontView) (glyphs : Glyphs) (codes : List (List ℕ)) (char_str
       let all = room.all in
       refuses some (omega (arith, end_within))
       (named_held glyphs.standard pieces start
-      (search rules, (search rules, (search rules, (search rules, (search rules, (search rules, tt)))))) end_within)
+      (search rules, (search rules, (search rules, (search rules, (search rules, (search rules, (search rules, tt))))))) end_within)
       (omega (arith, dictionary_within, all)) (names_fit font glyphs codes room) (strings_fit font glyphs codes room)

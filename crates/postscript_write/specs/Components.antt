@@ -1,5 +1,4 @@
--- The components of accented glyphs, which are kept with them (Technical Note 5177, Appendix C, "Compatibility and Deprecated
--- Operators").
+-- The components of `seac` glyphs, which are kept with them (Technical Note 5177, Appendix C, "Compatibility and Deprecated Operators").
 use Rattle.std.specs.Prelude.{◌≡◌, ◌≢◌, ◌⊎◌, ◌↔◌, ℕ, List, Option, Some, None, true, length, slice_index_or}
 use Rattle.std.specs.List.{Contains}
 use Rattle.std.specs.Option.{MatchOption}
@@ -19,63 +18,63 @@ use Rattle.postscript_write.specs.Sources.{IsWritten, is_kept, kept_of}
 use Rattle.postscript_write.specs.declared.error.Error.{Error}
 use Rattle.postscript_write.specs.declared.error.Error.TheVariants.{Refused}
 
--- A glyph is accented, and this one is the base or the accent that it names.
+-- A glyph is a `seac` glyph, and another one is its base or its accent.
 pub record IsComponentOf (font : FontView) (from glyph : ℕ) : Type 0 where
   pub accent : Accent
   pub accented : IsAccented font from accent
   pub named : IsComponent font accent.base glyph ⊎ IsComponent font accent.accent glyph
 
--- A glyph is reached from those that are named: it is one of them, or .notdef, or a component of one that is reached.
+-- A glyph is reached from the named ones: it is one of them, or .notdef, or a component of a reached glyph.
 pub data IsReached (font : FontView) (named : List ℕ) : ℕ → Type 0 where
   is_named : (glyph : ℕ) → is_kept named glyph ≡ true → IsReached font named glyph
   is_drawn_with : (from glyph : ℕ) → IsReached font named from → IsComponentOf font from glyph → IsReached font named glyph
 
--- The font that bytes begin with, opened in place.
+-- The font at the beginning of the bytes, opened in place.
 pub record IsOpened (bytes : List ℕ) (font : FontView) : Type 0 where
   pub laid : IsLaidOut bytes 0 (view_shown font)
   pub there : font.bytes.now ≡ bytes
 
--- Those that are kept are the glyphs that are reached from those that are named, in the font that the bytes begin with.
+-- The kept glyphs are the ones that are reached from the named ones, in the font at the beginning of the bytes.
 pub record AreClosed (bytes named closed : List ℕ) : Type 0 where
   pub font : FontView
   pub opened : IsOpened bytes font
   pub all : (glyph : ℕ) → (is_kept closed glyph ≡ true) ↔ IsReached font named glyph
 
--- The glyphs that a subset keeps, in ascending order: those that are reached from the ones that are named.
+-- The glyphs of a subset, in ascending order: the ones that are reached from the named ones.
 pub record AreKept (named bytes kept : List ℕ) : Type 0 where
   pub closed : List ℕ
   pub are : AreClosed bytes named closed
   pub all : kept ≡ kept_of closed (glyphs_of are.font)
 
--- The new font is so made of the glyphs that this gives for those that are reached from the ones that are named.
+-- The new font is made of the glyphs that are reached from the named ones.
 pub record IsSubset (is_made : Making) (sources : (closed : List ℕ) (glyphs : ℕ) → Sources) (named bytes flat : List ℕ) : Type 0 where
   pub closed : List ℕ
   pub are : AreClosed bytes named closed
   pub written : IsWritten is_made (sources closed) bytes flat
 
--- what is told of a run: it is accented so, or it names no codes
+-- a run ends as a `seac` glyph with this accent, or not as one
 abbrev pub IsSaid : Option Accent → Run → Type 0
 IsSaid found run = MatchOption found ((accent : Accent) → IsAccentOf accent run → ⊥) (λ accent. IsAccentOf accent run)
 
--- what is told of a glyph
+-- a glyph is a `seac` glyph with this accent, or not one
 abbrev pub IsSaidOf : FontView → (glyph : ℕ) → Option Accent → Type 0
 IsSaidOf font glyph found = MatchOption found ((accent : Accent) → IsAccented font glyph accent → ⊥)
     (λ accent. IsAccented font glyph accent)
 
--- what is told of a code: its glyph, or that the font has none
+-- the glyph of a code, or none if the font has no such glyph
 abbrev pub IsFound : FontView → (code : ℕ) → Option ℕ → Type 0
 IsFound font code found = MatchOption found ((glyph : ℕ) → IsComponent font code glyph → ⊥) (λ glyph. IsComponent font code glyph)
 
--- What is known of the 256 codes: of each one that was looked up, whether the font has a glyph for it, and which.
+-- The known codes, of 256: for each code that was looked up, its glyph, or that the font has none.
 abbrev pub AreKnown : FontView → List (Option (Option ℕ)) → Type 0
 AreKnown font known = (length known ≡ 256) × ((code : ℕ) (found : Option ℕ) → slice_index_or known code None ≡ Some found →
     IsFound font code found)
 
--- these are the components of a glyph
+-- the components of a glyph
 abbrev pub AreComponentsOf : FontView → (from : ℕ) → List ℕ → Type 0
 AreComponentsOf font from components = (glyph : ℕ) → Contains components glyph ↔ IsComponentOf font from glyph
 
--- why components are not told: the font has no char set
+-- the components are unknown, since the font has no charset
 abbrev pub IsUntold : FontView → Error → Type 0
 IsUntold font (Refused cause) = cause ≢ Memory → (set : CharSetView) → HasCharSet font set → ⊥
 IsUntold font _ = ⊥

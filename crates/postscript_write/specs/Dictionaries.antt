@@ -1,5 +1,4 @@
--- Operations of dictionaries as they are written: integers in five bytes, and an operator of one byte or of two (Technical Note
--- 5176, "DICT Data").
+-- Operations of DICTs as they are written: integers in five bytes, and an operator of one or two bytes (Technical Note 5176, "DICT Data").
 use Rattle.std.specs.Prelude.{◌≡◌, ◌≢◌, ◌⊎◌, ℕ, pos, ◌+◌, ◌^◌, ◌<◌, List, [], ◌∷◌, ◌++◌, length, map, Option, Some, None}
 use Rattle.std.specs.Option.{option_or}
 use Rattle.postscript_base.specs.Compact1.Decimal.{Decimal}
@@ -28,27 +27,27 @@ operation_text numbers code = integers_text numbers ++ number_text 1 code
 abbrev pub escaped_text : (numbers : List ℕ) (second : ℕ) → List ℕ
 escaped_text numbers second = integers_text numbers ++ (number_text 1 0x0c ++ number_text 1 second)
 
--- what these numbers are as operands
+-- numbers as operands
 abbrev pub operands_of : List ℕ → List Decimal
 operands_of numbers = map (λ n. whole (pos n)) numbers
 
--- numbers that the five bytes hold
+-- numbers that fit into the five bytes
 abbrev pub AreHeld : List ℕ → Type 0
 AreHeld [] = Unit {0}
 AreHeld (n ∷ ns) = (n < 2 ^ 31) × AreHeld ns
 
--- the code of an operator of one byte
+-- the code of a one-byte operator
 pub record IsCode (code : ℕ) (operator : Operator) : Type 0 where
   pub low : code < 256
   pub one : code ≢ 0x0c
   pub names : operator_of code ≡ Some operator
 
--- the code of an operator of two bytes, the first of which is 12
+-- the code of a two-byte operator, whose first byte is 12
 pub record IsEscaped (second : ℕ) (operator : Operator) : Type 0 where
   pub low : second < 256
   pub names : operator_of (0x0c00 + second) ≡ Some operator
 
--- the operators that are written: those of one byte that name places or a string, and those of two
+-- the operators that are written: the ones of one byte that have an offset or a SID, and the ones of two bytes
 abbrev pub short : List Operator
 short = Version ∷ Notice ∷ FullName ∷ FamilyName ∷ Weight ∷ CharSet ∷ Encoding ∷ CharStrings ∷ Private ∷ Subrs ∷ []
 
@@ -58,7 +57,7 @@ escaped = Copyright ∷ PostScript ∷ BaseFontName ∷ FDArray ∷ FDSelect ∷
 abbrev pub IsWritable : Operator → Type 0
 IsWritable operator = IsAmong operator short ⊎ IsAmong operator escaped
 
--- the operation of a place: its offset, and before it a size, where there is one
+-- the numbers of an operation: an offset, and before it a size, if there is one
 abbrev pub numbers_of : Option ℕ → (offset : ℕ) → List ℕ
 numbers_of None offset = offset ∷ []
 numbers_of (Some size) offset = size ∷ offset ∷ []
@@ -70,18 +69,18 @@ operation_of place = (place.operator, operands_of (numbers_of place.size place.o
 abbrev pub IsHeld : Place → Type 0
 IsHeld place = IsWritable place.operator × AreHeld (numbers_of place.size place.offset)
 
--- A dictionary names these places, each in the place of what another one has for its operator, and says else what that one says.
+-- A DICT has new operands for the operators of these places, and the old ones for all others.
 abbrev pub IsPlaced : Dictionary → List Place → Dictionary → Type 0
 IsPlaced old places new =
     (operator : Operator) → look new operator ≡ option_or (last_of (map operation_of places) operator) (look old operator)
 
--- bytes are a dictionary with these places, where a text is a dictionary
+-- if a text is a DICT, the bytes are that DICT with these places
 abbrev pub IsWithPlaces : (text : List ℕ) → List Place → (out : List ℕ) → Type 0
 IsWithPlaces text places out = (old : Dictionary) → IsDictionary text 0 old →
     (new : Dictionary) × IsDictionary out 0 new × IsPlaced old places new
 
--- Laws: an operation that is written behind operations is one more of them; and whole operations are a dictionary, in
--- which the last of each operator counts.
+-- Laws: an operation that is written after operations is one more of them. Whole operations are a DICT, in which the last operation of each
+-- operator counts.
 pub record WritesOperations : Type 0 where
   pub append : (kept : List ℕ) (operations : List Operation) (numbers : List ℕ) (code : ℕ) (operator : Operator) →
       OperationsAt kept 0 operations (length kept) → AreHeld numbers → IsCode code operator →

@@ -1,4 +1,4 @@
--- How many bytes operations have as they are written (Technical Note 5176, "DICT Data").
+-- The number of bytes of written operations (Technical Note 5176, "DICT Data").
 use Rattle.std.specs.Prelude.{◌≡◌, ℕ, ◌+◌, ◌*◌, List, length, map}
 use Rattle.std.specs.List.{sum_by}
 use Rattle.postscript_base.specs.declared.compact1.operator.Operator.{Operator}
@@ -17,7 +17,7 @@ operator_size FDSelect = 2
 operator_size FontName = 2
 operator_size _ = 1
 
--- how many bytes an operation has: five for each number
+-- an operation has five bytes for each number, and its operator
 abbrev pub operation_size : List ℕ → Operator → ℕ
 operation_size numbers operator = 5 * length numbers + operator_size operator
 
@@ -27,7 +27,7 @@ place_size place = operation_size (numbers_of place.size place.offset) place.ope
 abbrev pub places_size : List Place → ℕ
 places_size places = sum_by place_size places
 
--- so many bytes has a dictionary with places, whatever their offsets
+-- a DICT with places has this size, whatever the offsets are
 abbrev pub HasSize : (text : List ℕ) → List Place → ℕ → Type 0
 HasSize text places size = (rest : List ℕ) × IsLeftText text (map (λ place. place.operator) places) 0 rest
     × (size ≡ length rest + places_size places)

@@ -1,4 +1,4 @@
--- What the glyphs of a subset draw (Technical Note 5177, Appendix C).
+-- The drawings of the glyphs of a subset (Technical Note 5177, Appendix C).
 use Rattle.std.specs.Prelude.{◌≡◌, ◌↔◌, ℕ, ℤ, ◌<◌, List, Option, Some, None, length, slice_index_or}
 use Rattle.postscript_drawing.specs.Components.{glyphs_of}
 use Rattle.postscript_drawing.specs.Drawn.{IsDrawnAs}
@@ -7,30 +7,30 @@ use Rattle.postscript_view.specs.declared.font.FontView.{FontView}
 use Rattle.postscript_write.specs.Components.{AreClosed, IsOpened}
 use Rattle.postscript_write.specs.Glyphs.{Sources}
 
--- at a place stands a glyph
+-- a glyph is at an index of the list
 pub record IsSourceAt (sources : Sources) (i glyph : ℕ) : Type 0 where
   pub there : i < length sources
   pub is : slice_index_or sources i None ≡ Some glyph
 
--- A glyph of one font is drawn as segments with a width exactly where a glyph of the other one is.
+-- Two glyphs, of two fonts, are drawn as the same segments with the same width, or neither is drawn.
 abbrev pub DrawsTheSame : (old new : FontView) → (glyph i : ℕ) → Type 0
 DrawsTheSame old new glyph i = (segments : List Segment) (width : Option ℤ) → IsDrawnAs old glyph segments width
     ↔ IsDrawnAs new i segments width
 
--- what holds of a glyph of the old font and one of the new font
+-- a relation between a glyph of the old font and one of the new font
 abbrev pub Likeness : Type 1
 Likeness = (old new : FontView) (glyph i : ℕ) → Type 0
 
--- Each glyph of the new font, which this gives for so many of the old one, is so like it, in whatever way both are opened.
+-- Each glyph of the new font is related to the glyph that it is made of, however the two fonts are opened.
 abbrev pub AreLike : Likeness → (sources : (glyphs : ℕ) → Sources) → (bytes flat : List ℕ) → Type 0
 AreLike IsLike sources bytes flat = (old new : FontView) (glyph i : ℕ) → IsOpened bytes old → IsOpened flat new →
     IsSourceAt (sources (glyphs_of old)) i glyph → IsLike old new glyph i
 
--- the same of the glyphs that a subset keeps
+-- the same for the glyphs of a subset
 abbrev pub AreLikeKept : Likeness → (sources : (closed : List ℕ) (glyphs : ℕ) → Sources) → (named bytes flat : List ℕ) → Type 0
 AreLikeKept IsLike sources named bytes flat = (closed : List ℕ) × AreClosed bytes named closed × AreLike IsLike (sources closed) bytes flat
 
--- Each glyph of the new font is drawn as it was.
+-- Each glyph of the new font is drawn as before.
 abbrev pub KeepsDrawings : (sources : (glyphs : ℕ) → Sources) → (bytes flat : List ℕ) → Type 0
 KeepsDrawings = AreLike DrawsTheSame
 

@@ -1,4 +1,4 @@
--- What is written of a font, as it is read (Technical Note 5176, "CFF Data Layout", sections 15, 16 and 19).
+-- A written font, as it is read (Technical Note 5176, "CFF Data Layout", sections 15, 16 and 19).
 use Rattle.std.specs.Prelude.{◌≡◌, ◌↔◌, ℕ, List, All, IsSome, None, true}
 use Rattle.postscript_base.specs.declared.compact1.operator.Operator.TheVariants.{FDArray}
 use Rattle.postscript_type2.specs.Program.Routines.{texts}
@@ -12,15 +12,15 @@ use Rattle.postscript_write.specs.Fonts.{Repeats}
 use Rattle.postscript_write.specs.Once.{IsToldOnce, TellsRosFirst}
 use Rattle.postscript_write.specs.declared.layout.Glyphs.{Glyphs}
 
--- an FDSelect is written of a CID-keyed font, and of no other one (section 19)
+-- exactly a CID-keyed font has an FDSelect (section 19)
 abbrev pub SelectsExactly : FontView → Glyphs → Type 0
 SelectsExactly font glyphs = IsSome glyphs.select ↔ IsKeyed font.dictionary
 
--- where the standard encoding is named, there is no other one
+-- if the standard encoding replaces a custom one, there is no custom one
 abbrev pub StandardIsAlone : Glyphs → Type 0
 StandardIsAlone glyphs = glyphs.standard ≡ true → glyphs.encoding ≡ None
 
--- What is written of a font is laid out: these strings and char strings, and what the font has besides, but no subroutines.
+-- The new font is laid out: it has these strings and charstrings, no subroutines, and otherwise the content of the old font.
 pub record IsLaidOutOf (font : FontView) (glyphs : Glyphs) (codes : List (List ℕ)) (out : List ℕ) : Type 0 where
   pub view : View
   pub laid : IsLaidOut out 0 view

@@ -1,4 +1,4 @@
--- The strings of a font that are written under new identifiers, each once (Technical Note 5176, section 10, "String INDEX").
+-- The strings of a new font with new SIDs, each once (Technical Note 5176, section 10, "String INDEX").
 use Rattle.std.specs.Prelude.{◌≡◌, ◌⊎◌, ℕ, ◌+◌, ◌<◌, List, [], ◌∷◌, ◌++◌, flat_map, Option, Some, None, IsSome, length, slice_index_or}
 use Rattle.std.specs.List.{filter_map}
 use Rattle.postscript_base.specs.Compact1.Dictionary.{Dictionary}
@@ -9,22 +9,21 @@ use Rattle.postscript_write.specs.Strings.{identifier_in}
 use Rattle.postscript_write.specs.Texts.{number_text}
 use Rattle.postscript_write.specs.declared.strings.Strings.{Strings}
 
--- the strings that have no new identifier
+-- the strings without a new SID
 unfoldable pub left_of : List (Option ℕ) → (old : List (List ℕ)) → List (List ℕ)
 left_of [] old = []
 left_of (renumbered ∷ others) [] = []
 left_of (None ∷ others) (string ∷ old) = string ∷ left_of others old
 left_of (Some new ∷ others) (string ∷ old) = left_of others old
 
--- The new identifier names, among the strings that are written, the string that has a number in the font. Those below 391 name
--- standard strings.
+-- In the new font, the new SID is that of the old string with this number. SIDs below 391 are those of standard strings.
 pub record IsWrittenAs (old texts : List (List ℕ)) (number new : ℕ) : Type 0 where
   pub place : ℕ
   pub is : new ≡ 391 + place
   pub there : place < length texts
   pub text : slice_index_or texts place [] ≡ slice_index_or old number []
 
--- Strings of a font are written under new identifiers: each of them once, and none beside them.
+-- The new strings are old ones with new SIDs, each once, and there are no others.
 pub record AreRenumbered (old texts : List (List ℕ)) (renumbered : List (Option ℕ)) : Type 0 where
   pub many : length renumbered ≡ length old
   pub each : (number new : ℕ) → slice_index_or renumbered number None ≡ Some new → IsWrittenAs old texts number new
@@ -32,31 +31,31 @@ pub record AreRenumbered (old texts : List (List ℕ)) (renumbered : List (Optio
   pub counted : length texts + length (left_of renumbered old) ≡ length old
   pub sized : bytes_in texts + bytes_in (left_of renumbered old) ≡ bytes_in old
 
--- the string of a number has a new identifier
+-- the string with this number has a new SID
 abbrev pub HasNew : List (Option ℕ) → (number : ℕ) → Type 0
 HasNew renumbered number = IsSome (slice_index_or renumbered number None)
 
--- one of the first identifiers, so many, names the string of a number
+-- one of the first `count` SIDs is that of the string with this number
 abbrev pub IsNamed : (identifiers : List ℕ) (count number : ℕ) → Type 0
 IsNamed identifiers count number = (i : ℕ) × (i < count) × (slice_index_or identifiers i 0 ≡ 391 + number)
 
--- The strings that have new identifiers: those that had one, and those that the first of these identifiers name, so many.
+-- The strings with new SIDs: the ones that had one before, and the ones of the first `count` SIDs.
 pub record AreAdded (before : List (Option ℕ)) (identifiers : List ℕ) (count : ℕ) (after : List (Option ℕ)) : Type 0 where
   pub kept : (number : ℕ) → HasNew before number → HasNew after number
   pub named : (number : ℕ) → number < length after → IsNamed identifiers count number → HasNew after number
   pub only : (number : ℕ) → HasNew after number → HasNew before number ⊎ IsNamed identifiers count number
 
--- an operator of the dictionary names the string of a number, or one of these identifiers does
+-- the string with this number is that of an operator of the DICT, or of one of these SIDs
 abbrev pub IsNamedIn : Dictionary → (identifiers : List ℕ) → (number : ℕ) → Type 0
 IsNamedIn map identifiers number =
     let operators = filter_map (identifier_in map) naming in
     IsNamed operators (length operators) number ⊎ IsNamed identifiers (length identifiers) number
 
--- these strings have new identifiers, and no others
+-- these strings have new SIDs, and no others
 pub record AreNamed (map : Dictionary) (identifiers : List ℕ) (renumbered : List (Option ℕ)) : Type 0 where
   pub all : (number : ℕ) → number < length renumbered → IsNamedIn map identifiers number → HasNew renumbered number
   pub only : (number : ℕ) → HasNew renumbered number → IsNamedIn map identifiers number
 
--- A char set of format 0 (section 13): the new identifier of each glyph but the first, in two bytes.
+-- A charset of format 0 (section 13): the new SID of each glyph but the first, in two bytes.
 abbrev pub names_text : Strings → (identifiers : List ℕ) → List ℕ
 names_text strings identifiers = number_text 1 0 ++ flat_map (λ old. number_text 2 (new_identifier strings old)) identifiers

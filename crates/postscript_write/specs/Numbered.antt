@@ -1,4 +1,4 @@
--- What is written of the glyphs of a font, besides their codes (Technical Note 5176, sections 10, 12, 13, 18 and 19).
+-- The data of the new glyphs apart from their charstrings (Technical Note 5176, sections 10, 12, 13, 18 and 19).
 use Rattle.std.specs.Prelude.{◌≡◌, ℕ, ◌+◌, ◌^◌, ◌<◌, ◌≤◌, List, [], false, Option, Some, None, Vec, MatchBool, length, option_map}
 use Rattle.std.specs.Option.{is_some}
 use Rattle.std.specs.declared.alloc.Global.{Global}
@@ -14,18 +14,18 @@ use Rattle.postscript_write.specs.Selected.{AreLow, SelectsAll}
 use Rattle.postscript_write.specs.declared.layout.Glyphs.{Glyphs}
 use Rattle.postscript_write.specs.declared.strings.Strings.{Strings}
 
--- All strings of the font are written, and keep their identifiers.
+-- All strings of the font are written, and keep their SIDs.
 pub record AreAll (font : FontView) (strings : Strings) : Type 0 where
   pub texts_are : texts strings.texts.items ≡ items_of font.strings
   pub stay : strings.renumbered.items ≡ []
 
--- Those strings are written, under new identifiers, that operators of the dictionary name, or these identifiers.
+-- The strings of operators of the Top DICT and of these SIDs are written, with new SIDs.
 pub record AreCut (font : FontView) (identifiers : List ℕ) (strings : Strings) : Type 0 where
   pub renumbered : AreRenumbered (items_of font.strings) (texts strings.texts.items) strings.renumbered.items
   pub named : AreNamed font.dictionary identifiers strings.renumbered.items
 
--- Strings stay where glyphs keep their numbers, so that their identifiers are not listed, and in a CID-keyed font, whose glyphs have no
--- names (section 18).
+-- The strings are unchanged if glyphs keep their numbers, so that no SIDs are listed, and in a CID-keyed font, whose glyphs have no names
+-- (section 18).
 abbrev pub AreStringsFor : FontView → Option (Vec ℕ Global) → Strings → Type 0
 AreStringsFor font None strings = AreAll font strings
 AreStringsFor font (Some identifiers) strings =
@@ -35,29 +35,28 @@ AreStringsFor font (Some identifiers) strings =
 abbrev pub items_if : Option (Vec ℕ Global) → Option (List ℕ)
 items_if bytes = option_map (λ bytes. bytes.items) bytes
 
--- The char set of the font's own stays where glyphs keep their numbers. Else the new identifiers are listed.
+-- The charset is unchanged if glyphs keep their numbers. Otherwise the new SIDs are listed.
 abbrev pub IsCharSetFor : FontView → Option (Vec ℕ Global) → Glyphs → Type 0
 IsCharSetFor font None glyphs = IsOwnCharSet font.bytes.now font.dictionary (length (items_of font.char_strings)) (items_if glyphs.char_set)
 IsCharSetFor font (Some identifiers) glyphs = items_if glyphs.char_set ≡ Some (names_text glyphs.strings identifiers.items)
 
--- The encoding of the font's own stays where glyphs keep their numbers. Else it gives way to the standard one, which is named.
+-- The encoding is unchanged if glyphs keep their numbers. Otherwise the standard encoding replaces a custom one.
 abbrev pub IsEncodingFor : FontView → Option (Vec ℕ Global) → Glyphs → Type 0
 IsEncodingFor font None glyphs = IsOwnEncoding font.bytes.now font.dictionary (items_if glyphs.encoding) × (glyphs.standard ≡ false)
 IsEncodingFor font (Some identifiers) glyphs = (glyphs.encoding ≡ None)
     × ((own : Option (List ℕ)) × IsOwnEncoding font.bytes.now font.dictionary own × (glyphs.standard ≡ is_some own))
 
--- FDSelect of glyphs whose font dictionaries have these numbers
+-- an FDSelect that gives the glyphs these Font DICTs
 pub record IsSelectText (numbers text : List ℕ) : Type 0 where
   pub few : length text ≤ length numbers + 1
   pub selects : AreLow numbers → length numbers < 2 ^ 16 → SelectsAll text numbers
 
--- of a CID-keyed font
+-- the FDSelect of a CID-keyed font
 abbrev pub IsSelectFor : (numbers : List ℕ) → Option (Vec ℕ Global) → Type 0
 IsSelectFor numbers None = Unit {0}
 IsSelectFor numbers (Some select) = IsSelectText numbers select.items
 
--- What is written of glyphs besides their codes, where their font dictionaries have these numbers. The identifiers are listed where glyphs
--- get new numbers.
+-- The data of the new glyphs, if their Font DICTs have these numbers. SIDs or CIDs are listed if glyphs get new numbers.
 pub record AreGlyphsFor (font : FontView) (numbers : List ℕ) (identifiers : Option (Vec ℕ Global)) (glyphs : Glyphs) : Type 0 where
   pub exactly : SelectsExactly font glyphs
   pub select : IsSelectFor numbers glyphs.select
@@ -65,7 +64,7 @@ pub record AreGlyphsFor (font : FontView) (numbers : List ℕ) (identifiers : Op
   pub char_set : IsCharSetFor font identifiers glyphs
   pub encoding : IsEncodingFor font identifiers glyphs
 
--- fewer identifiers than two bytes count
+-- fewer SIDs than two bytes can count
 abbrev pub AreFew : Option (Vec ℕ Global) → Type 0
 AreFew None = Unit {0}
 AreFew (Some identifiers) = length identifiers.items < 2 ^ 16

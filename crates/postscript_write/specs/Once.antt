@@ -1,4 +1,4 @@
--- Dictionaries that tell each operator once, and ROS first (Technical Note 5176, "DICT Data", section 18).
+-- DICTs that have each operator once, and ROS first (Technical Note 5176, "DICT Data", section 18).
 use Rattle.std.specs.Prelude.{◌≡◌, ◌≢◌, ℕ, List, [], ◌∷◌, length, map, All, None}
 use Rattle.std.specs.List.{Contains}
 use Rattle.std.specs.FinMap.{get}
@@ -18,35 +18,35 @@ abbrev pub AreDistinct : List Operator → Type 0
 AreDistinct [] = Unit {0}
 AreDistinct (operator ∷ operators) = (Contains operators operator → ⊥) × AreDistinct operators
 
--- ROS is the first, or does not occur
+-- ROS is the first operator, or does not occur
 abbrev pub HasNoLaterRos : List Operator → Type 0
 HasNoLaterRos [] = Unit {0}
 HasNoLaterRos (operator ∷ operators) = Contains operators ROS → ⊥
 
--- bytes are whole operations, of which this holds
+-- bytes are whole operations, whose operators have a property
 abbrev pub AreOperations : (List Operator → Type 0) → (text : List ℕ) → Type 0
 AreOperations P text = (operations : List Operation) × OperationsAt text 0 operations (length text) × P (operators_in operations)
 
--- each of another operator
+-- no operator occurs twice in the bytes
 abbrev pub IsToldOnce : List ℕ → Type 0
 IsToldOnce = AreOperations AreDistinct
 
--- and none behind the first of ROS
+-- ROS does not occur after the first operator
 abbrev pub TellsRosFirst : List ℕ → Type 0
 TellsRosFirst = AreOperations HasNoLaterRos
 
--- A dictionary with places: where these are of different operators, it tells each operator once; and where none is of ROS, and in the
--- dictionary without them ROS was first, it is first.
+-- A DICT with places: if no two places have the same operator, then no operator occurs twice in the DICT. If no place is that of ROS, and
+-- ROS was first in the old DICT, it is first in the new one.
 pub record KeepsOrder (text : List ℕ) (places : List Place) (out : List ℕ) : Type 0 where
   pub once : AreDistinct (map (λ place. place.operator) places) → IsToldOnce out
   pub ros : (Contains (map (λ place. place.operator) places) ROS → ⊥) → TellsRosFirst text → TellsRosFirst out
 
--- A dictionary says nothing of some operators but ROS, and of all others what another one says.
+-- A DICT lacks some operators other than ROS, and has the same operands for all other operators.
 pub record IsMoved (left_out : List Operator) (old new : Dictionary) : Type 0 where
   pub gone : (operator : Operator) → Contains left_out operator → operator ≢ ROS → get new operator ≡ None
   pub stays : (operator : Operator) → (Contains left_out operator → operator ≡ ROS) → get new operator ≡ get old operator
 
--- A font begins the bytes. Its dictionary tells each operator once, and so does each of the font dictionaries of a CID-keyed font.
+-- A font begins the bytes. No operator occurs twice in its Top DICT, or in a Font DICT of a CID-keyed font.
 pub record TellsOnce (flat : List ℕ) : Type 0 where
   pub font : View
   pub laid : IsLaidOut flat 0 font
@@ -54,6 +54,6 @@ pub record TellsOnce (flat : List ℕ) : Type 0 where
   pub font_dictionaries : IsCidKeyed font.tables.dictionary → (items : List (List ℕ)) →
       NamesIndex flat font.tables.dictionary FDArray items → All IsToldOnce items
 
--- A font begins the bytes. If its dictionary tells ROS, it does so first.
+-- A font begins the bytes. If its Top DICT has ROS, it is the first operator.
 abbrev pub BeginsWithRos : (flat : List ℕ) → Type 0
 BeginsWithRos flat = (font : View) × (laid : IsLaidOut flat 0 font) × TellsRosFirst laid.tables.item

@@ -1,4 +1,4 @@
--- The char set and the encoding of a font's own (Technical Note 5176, sections 12 and 13).
+-- A custom charset and a custom encoding of a font (Technical Note 5176, sections 12 and 13).
 use Rattle.std.specs.Prelude.{◌≡◌, ℕ, ◌<◌, ◌≤◌, List, Option, Some, None, length}
 use Rattle.std.specs.List.{slice_range}
 use Rattle.postscript_base.specs.Compact1.Dictionary.{Dictionary}
@@ -7,14 +7,14 @@ use Rattle.postscript_base.specs.declared.compact1.operator.Operator.TheVariants
 use Rattle.postscript_view.specs.Select.{offset_of}
 use Rattle.postscript_write.specs.Whole.{CharSetEnds, EncodingEnds}
 
--- the bytes from one place up to another
+-- the bytes from one offset up to another
 pub record IsCutFrom (bytes : List ℕ) (from to : ℕ) (cut : List ℕ) : Type 0 where
   pub order : from ≤ to
   pub within : to ≤ length bytes
   pub is : cut ≡ slice_range bytes from to
 
--- A part of the font's own stands from the place that an operator names up to where the part ends. There is none where the offset is
--- below the least: it names a predefined one.
+-- A custom part goes from the offset in the DICT to its end. There is none if the offset is below the least: then it is the number of a
+-- predefined one.
 abbrev pub IsOwn : List ℕ → Dictionary → Operator → (least : ℕ) → (ends : ℕ → ℕ → Type 0) → Option (List ℕ) → Type 0
 IsOwn bytes map operator least ends None = (offset : ℕ) × (offset_of map operator ≡ Some offset) × (offset < least)
 IsOwn bytes map operator least ends (Some own) = (place : ℕ) × (next : ℕ) × (offset_of map operator ≡ Some place) × (least ≤ place)

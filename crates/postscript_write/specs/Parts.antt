@@ -1,4 +1,4 @@
--- Dictionaries that keep what they say (Technical Note 5176, sections 9, 15 and 18).
+-- DICTs that keep their content (Technical Note 5176, sections 9, 15 and 18).
 use Rattle.std.specs.Prelude.{◌≡◌, ◌⊎◌, ℕ, ℤ, List, [], ◌∷◌, Option, Some, None, length, slice_get, All}
 use Rattle.postscript_base.specs.Compact1.Defaults.{look}
 use Rattle.postscript_base.specs.Compact1.Dictionary.{Dictionary}
@@ -20,29 +20,30 @@ IsAmong operator (other ∷ others) = (operator ≡ other) ⊎ IsAmong operator 
 abbrev pub SameBut : List Operator → Dictionary → Dictionary → Type 0
 SameBut operators old new = (operator : Operator) → (look new operator ≡ look old operator) ⊎ IsAmong operator operators
 
--- the operators of the dictionary of a font that name places (Table 9, section 18)
+-- the operators of a Top DICT that have offsets (Table 9, section 18)
 abbrev pub placing : List Operator
 placing = CharSet ∷ Encoding ∷ CharStrings ∷ Private ∷ FDArray ∷ FDSelect ∷ []
 
--- those that name strings: their operand is of kind SID (section 9)
+-- the operators that have a SID (section 9)
 abbrev pub naming : List Operator
 naming = Version ∷ Notice ∷ Copyright ∷ FullName ∷ FamilyName ∷ Weight ∷ PostScript ∷ BaseFontName ∷ FontName ∷ []
 
--- both have a font dictionary, or neither has; and it says the same, but where its private dictionary is
+-- both have a Font DICT with the same content apart from the offset of the Private DICT, or neither has a Font DICT
 abbrev pub SameFont : Option Dictionary → Option Dictionary → Type 0
 SameFont None None = Unit {0}
 SameFont (Some old) (Some new) = SameBut (Private ∷ []) old new
 SameFont None (Some new) = ⊥
 SameFont (Some old) None = ⊥
 
--- A part without subroutines that says what another one says: glyphs that tell the same width, or none, have the same advance.
+-- A part without subroutines that otherwise has the content of another one: glyphs with the same width in their charstrings, or none, have
+-- the same advance.
 pub record SamePart (old new : PrivateDict) : Type 0 where
   pub private : SameBut (Subrs ∷ []) old.dictionary new.dictionary
   pub no_local : new.subroutines ≡ []
   pub font : SameFont old.font new.font
   pub advance : (width : Option ℤ) → advance_of new.dictionary width ≡ advance_of old.dictionary width
 
--- as many parts, each of which says what the one in its place says
+-- one part for each old part, with the same content
 pub record SameParts (old new : List PrivateDict) : Type 0 where
   pub many : length new ≡ length old
   pub each : (number : ℕ) (part new_part : PrivateDict) → slice_get old number ≡ Some part → slice_get new number ≡ Some new_part →

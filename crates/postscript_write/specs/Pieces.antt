@@ -1,5 +1,5 @@
--- A font as it is written: tables, and behind them pieces, one behind another (Technical Note 5176, "CFF Data Layout").
-use Rattle.std.specs.Prelude.{ℕ, ◌+◌, List, [], ◌∷◌, ◌++◌, length, Option, Some, None, Bool, true, false, Vec, if◌then◌else◌}
+-- A new font: tables, and pieces one after the other (Technical Note 5176, "CFF Data Layout").
+use Rattle.std.specs.Prelude.{ℕ, ◌+◌, ◌==◌, List, [], ◌∷◌, ◌++◌, length, Option, Some, None, Bool, true, false, Vec, if◌then◌else◌}
 use Rattle.std.specs.Option.{is_some}
 use Rattle.std.specs.Ordering.{eq_by_cmp}
 use Rattle.std.specs.declared.alloc.Global.{Global}
@@ -10,8 +10,7 @@ use Rattle.postscript_write.specs.declared.dictionaries.Place.{Place}
 use Rattle.postscript_write.specs.declared.layout.Glyphs.{Glyphs}
 use Rattle.postscript_write.specs.declared.layout.Piece.{Piece as LentPiece}
 
--- A piece: its bytes, and the operator that names its place. The dictionary of the font has that operator or not, with the size of the
--- piece before its place or not.
+-- A piece: its bytes, and the operator for its offset. The Top DICT has that operator or not, and has the size before the offset or not.
 pub record Piece : Type 0 where
   pub operator : Operator
   pub named : Bool
@@ -29,7 +28,7 @@ pieces_text (piece ∷ pieces) = piece.text ++ pieces_text pieces
 abbrev pub place_at : Operator → (offset : ℕ) → Place
 place_at operator offset = record { operator = operator; size = None; offset = offset }
 
--- the place of a piece that begins at an offset, where it is named
+-- the offset of a piece, if the Top DICT has it
 abbrev pub place_of : Piece → (offset : ℕ) → List Place
 place_of piece offset =
     if piece.named then record {
@@ -43,13 +42,13 @@ abbrev pub places : (start : ℕ) → List Piece → List Place
 places start [] = []
 places start (piece ∷ pieces) = place_of piece start ++ places (start + length piece.text) pieces
 
--- where the piece of an operator begins
+-- the offset of the piece with an operator
 abbrev pub place_in : (start : ℕ) → List Piece → Operator → ℕ
 place_in start [] operator = start
 place_in start (piece ∷ pieces) operator =
     if eq_by_cmp operator_cmp operator piece.operator then start else place_in (start + length piece.text) pieces operator
 
--- the bytes of a part; none where there is no such part
+-- the bytes of a part; none if there is no such part
 abbrev pub text_of : Option (Vec ℕ Global) → List ℕ
 text_of None = []
 text_of (Some bytes) = bytes.items
@@ -57,23 +56,40 @@ text_of (Some bytes) = bytes.items
 abbrev pub piece_if : Operator → Option (Vec ℕ Global) → Piece
 piece_if operator text = record { operator = operator; named = is_some text; counted = false; text = text_of text }
 
--- The pieces of a font. Only in a CID-keyed font there is an FDSelect, and the dictionary names font dictionaries; that of another one
--- names its private dictionary, if it has one. The char set is the last, since ranges that name too few glyphs end where the font ends.
+-- A charset of format 0 begins with the byte 0 (section 13).
+abbrev pub is_listed : (char_set : List ℕ) → Bool
+is_listed [] = false
+is_listed (format ∷ others) = format == 0
+
+-- the charset, if it is of format 0
+abbrev pub listed_set : Option (Vec ℕ Global) → Option (Vec ℕ Global)
+listed_set None = None
+listed_set (Some char_set) = if is_listed char_set.items then Some char_set else None
+
+-- the charset, if it is of another format
+abbrev pub ranges_set : Option (Vec ℕ Global) → Option (Vec ℕ Global)
+ranges_set None = None
+ranges_set (Some char_set) = if is_listed char_set.items then None else Some char_set
+
+-- The pieces of a font. Only a CID-keyed font has an FDSelect and Font DICTs. The Top DICT of any other font has the offset of its Private
+-- DICT, if there is one. A charset of ranges is the last piece, since ranges that cover too few glyphs end with the font. A charset of
+-- format 0 is before the charstrings.
 abbrev pub pieces_of : Glyphs → (char_strings : List ℕ) → (single : Bool) → (privates dictionaries : List ℕ) → List Piece
 pieces_of glyphs char_strings single privates dictionaries =
     piece_if Encoding glyphs.encoding
     ∷ piece_if FDSelect glyphs.select
+    ∷ piece_if CharSet (listed_set glyphs.char_set)
     ∷ record { operator = CharStrings; named = true; counted = false; text = char_strings }
     ∷ record { operator = Private; named = single; counted = true; text = privates }
     ∷ record { operator = FDArray; named = is_some glyphs.select; counted = false; text = dictionaries }
-    ∷ piece_if CharSet glyphs.char_set
+    ∷ piece_if CharSet (ranges_set glyphs.char_set)
     ∷ []
 
--- the standard encoding is named as 0
+-- the standard encoding has the number 0
 abbrev pub standard_place : Bool → List Place
 standard_place true = place_at Encoding 0 ∷ []
 standard_place false = []
 
--- the places that the dictionary of a font names, whose pieces stand from a place on
+-- the offsets in the Top DICT, if the first piece begins at the start
 abbrev pub named_places : (standard : Bool) → (start : ℕ) → List Piece → List Place
 named_places standard start pieces = standard_place standard ++ places start pieces

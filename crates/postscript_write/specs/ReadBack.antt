@@ -1,4 +1,4 @@
--- What is written is the font that it was to be (Technical Note 5176, sections 7, 10, 12, 13 and 19).
+-- The new font is the intended one (Technical Note 5176, sections 7, 10, 12, 13 and 19).
 use Rattle.std.specs.Prelude.{◌≡◌, ℕ, ◌<◌, ◌≤◌, ◌^◌, List, Bool, ◌||◌, MatchBool, Option, Some, None, Vec, length, slice_index_or}
 use Rattle.std.specs.Option.{is_some}
 use Rattle.std.specs.declared.alloc.Global.{Global}
@@ -20,13 +20,13 @@ use Rattle.postscript_write.specs.Strings.{AreNamedAs, AreNeeded, KeepsStrings, 
 use Rattle.postscript_write.specs.Texts.{TextStands}
 use Rattle.postscript_write.specs.Whole.{HasNoByteBeside}
 
--- Operators and glyphs name the same strings, glyphs by identifiers of both fonts, and each string is needed.
+-- Operators and glyphs have the same strings as before, by SIDs of both fonts, and each string is needed.
 pub record CutsByIdentifiers (sources : Sources) (old : View) (old_set : CharSetView) (new : View) (new_set : CharSetView) : Type 0 where
   pub operators : NameSame old.tables new.tables
   pub glyphs : AreNamedAs old_set old.tables.strings sources new_set new.tables.strings
   pub needed : AreNeeded new new_set
 
--- Strings are kept where glyphs keep their numbers, and in a CID-keyed font, whose glyphs have no names (section 18).
+-- All strings are kept if glyphs keep their numbers, and in a CID-keyed font, whose glyphs have no names (section 18).
 abbrev pub keeps_strings : (kept : Bool) → Dictionary → Bool
 keeps_strings kept map = kept || is_some (look map operators.ROS)
 
@@ -34,20 +34,20 @@ abbrev pub AreStrings : (keeps : Bool) → Sources → View → CharSetView → 
 AreStrings keeps sources old old_set new new_set =
     MatchBool keeps (KeepsStrings sources old old_set new new_set) (CutsByIdentifiers sources old old_set new new_set)
 
--- the new font has a char set, and by it strings and what names them are as they are to be
+-- the new font has a charset, and with it strings and names are as intended
 pub record HasNames (keeps : Bool) (sources : Sources) (old : View) (old_set : CharSetView) (flat : List ℕ) (new : View) : Type 0 where
   pub set : CharSetView
   pub is : IsCharSetOf set flat new.tables.dictionary (length new.char_strings)
   pub same : (set : CharSetView) → IsCharSetOf set flat new.tables.dictionary (length new.char_strings) →
       AreStrings keeps sources old old_set new set
 
--- it has an encoding that says what another one says
+-- the new font has an encoding with the same content as another one
 pub record HasSameCodes (old : EncodingView) (flat : List ℕ) (map : Dictionary) : Type 0 where
   pub encoding : EncodingView
   pub is : IsEncodingOf encoding flat map
   pub same : (encoding : EncodingView) → IsEncodingOf encoding flat map → SameEncoding old encoding
 
--- or the one that takes the place of another one
+-- or it has the encoding that replaces another one
 pub record HasOtherCodes (old : EncodingView) (flat : List ℕ) (map : Dictionary) : Type 0 where
   pub encoding : EncodingView
   pub is : IsEncodingOf encoding flat map
@@ -56,13 +56,13 @@ pub record HasOtherCodes (old : EncodingView) (flat : List ℕ) (map : Dictionar
 abbrev pub HasCodes : (kept : Bool) → EncodingView → List ℕ → Dictionary → Type 0
 HasCodes kept old flat map = MatchBool kept (HasSameCodes old flat map) (HasOtherCodes old flat map)
 
--- The text of the char set stands where the new dictionary names it. Where there is none, both dictionaries name the same predefined one.
+-- The text of the charset is at the offset in the new DICT. If there is none, both DICTs have the same predefined charset.
 abbrev pub HasCharSetText : (old : Dictionary) → Option (Vec ℕ Global) → List ℕ → (new : Dictionary) → Type 0
 HasCharSetText old None out new = look new operators.CharSet ≡ look old operators.CharSet
 HasCharSetText old (Some text) out new =
     (place : ℕ) × (offset_of new operators.CharSet ≡ Some place) × (3 ≤ place) × (place < 2 ^ 31) × TextStands text.items out place
 
--- The new font has the header, says what the old one says, has these codes and numbers of parts, and no byte stands beside its parts.
+-- The new font has the header, the content of the old font, these charstrings and numbers of parts, and no bytes outside its parts.
 pub record IsAsWritten (numbers : List ℕ) (codes : List (List ℕ)) (old : View) (flat : List ℕ) (new : View) : Type 0 where
   pub header : HasHeader flat
   pub repeats : Repeats old new
@@ -72,7 +72,7 @@ pub record IsAsWritten (numbers : List ℕ) (codes : List (List ℕ)) (old : Vie
       IsSelected flat new.tables.dictionary (length new.char_strings) i (slice_index_or numbers i 0)
   pub whole : HasNoByteBeside flat new
 
--- The new font is laid out in the bytes, and is as it was to be written, with its names and codes.
+-- The new font is laid out in the bytes, and is as intended, with its names and codes.
 pub record IsReadAs (kept : Bool) (sources : Sources) (old : View) (old_set : CharSetView) (encoding : EncodingView) (numbers : List ℕ)
     (codes : List (List ℕ)) (flat : List ℕ) (new : View) : Type 0 where
   pub laid : IsLaidOut flat 0 new

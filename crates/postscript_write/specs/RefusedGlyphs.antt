@@ -1,4 +1,4 @@
--- What is wrong with glyphs of a font that can not be written.
+-- Glyphs of a font that cannot be written.
 use Rattle.std.specs.Prelude.{◌≡◌, ℕ, ◌<◌, List, Option, Some, None, length, slice_get, slice_index_or}
 use Rattle.postscript_base.specs.RefusalOf.{refusal_of}
 use Rattle.postscript_base.specs.declared.error.Error as causes
@@ -11,7 +11,7 @@ use Rattle.postscript_view.specs.declared.char_set.CharSetView.{CharSetView}
 use Rattle.postscript_view.specs.declared.encoding.EncodingView.{EncodingView}
 use Rattle.postscript_write.specs.Glyphs.{AreNumbersOf, ShowsPart, Sources, run_in}
 
--- the run of a glyph with the part of a number is refused with this cause
+-- the run of a glyph with the part of this number fails with this error
 pub record IsRunRefused (font : View) (glyph number : ℕ) (cause : causes.Error) : Type 0 where
   pub code : List ℕ
   pub part : PrivateDict
@@ -19,7 +19,7 @@ pub record IsRunRefused (font : View) (glyph number : ℕ) (cause : causes.Error
   pub has_part : slice_get font.parts number ≡ Some part
   pub fault : fault_of (run_in font part code).end ≡ Some (refusal_of cause)
 
--- no fault ends the run of a glyph with the part of a number
+-- the run of a glyph with the part of this number does not fail
 pub record IsRunFaultless (font : View) (glyph number : ℕ) : Type 0 where
   pub code : List ℕ
   pub part : PrivateDict
@@ -31,7 +31,7 @@ abbrev pub IsFaultless : View → Option ℕ → (number : ℕ) → Type 0
 IsFaultless font None number = Unit {0}
 IsFaultless font (Some glyph) number = IsRunFaultless font glyph number
 
--- Of these glyphs this is the first one whose run is refused, and it is refused with this cause.
+-- This is the first glyph whose run fails, and it fails with this error.
 pub record IsFirstRefused (font : View) (sources : Sources) (numbers : List ℕ) (glyph : ℕ) (cause : causes.Error) : Type 0 where
   pub place : ℕ
   pub there : place < length sources
@@ -39,35 +39,35 @@ pub record IsFirstRefused (font : View) (sources : Sources) (numbers : List ℕ)
   pub refused : IsRunRefused font glyph (slice_index_or numbers place 0) cause
   pub before : (i : ℕ) → i < place → IsFaultless font (slice_index_or sources i None) (slice_index_or numbers i 0)
 
--- the first refused one of these glyphs of a font, each with its part
+-- the first glyph that fails, if each glyph has its part
 abbrev pub IsRefusedFirst : List ℕ → View → Sources → (glyph : ℕ) → causes.Error → Type 0
 IsRefusedFirst bytes font sources glyph cause = (numbers : List ℕ) × AreNumbersOf bytes font sources numbers
     × IsFirstRefused font sources numbers glyph cause
 
--- one of these glyphs
+-- a glyph of the list
 abbrev pub IsOneOf : Sources → (glyph : ℕ) → Type 0
 IsOneOf sources glyph = (place : ℕ) × (place < length sources) × (slice_index_or sources place None ≡ Some glyph)
 
--- one of these glyphs, which has no part
+-- a glyph of the list that has no part
 pub record IsPartless (bytes : List ℕ) (font : View) (sources : Sources) (glyph : ℕ) : Type 0 where
   pub one : IsOneOf sources glyph
   pub partless : glyph < length font.char_strings → (number : ℕ) → ShowsPart bytes font glyph number → ⊥
 
--- one of these glyphs, which the char set of the font does not name
+-- a glyph of the list that has no SID or CID in the charset
 pub record IsNameless (bytes : List ℕ) (font : View) (sources : Sources) (glyph : ℕ) : Type 0 where
   pub one : IsOneOf sources glyph
   pub set : CharSetView
   pub has_set : IsCharSetOf set bytes font.tables.dictionary (length font.char_strings)
   pub nameless : (identifier : ℕ) → Names set glyph identifier → ⊥
 
--- the font has a char set; it has an encoding
+-- the font has a charset; it has an encoding
 abbrev pub HasSet : List ℕ → View → Type 0
 HasSet bytes font = (set : CharSetView) × IsCharSetOf set bytes font.tables.dictionary (length font.char_strings)
 
 abbrev pub HasEncoding : List ℕ → View → Type 0
 HasEncoding bytes font = (encoding : EncodingView) × IsEncodingOf encoding bytes font.tables.dictionary
 
--- Each of these glyphs has its part, and no fault ends its run.
+-- Each of these glyphs has its part, and its run does not fail.
 abbrev pub AreSound : List ℕ → View → Sources → Type 0
 AreSound bytes font sources =
     (numbers : List ℕ) × AreNumbersOf bytes font sources numbers

@@ -1,4 +1,4 @@
--- How many bytes what is written of a font has, at most, and what it is written of.
+-- The greatest number of bytes of a new font, and the font that it is made of.
 use Rattle.std.specs.Prelude.{All, ℕ, ◌+◌, ◌*◌, ◌^◌, ◌<◌, ◌≤◌, List, length, IsSome}
 use Rattle.postscript_base.specs.Index.Lent.{items_of}
 use Rattle.postscript_type2.specs.Program.Routines.{texts}
@@ -12,8 +12,7 @@ use Rattle.postscript_write.specs.Renumbered.{all_renamed}
 use Rattle.postscript_write.specs.Sizes.{bytes_in}
 use Rattle.postscript_write.specs.declared.layout.Glyphs.{Glyphs}
 
--- A font as it is read: it is laid out in its bytes, and, if it is CID-keyed, its font dictionaries and the private dictionaries that
--- they name have few bytes.
+-- A font as it is read: it is laid out in its bytes, and if it is CID-keyed, its Font DICTs and their Private DICTs are small.
 pub record IsRead (font : FontView) : Type 0 where
   pub laid : IsLaidOut font.bytes.now 0 (view_shown font)
   pub few : IsKeyed font.dictionary → HoldFew font.bytes.now font.dictionary font.parts.items
@@ -26,16 +25,16 @@ SelectsOnlyIfKeyed font glyphs = IsSome glyphs.select → IsKeyed font.dictionar
 abbrev pub index_room : List (List ℕ) → ℕ
 index_room items = 7 + 4 * length items + bytes_in items
 
--- The bytes of a font that is written, at most: names, strings and char strings; encoding, FDSelect and char set; the dictionary and the
--- private dictionary, each of which has no more than the font that is read; and 42,000,000 for font dictionaries and their private
--- dictionaries, each at most 20,000,000 as they are read (`HoldFew`), with the header, the offsets of font dictionaries, and places.
+-- The bytes of a new font, at most: names, strings and charstrings; encoding, FDSelect and charset; the Top DICT and the Private DICT, each
+-- of which has no more bytes than the old font; and 42,000,000 for Font DICTs and their Private DICTs, each at most 20,000,000 when they
+-- are read (`HoldFew`), with the header and all offsets.
 abbrev pub room : FontView → Glyphs → (codes : List (List ℕ)) → ℕ
 room font glyphs codes =
     index_room (items_of font.names) + index_room (texts glyphs.strings.texts.items) + index_room codes
     + (length (text_of glyphs.encoding) + length (text_of glyphs.select) + length (text_of glyphs.char_set))
     + (2 * length font.bytes.now + 42000000)
 
--- Each INDEX that is written has fewer than 65,536 items, the new identifiers of strings can be written, and no place is past 2^31.
+-- Each INDEX has fewer than 65,536 items, the new SIDs can be written, and no offset is past 2^31.
 pub record HasRoom (font : FontView) (glyphs : Glyphs) (codes : List (List ℕ)) : Type 0 where
   pub few_names : length (items_of font.names) < 2 ^ 16
   pub few_strings : length (texts glyphs.strings.texts.items) < 2 ^ 16
@@ -44,7 +43,7 @@ pub record HasRoom (font : FontView) (glyphs : Glyphs) (codes : List (List ℕ))
   pub renamed : All IsHeld (all_renamed glyphs.strings font.dictionary)
   pub all : room font glyphs codes < 2 ^ 31
 
--- char strings and private dictionaries of a font of these codes have few bytes
+-- the charstrings and the Private DICTs of such a font are small enough
 pub record HasFew (font : FontView) (codes : List (List ℕ)) (strings own : List ℕ) : Type 0 where
   pub char_strings : length strings ≤ index_room codes
   pub privates : length own ≤ length font.bytes.now + 20000000

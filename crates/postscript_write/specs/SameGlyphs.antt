@@ -1,5 +1,5 @@
--- What is told of a glyph that is written and of the one that it is made of, besides what they draw (Technical Note 5176, sections 13,
--- 15 and 18; Technical Note 5177, 3.1).
+-- A new glyph is the same as the old glyph that it is made of, apart from its drawing (Technical Note 5176, sections 13, 15 and 18;
+-- Technical Note 5177, 3.1).
 use Rattle.std.specs.Prelude.{◌≡◌, ◌↔◌, ℕ, List, Option, Some, None, slice_get}
 use Rattle.postscript_base.specs.Index.Lent.{items_of}
 use Rattle.postscript_drawing.specs.Components.{HasCharSet}
@@ -16,8 +16,8 @@ use Rattle.postscript_view.specs.declared.private_dict.PrivateDict.{PrivateDict}
 use Rattle.postscript_write.specs.Drawings.{AreLike, AreLikeKept}
 use Rattle.postscript_write.specs.Glyphs.{Sources, code_text}
 
--- No fault ends the run of the old glyph, and the new code is the text of that run without calls and returns: so hints, masks and
--- what `endchar` takes stay.
+-- The run of the old glyph does not fail, and the new charstring is the text of that run without calls and returns. So hints, masks and the
+-- operands of `endchar` are unchanged.
 pub record IsInlined (old new : FontView) (glyph i : ℕ) : Type 0 where
   pub part : PrivateDict
   pub run : Run
@@ -32,12 +32,12 @@ pub record HasAdvance (font : FontView) (glyph : ℕ) (advance : Option Advance)
   pub has : HasRun font glyph part run
   pub is : advance_of part.dictionary (width_of run) ≡ advance
 
--- by these char sets both glyphs have the same name, or the same CID
+-- with these charsets both glyphs have the same name, or the same CID
 pub record HaveSameName (old : FontView) (old_set : CharSetView) (glyph : ℕ) (new : FontView) (new_set : CharSetView) (i : ℕ) : Type 0 where
   pub name : (name : List ℕ) → HasName (view_shown old) old_set glyph name ↔ HasName (view_shown new) new_set i name
   pub cid : (cid : ℕ) → HasCid old old_set glyph cid ↔ HasCid new new_set i cid
 
--- A glyph of the new font has the code of one of the old font without its calls, the same advance, and the same name or CID.
+-- A glyph of the new font has the charstring of an old glyph without calls, the same advance, and the same name or CID.
 pub record IsSameGlyph (old new : FontView) (glyph i : ℕ) : Type 0 where
   pub code : IsInlined old new glyph i
   pub advance : (advance : Option Advance) → HasAdvance old glyph advance ↔ HasAdvance new i advance

@@ -7,21 +7,21 @@ use Rattle.postscript_view.specs.Select.{IsSelected, Selects}
 use Rattle.postscript_write.specs.Texts.{number_text, TextStands}
 use Rattle.postscript_write.specs.Whole.{SelectEnds}
 
--- numbers of one byte
+-- one-byte numbers
 abbrev pub AreLow : List ℕ → Type 0
 AreLow numbers = (i : ℕ) → i < length numbers → slice_index_or numbers i 0 < 256
 
--- Wherever the text stands, an FDSelect stands that gives each glyph the number in its place, and it ends behind the text.
+-- At any offset, the text is an FDSelect that gives glyph i the number at index i, and it ends after the text.
 pub record SelectsAll (text numbers : List ℕ) : Type 0 where
   pub gives : (bytes : List ℕ) (place i : ℕ) → TextStands text bytes place → i < length numbers →
       Selects bytes place (length numbers) i (slice_index_or numbers i 0)
   pub ends : (bytes : List ℕ) (place : ℕ) → TextStands text bytes place → SelectEnds bytes (length numbers) place (place + length text)
 
--- format 0: a byte for each glyph
+-- format 0: one byte for each glyph
 abbrev pub listed_text : (numbers : List ℕ) → List ℕ
 listed_text numbers = number_text 1 0 ++ flat_map (number_text 1) numbers
 
--- A glyph, of so many, lies in a range that one of these begins, which has the same number.
+-- A glyph is in a range, given the first glyphs of all ranges, and has the number of the first glyph of that range.
 pub record LiesInOne (numbers firsts : List ℕ) (glyphs glyph : ℕ) : Type 0 where
   pub range : ℕ
   pub there : range < length firsts
@@ -29,7 +29,7 @@ pub record LiesInOne (numbers firsts : List ℕ) (glyphs glyph : ℕ) : Type 0 w
   pub to : glyph < slice_index_or firsts (range + 1) glyphs
   pub same : slice_index_or numbers glyph 0 ≡ slice_index_or numbers (slice_index_or firsts range glyphs) 0
 
--- These begin the ranges of so many glyphs, in ascending order. Behind the last range stands the number of glyphs.
+-- The first glyphs of the ranges, in ascending order. The last range ends at the number of glyphs.
 pub record AreFirsts (numbers firsts : List ℕ) (glyphs : ℕ) : Type 0 where
   pub few : length firsts ≤ glyphs
   pub below : (r : ℕ) → r < length firsts → slice_index_or firsts r glyphs < glyphs
@@ -40,12 +40,12 @@ pub record AreFirsts (numbers firsts : List ℕ) (glyphs : ℕ) : Type 0 where
 abbrev pub range_text : (numbers : List ℕ) → (first : ℕ) → List ℕ
 range_text numbers first = number_text 2 first ++ number_text 1 (slice_index_or numbers first 0)
 
--- format 3: how many ranges there are, the ranges, and how many glyphs
+-- format 3: the number of ranges, the ranges, and the number of glyphs
 abbrev pub ranges_text : (numbers firsts : List ℕ) → List ℕ
 ranges_text numbers firsts =
     number_text 1 3 ++ (number_text 2 (length firsts) ++ (flat_map (range_text numbers) firsts ++ number_text 2 (length numbers)))
 
--- A font begins the bytes. If it is CID-keyed, FDSelect gives each glyph the number of one of its font dictionaries: 0, if it has one.
+-- A font begins the bytes. If it is CID-keyed, FDSelect gives each glyph the number of one of its Font DICTs. With only one it is 0.
 abbrev pub SelectsParts : (flat : List ℕ) → Type 0
 SelectsParts flat = (font : View) × IsLaidOut flat 0 font × (IsCidKeyed font.tables.dictionary → (glyph : ℕ) →
     glyph < length font.char_strings →

@@ -6,46 +6,46 @@ use Rattle.postscript_view.specs.Contents.{View}
 use Rattle.postscript_write.specs.Glyphs.{Sources}
 use Rattle.postscript_write.specs.Making.{Making}
 
--- every one of so many glyphs, in its place
+-- all glyphs, each with its number
 abbrev pub every : (glyphs : ℕ) → Sources
 every glyphs = map Some (range_with_len 0 glyphs)
 
--- a glyph is kept where it is named, and .notdef always
+-- the named glyphs are kept, and .notdef
 abbrev pub is_kept : (named : List ℕ) → (glyph : ℕ) → Bool
 is_kept [] glyph = glyph == 0
 is_kept (one ∷ named) glyph = (one == glyph) || is_kept named glyph
 
--- the kept ones of so many glyphs, in ascending order
+-- the kept glyphs in ascending order
 abbrev pub kept_of : (named : List ℕ) → (glyphs : ℕ) → List ℕ
 kept_of named glyphs = filter (is_kept named) (range_with_len 0 glyphs)
 
--- a font that is made of these alone
+-- a font is made of only these
 abbrev pub chosen : (named : List ℕ) → (glyphs : ℕ) → Sources
 chosen named glyphs = map Some (kept_of named glyphs)
 
--- the kept ones of so many glyphs, each in its place, and empty ones between them
+-- the kept glyphs with their numbers, and empty glyphs between them
 abbrev pub kept_or_none : (named : List ℕ) → (glyph : ℕ) → Option ℕ
 kept_or_none named glyph = if is_kept named glyph then Some glyph else None
 
 abbrev pub keeping : (named : List ℕ) → (glyphs : ℕ) → Sources
 keeping named glyphs = map (kept_or_none named) (range_with_len 0 glyphs)
 
--- where glyphs keep their numbers, and where they get new ones
+-- whether glyphs keep their numbers or get new ones
 abbrev pub choice_by : (retain_gids : Bool) → (named : List ℕ) → (glyphs : ℕ) → Sources
 choice_by true = keeping
 choice_by false = chosen
 
--- each one that is named is one of so many glyphs
+-- the font has all named glyphs
 abbrev pub AreThere : (named : List ℕ) → (glyphs : ℕ) → Type 0
 AreThere named glyphs = (k : ℕ) → k < length named → slice_index_or named k 0 < glyphs
 
--- so many marks: at each glyph that is named
+-- a mark for each named glyph
 pub record AreMarks (named : List ℕ) (glyphs : ℕ) (marks : List Bool) : Type 0 where
   pub many : length marks ≡ glyphs
   pub there : AreThere named glyphs
   pub each : (glyph : ℕ) → glyph < glyphs → (slice_index_or marks glyph false || (glyph == 0)) ≡ is_kept named glyph
 
--- Fonts begin both texts, and the new one is so made of glyphs of the old one: those that this gives for so many.
+-- Both texts begin with fonts, and the new one is made of these glyphs of the old one.
 pub record IsWritten (is_made : Making) (sources : (glyphs : ℕ) → Sources) (bytes flat : List ℕ) : Type 0 where
   pub old : View
   pub new : View

@@ -1,4 +1,4 @@
--- What is written of a font (Technical Note 5176, "CFF Data Layout").
+-- A written font (Technical Note 5176, "CFF Data Layout").
 use Rattle.std.specs.Prelude.{All, ◌≡◌, ℕ, ◌<◌, ◌^◌, Option, List, [], ◌∷◌, IsSome, ◌++◌, length}
 use Rattle.postscript_base.specs.Compact1.Dictionary.{Dictionary}
 use Rattle.postscript_base.specs.Compact1.DictionaryLaw.{IsDictionary}
@@ -19,8 +19,7 @@ use Rattle.postscript_write.specs.Renumbered.{IsRenamed, all_renamed}
 use Rattle.postscript_write.specs.declared.layout.Glyphs.{Glyphs}
 use Rattle.postscript_write.specs.declared.layout.Private.{Private as OwnPrivate}
 
--- Tables, and pieces behind them, of these char strings and private dictionaries. Their dictionary is another one with the places where
--- the pieces stand.
+-- Tables, and pieces after them, with these charstrings and Private DICTs. Their Top DICT is another one with the offsets of the pieces.
 pub record IsPut (font : FontView) (glyphs : Glyphs) (char_strings : List ℕ) (privates : List (Option OwnPrivate)) (dictionary out : List ℕ) :
     Type 0 where
   pub dictionaries : List (List ℕ)
@@ -40,8 +39,7 @@ pub record IsPut (font : FontView) (glyphs : Glyphs) (char_strings : List ℕ) (
   pub private_places : NamePrivates font.bytes.now font.dictionary glyphs.select privates
       (place_in start (pieces_for glyphs char_strings privates dictionaries) Private) dictionaries
 
--- What is written of a font with glyphs of these codes. Its dictionary is that of the font, but with the new identifiers of strings, and
--- with places.
+-- A written font with these charstrings. Its Top DICT is the old one with new SIDs and offsets.
 pub record IsPutTogether (font : FontView) (glyphs : Glyphs) (codes : List (List ℕ)) (out : List ℕ) : Type 0 where
   pub privates : List (Option OwnPrivate)
   pub dictionary : List ℕ

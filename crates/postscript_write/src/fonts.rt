@@ -8,6 +8,7 @@ ghost use Rattle.postscript_view.specs.Contents.{View};
 ghost use Rattle.postscript_view.specs.Value.{view_shown};
 ghost use Rattle.postscript_write.specs.Components.{AreKept, IsSubset};
 ghost use Rattle.postscript_write.specs.Drawings.{DrawsKept, KeepsDrawings};
+ghost use Rattle.postscript_write.specs.Kept.{HasAllKept};
 ghost use Rattle.postscript_write.specs.Making.{IsCutFont, IsFontBy, IsKeptFont};
 ghost use Rattle.postscript_write.specs.Once.{BeginsWithRos, TellsOnce};
 ghost use Rattle.postscript_write.specs.Readings.{HasLenientFont};
@@ -176,6 +177,8 @@ pub fn subset(alloc: Global, bytes: &[u8], named: &[usize]) -> Result<Vec<u8>>
     ensures same { IfOk result (λ flat. GlyphsKept the_chosen named.now bytes.now flat.items) }
     // The new font is well formed and has exactly the kept glyphs, in ascending order.
     ensures written { IfOk result (λ flat. IsSubset IsCutFont the_chosen named.now bytes.now flat.items) }
+    // Glyph `i` of the new font is the glyph at index `i` in the list of `kept_glyphs`.
+    ensures kept { IfOk result (λ flat. HasAllKept named.now bytes.now flat.items) }
     // No bytes are outside the parts of the font, and a Private DICT has no operator twice.
     ensures whole { IfOk result (λ flat. IsWholeFont flat.items) }
     // No operator occurs twice in the Top DICT or in a Font DICT.

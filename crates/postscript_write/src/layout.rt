@@ -25,7 +25,7 @@ ghost use Rattle.postscript_view.specs.declared.char_set.CharSetView.{CharSetVie
 ghost use Rattle.postscript_view.specs.declared.encoding.EncodingView.{EncodingView as Encodings};
 ghost use Rattle.postscript_write.specs.Once.{IsToldOnce, TellsRosFirst};
 ghost use Rattle.postscript_write.specs.Own.{IsCutFrom, IsOwnCharSet, IsOwnEncoding};
-ghost use Rattle.postscript_write.specs.Pieces.{named_places, piece_shown, pieces_of as the_pieces, pieces_text, piece_if, place_of, standard_place, text_of};
+ghost use Rattle.postscript_write.specs.Pieces.{named_places, piece_shown, pieces_of as the_pieces, pieces_text, piece_if, is_listed as listed, listed_set, ranges_set, place_of, standard_place, text_of};
 ghost use Rattle.postscript_write.specs.Privates.{AreFontDictionaries, AreSized, AreOwnPrivates, IsFontDictionary, IsOwnPrivate, IsSomeDictionary, NoneIsNamed, place_of_private, private_text, privates_text};
 ghost use Rattle.postscript_write.specs.Renumbered.{IsRenamed, IsUnnamed, all_renamed, renamed_if};
 ghost use Rattle.postscript_write.specs.Room.{HasFew, HasRoom, IsRead, SelectsOnlyIfKeyed};
@@ -238,20 +238,66 @@ fn piece_of(operator: Operator, bytes: &Option<Vec<u8>>) -> Piece<'_>
     }
 }
 
-/// The pieces after the tables: encoding, FDSelect, charstrings, Private DICTs, the Font DICTs of a CID-keyed font, and
-/// the charset. The charset is last since ranges that cover too few glyphs end with the font.
+/// A piece without bytes and without an offset in the Top DICT.
+fn no_piece<'p>(operator: Operator) -> Piece<'p>
+    ensures { piece_shown result ≡ piece_if operator None }
+{
+    Piece {
+        operator,
+        named: false,
+        counted: false,
+        text: &[],
+    }
+}
+
+/// Whether a charset is of format 0.
+fn is_listed(char_set: &[u8]) -> bool
+    ensures { result ≡ listed char_set.now }
+{
+    match char_set {
+        [format, ..] => *format == 0,
+        [] => false,
+    }
+}
+
+/// The piece of a charset of format 0. It is empty if the charset is predefined or of another format.
+fn listed_piece(char_set: &Option<Vec<u8>>) -> Piece<'_>
+    ensures { piece_shown result ≡ piece_if operators.CharSet (listed_set char_set.now) }
+{
+    if is_listed(text_in(char_set)) {
+        piece_of(Operator::CharSet, char_set)
+    } else {
+        no_piece(Operator::CharSet)
+    }
+}
+
+/// The piece of a charset of ranges. It is empty if the charset is predefined or of format 0.
+fn ranges_piece(char_set: &Option<Vec<u8>>) -> Piece<'_>
+    ensures { piece_shown result ≡ piece_if operators.CharSet (ranges_set char_set.now) }
+{
+    if is_listed(text_in(char_set)) {
+        no_piece(Operator::CharSet)
+    } else {
+        piece_of(Operator::CharSet, char_set)
+    }
+}
+
+/// The pieces after the tables: encoding, FDSelect, a charset of format 0, charstrings, Private DICTs, the Font DICTs of
+/// a CID-keyed font, and a charset of ranges. Ranges are last since ranges that cover too few glyphs end with the font.
+/// A charset of format 0 is not, since HarfBuzz 6.0.0 reads two bytes past it.
 fn pieces_of<'p>(
     glyphs: &'p Glyphs,
     char_strings: &'p [u8],
     single: bool,
     privates: &'p [u8],
     dictionaries: &'p [u8],
-) -> [Piece<'p>; 6]
+) -> [Piece<'p>; 7]
     ensures { map piece_shown result ≡ the_pieces glyphs.now char_strings.now single privates.now dictionaries.now }
 {
     [
         piece_of(Operator::Encoding, &glyphs.encoding),
         piece_of(Operator::FDSelect, &glyphs.select),
+        listed_piece(&glyphs.char_set),
         Piece {
             operator: Operator::CharStrings,
             named: true,
@@ -270,7 +316,7 @@ fn pieces_of<'p>(
             counted: false,
             text: dictionaries,
         },
-        piece_of(Operator::CharSet, &glyphs.char_set),
+        ranges_piece(&glyphs.char_set),
     ]
 }
 
@@ -352,12 +398,15 @@ fn places_from(
 
 /// The offset of the Private DICTs, if the pieces begin at an offset.
 fn private_place(glyphs: &Glyphs, char_strings: &[u8], start: usize) -> usize
-    ensures { start + length (text_of glyphs.now.encoding) + length (text_of glyphs.now.select) + length char_strings.now < 2 ^ 64 →
-        result ≡ start + length (text_of glyphs.now.encoding) + length (text_of glyphs.now.select) + length char_strings.now }
+    ensures { start + length (text_of glyphs.now.encoding) + length (text_of glyphs.now.select)
+        + length (text_of (listed_set glyphs.now.char_set)) + length char_strings.now < 2 ^ 64 →
+        result ≡ start + length (text_of glyphs.now.encoding) + length (text_of glyphs.now.select)
+        + length (text_of (listed_set glyphs.now.char_set)) + length char_strings.now }
 {
     start
         .saturating_add(text_in(&glyphs.encoding).len())
         .saturating_add(text_in(&glyphs.select).len())
+        .saturating_add(listed_piece(&glyphs.char_set).text.len())
         .saturating_add(char_strings.len())
 }
 

@@ -1,0 +1,6 @@
+pub mod Following
+pub mod Costs
+pub mod Cases
+pub mod Listing
+pub mod Rounds
+pub mod Stays
