@@ -50,7 +50,7 @@ is-copy n t = by (adjusts t) refl
     by false e =
         let is = with_none n t e in
         subst (λ (xs : List ℕ). IsCopy t.tag t.bytes.now xs) (sym is)
-        (record { size = refl; same = λ other. refl; front = refl; behind = refl })
+        (record { size = refl; same = λ other. refl; front = refl; after = refl })
     by true e =
         let is = with_number n t e in
         let long : 11 < length t.bytes.now = adjusts-long t e in
@@ -62,12 +62,12 @@ is-copy n t = by (adjusts t) refl
           same = λ other. absurd (other (eqb-true t.tag 0x68656164 (first-of-both (t.tag == 0x68656164) (nat_lt 11 (length t.bytes.now)) e)));
           front = ap (take 8) is ∙ ap (λ k. take k (take 8 t.bytes.now ++ (uint32 n ++ drop 12 t.bytes.now))) (sym front)
               ∙ take-append_seam (take 8 t.bytes.now) (uint32 n ++ drop 12 t.bytes.now);
-          behind = ap (drop 12) (is ∙ sym (append_assoc (take 8 t.bytes.now) (uint32 n) (drop 12 t.bytes.now)))
+          after = ap (drop 12) (is ∙ sym (append_assoc (take 8 t.bytes.now) (uint32 n) (drop 12 t.bytes.now)))
               ∙ ap (λ k. drop k ((take 8 t.bytes.now ++ uint32 n) ++ drop 12 t.bytes.now)) (sym both)
               ∙ drop-append_seam (take 8 t.bytes.now ++ uint32 n) (drop 12 t.bytes.now);
         }
 
--- how many bytes the tables take
+-- the size of a table with its padding
 abbrev room : Table → ℕ
 room t = room_of (length t.bytes.now)
 
@@ -105,7 +105,7 @@ is-file tables sorted bytes moved opens lent size = record {
   size = size ∙ same-size tables sorted moved;
 }
 
--- tags that do not fall, and no two neighbours have one
+-- tags that do not fall rise if no neighbours are equal
 pub tags-rise : (tables : List Table) → IsNonDecreasingBy (λ t. t.tag) tables → NoNeighbours tables → TagsRise tables
 tags-rise tables up apart i j a b less first second =
     let within : j < length tables = slice_get_within tables j b second in

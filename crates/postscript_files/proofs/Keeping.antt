@@ -15,7 +15,7 @@ use Rattle.postscript_files.specs.declared.choice.Choice.{Choice}
 use Rattle.postscript_files.specs.declared.error.Error.{Error}
 use Rattle.postscript_files.proofs.OneGlyph.{one-glyph}
 
--- what a list of the mappings of later pairs is begun with
+-- the mapping of a pair, if it is kept, and those of later pairs
 abbrev Begun : Bool → (ℕ × ℕ) → List Mapping → List Mapping
 Begun kept pair rest = kept_if kept pair ++ rest
 
@@ -113,7 +113,7 @@ all-there map chars glyphs from (x ∷ xs) all char glyph low has kept = elim (c
   ]
 ]
 
--- the glyphs of a map are low where those of the list are
+-- the glyphs of a map have two bytes if those of the list do
 low-glyph : (map : CharacterMap) (from : ℕ) (xs : List (ℕ × ℕ)) → AreAll map from xs → All (λ p. p.1 < 65536) xs →
     (char glyph : ℕ) → from ≤ char → HasGlyph map char glyph → glyph < 65536
 low-glyph map from [] all low char glyph at has = absurd (lacking map char glyph (all char at has.unicode) has)
@@ -133,11 +133,11 @@ either : (a b : Bool) → (a || b) ≡ true → (a ≡ true) ⊎ (b ≡ true)
 either true b h = inl refl
 either false b h = inr h
 
-left-set : (a b : Bool) → a ≡ true → (a || b) ≡ true
+pub left-set : (a b : Bool) → a ≡ true → (a || b) ≡ true
 left-set true b h = refl
 left-set false b h = absurd (cc)
 
-right-set : (a b : Bool) → b ≡ true → (a || b) ≡ true
+pub right-set : (a b : Bool) → b ≡ true → (a || b) ≡ true
 right-set true b h = refl
 right-set false b h = h
 

@@ -6,3 +6,11 @@ pub mod Numbering
 pub mod Filing
 pub mod Others
 pub mod Same
+pub mod Twice
+pub mod Listing
+pub mod Origins
+pub mod Charting
+pub mod Measuring
+pub mod Counting
+pub mod Subsetting
+pub mod Refusing

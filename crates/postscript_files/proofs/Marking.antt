@@ -8,7 +8,7 @@ use Rattle.std.proofs.lemmas.List.{get_or_default, get_or_past, set_past}
 use Rattle.std.specs.List.{Contains}
 use Rattle.postscript_files.specs.Choices.{AreMarks}
 
--- so many of these numbers are marked
+-- the first of these numbers, up to an index, are marked
 pub record AreMarkedTo (numbers : List ℕ) (i count : ℕ) (marks : List Bool) : Type 0 where
   pub many : length marks ≡ count
   pub sound : (n : ℕ) → get_or marks n false ≡ true → Contains numbers n

@@ -7,7 +7,7 @@ use Rattle.postscript_sfnt.specs.Maps.{Maps}
 use Rattle.postscript_sfnt.specs.declared.character_map.CharacterMap.{CharacterMap}
 use Rattle.postscript_sfnt.specs.declared.character_map.CharacterMap.TheVariants.{Segments, Groups, Trimmed}
 
--- none of the first n holds a character, and the next one does not
+-- none of the first n segments holds a character, and the next one does not
 none-more : (first last : ℕ → ℕ) (count char n : ℕ) → ((i : ℕ) → i < n → Holds first last count i char → ⊥) →
     (Holds first last count n char → ⊥) → (i : ℕ) → i < suc n → Holds first last count i char → ⊥
 none-more first last count char n none here i below holds = elim (cases_eq i n) [
@@ -19,7 +19,7 @@ none-more first last count char n none here i below holds = elim (cases_eq i n) 
   | inr other ↦ none i (omega (arith, other)) holds
 ]
 
--- the first one that holds a character, or none of so many does
+-- the first segment that holds a character, or none of the first n does
 pub first-or-none : (first last : ℕ → ℕ) (count char n : ℕ) → n ≤ count →
     ((i : ℕ) × IsFirst first last count char i) ⊎ ((i : ℕ) → i < n → Holds first last count i char → ⊥)
 first-or-none first last count char zero within = inr (λ i below holds. absurd (omega (arith, below)))

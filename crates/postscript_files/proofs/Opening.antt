@@ -1,4 +1,4 @@
--- Why a face is not opened.
+-- The reason why a face is not opened.
 use Rattle.std.proofs.Common.{◌≡◌, sym, subst, inl, inr, ℕ, List}
 use Rattle.std.specs.Prelude.{Result, Ok, Err, IfErr}
 use Rattle.std.specs.Result.{IsErrAnd}

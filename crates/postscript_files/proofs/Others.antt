@@ -1,4 +1,4 @@
--- Tables of a face that stay.
+-- Tables of a face that are copied.
 use Rattle.std.proofs.Common.{◌≡◌, ◌≢◌, refl, sym, ap, ◌∙◌, subst, inl, inr, ℕ, zero, suc, ◌+◌, ◌<◌, ◌≤◌, List, [], ◌∷◌, ◌++◌, length, get_or, arith, length-append}
 use Rattle.std.specs.Prelude.{◌⊎◌, Some, Result, Ok, Err, IfOk, IfErr, Vec}
 use Rattle.std.specs.declared.alloc.Global.{Global}
@@ -38,16 +38,16 @@ one-table file tag a b x y =
 pub has-table : (file : FontFile) (tag : ℕ) (table : List ℕ) → IsTableOf file tag table → HasNoTable file tag → ⊥
 has-table file tag table is none = none is.i is.chosen.listed is.chosen.names
 
-given-front : (tables more : List Table) (k : ℕ) (t : Table) → IsGiven tables k t → IsGiven (tables ++ more) k t
+pub given-front : (tables more : List Table) (k : ℕ) (t : Table) → IsGiven tables k t → IsGiven (tables ++ more) k t
 given-front [] more k t h = absurd (cc)
 given-front (u ∷ us) more zero t h = h
 given-front (u ∷ us) more (suc k) t h = given-front us more k t h
 
-given-last : (tables : List Table) (t : Table) → IsGiven (tables ++ t ∷ []) (length tables) t
+pub given-last : (tables : List Table) (t : Table) → IsGiven (tables ++ t ∷ []) (length tables) t
 given-last [] t = refl
 given-last (u ∷ us) t = given-last us t
 
-given-cases : (tables : List Table) (u : Table) (k : ℕ) (t : Table) → IsGiven (tables ++ u ∷ []) k t →
+pub given-cases : (tables : List Table) (u : Table) (k : ℕ) (t : Table) → IsGiven (tables ++ u ∷ []) k t →
     IsGiven tables k t ⊎ ((k ≡ length tables) × (u ≡ t))
 given-cases [] u zero t h = let e : u ≡ t = cc in inr (refl, e)
 given-cases [] u (suc k) t h = absurd (cc)
@@ -94,14 +94,14 @@ first-there file font tables it =
     let is = it.first (get_or tables 0 empty) given in
     (get_or tables 0 empty, given, is.0, is.1)
 
--- a table that is not there is not that of the outlines
+-- a tag that is not in the list is not `CFF `
 pub stays-so : (file : FontFile) (font : List ℕ) (tables : List Table) (tag : ℕ) → AreOthers file font tables → tag ≢ dsig_tag →
     (Has tables tag → ⊥) → Stays tag
 stays-so file font tables tag it other none =
     let f = first-there file font tables it in
     (λ same. none (0, f.0, f.1, f.2 ∙ sym same), other)
 
-copy-of : (new : FontFile) (t : Table) (tag : ℕ) (table : List ℕ) → t.tag ≡ tag → t.bytes.now ≡ table →
+pub copy-of : (new : FontFile) (t : Table) (tag : ℕ) (table : List ℕ) → t.tag ≡ tag → t.bytes.now ≡ table →
     HasCopy new t.tag t.bytes.now → HasCopy new tag table
 copy-of new t tag table a b h =
     subst (λ (xs : List ℕ). HasCopy new tag xs) b (subst (λ n. HasCopy new n t.bytes.now) a h)

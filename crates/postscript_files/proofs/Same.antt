@@ -33,14 +33,14 @@ same-bool false true f g = g refl
 same-bool false false f g = refl
 
 -- one list of glyphs is reached from those that are named
-one-closed : (bytes named xs ys : List ℕ) → AreClosed bytes named xs → AreClosed bytes named ys → (glyph : ℕ) →
+pub one-closed : (bytes named xs ys : List ℕ) → AreClosed bytes named xs → AreClosed bytes named ys → (glyph : ℕ) →
     is_kept xs glyph ≡ is_kept ys glyph
 one-closed bytes named xs ys a b glyph = same-bool (is_kept xs glyph) (is_kept ys glyph) (moved xs ys a b) (moved ys xs b a)
   where
     moved : (p q : List ℕ) → AreClosed bytes named p → AreClosed bytes named q → is_kept p glyph ≡ true → is_kept q glyph ≡ true
     moved p q x y h = (y.all glyph).1 (reached-moved bytes named x.font y.font x.opened y.opened glyph ((x.all glyph).0 h))
 
-same-kept : (xs ys : List ℕ) → ((glyph : ℕ) → is_kept xs glyph ≡ is_kept ys glyph) → (n : ℕ) → kept_of xs n ≡ kept_of ys n
+pub same-kept : (xs ys : List ℕ) → ((glyph : ℕ) → is_kept xs glyph ≡ is_kept ys glyph) → (n : ℕ) → kept_of xs n ≡ kept_of ys n
 same-kept xs ys same zero = refl
 same-kept xs ys same (suc n) = subst (λ m. kept_of xs m ≡ kept_of ys m) (add-one n)
     (kept_more xs n ∙ ap (λ l. l ++ (if is_kept xs n then n ∷ [] else [])) (same-kept xs ys same n)
@@ -53,7 +53,7 @@ source-at origins i glyph h = record {
       get_or_default (map Some origins) i None (Some 0) (omega (arith, e, t)) ∙ get_or-map Some origins i 0 ∙ ap Some h.is;
 }
 
--- what is kept of a glyph of a subset holds of each glyph and of the one that it is made of
+-- a likeness that a subset keeps is true of each new glyph and its origin
 pub cut-like : (IsLike : Likeness) (named cff flat origins : List ℕ) → AreKept named cff origins →
     AreLikeKept IsLike chosen named cff flat → (i glyph : ℕ) → IsOrigin origins i glyph → (was is : FontView) → IsOpened cff was →
     IsOpened flat is → IsLike was is glyph i

@@ -1,4 +1,4 @@
--- Tables of a file that is made, and of one that they come from (ISO/IEC 14496-22, 4.5).
+-- Tables that are copied from one file to another (ISO/IEC 14496-22, 4.5).
 use Rattle.std.specs.Prelude.{◌≡◌, ◌≢◌, ◌⊎◌, ℕ, ◌+◌, ◌<◌, ◌≤◌, ◌^◌, List, Vec, length, take, drop, slice_get, Some}
 use Rattle.std.specs.List.Sorted.{IsPermutation}
 use Rattle.postscript_sfnt.specs.Lent.{HasNoTable, IsFaceOf, IsTableOf, tables_of, tag_of}
@@ -9,24 +9,24 @@ use Rattle.postscript_sfnt_write.specs.declared.file.Table.{Table}
 use Rattle.postscript_files.specs.declared.error.Error.{Error}
 use Rattle.postscript_files.specs.declared.error.Error.TheVariants.{Memory, SameTag, TooLarge}
 
--- Byte for byte the same, but for the four bytes of `head` that tell the sum of the whole file, checkSumAdjustment.
+-- The same bytes, apart from the four bytes of checkSumAdjustment in `head`, which depend on the whole file.
 pub record IsCopy (tag : ℕ) (old new : List ℕ) : Type 0 where
   pub size : length new ≡ length old
   pub same : tag ≢ 0x68656164 → new ≡ old
   pub front : take 8 new ≡ take 8 old
-  pub behind : drop 12 new ≡ drop 12 old
+  pub after : drop 12 new ≡ drop 12 old
 
--- a face has a table, whose bytes are these but for that number
+-- a face has a copy of a table
 abbrev pub HasCopy : FontFile → (tag : ℕ) → (table : List ℕ) → Type 0
 HasCopy face tag table = (bytes : List ℕ) × IsTableOf face tag bytes × IsCopy tag table bytes
 
--- The face has each of these tables, each of its tables is one of them, and there are so many.
+-- The face has copies of these tables, and no other tables.
 pub record HasAll (face : FontFile) (tables : List Table) : Type 0 where
   pub each : (i : ℕ) (table : Table) → IsGiven tables i table → HasCopy face table.tag table.bytes.now
   pub only : (i : ℕ) → i < tables_of face → (k : ℕ) × (table : Table) × IsGiven tables k table × (table.tag ≡ tag_of face i)
   pub counted : tables_of face ≡ length tables
 
--- a file of these tables: it has one face, "OTTO", with these tables alone
+-- A file with one face of version "OTTO", which has copies of these tables only.
 pub record IsFileOf (tables : List Table) (bytes : List ℕ) : Type 0 where
   pub opens : Opens bytes (length tables)
   pub has : (face : FontFile) → IsFaceOf bytes 0 face → HasAll face tables
@@ -49,7 +49,7 @@ NoNeighbours tables = (i : ℕ) (a b : Table) → IsGiven tables i a → IsGiven
 abbrev pub HasTwice : List Table → (tag : ℕ) → Type 0
 HasTwice tables tag = (sorted : List Table) × IsPermutation tables sorted × HasNeighbours sorted tag
 
--- why there is no file of the tables
+-- why no file of the tables is written
 abbrev pub NoFileOf : Error → List Table → Type 0
 NoFileOf Memory tables = Unit {0}
 NoFileOf (SameTag tag) tables = HasTwice tables tag

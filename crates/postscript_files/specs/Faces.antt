@@ -1,4 +1,4 @@
--- What is read of a face whose outlines stand in a table `CFF ` (ISO/IEC 14496-22, 4.5 and 5.1).
+-- A face with a `CFF ` table (ISO/IEC 14496-22, 4.5 and 5.1).
 use Rattle.std.specs.Prelude.{◌≡◌, ◌⊎◌, ℕ, List, drop}
 use Rattle.postscript_sfnt.specs.Choice.{IsChosen, place_at}
 use Rattle.postscript_sfnt.specs.Lent.{AreAdvancesOf, HasNoTable, IsFaceOf, IsTableOf}
@@ -30,14 +30,15 @@ maxp_tag = 0x6d617870
 abbrev pub post_tag : ℕ
 post_tag = 0x706f7374
 
--- the map that the best record of a table `cmap` names; and there is none that is read
+-- the character map of the best record of a `cmap` table
 abbrev pub IsBestMap : (cmap : List ℕ) → CharacterMap → Type 0
 IsBestMap cmap map = (i : ℕ) × IsChosen cmap i × IsMapAt cmap (place_at cmap i) map
 
+-- that map is truncated or has another format, or there is no such record
 abbrev pub HasNoMap : (cmap : List ℕ) → Type 0
 HasNoMap cmap = (i : ℕ) → IsChosen cmap i → IsWhole (drop (place_at cmap i) cmap) → ⊥
 
--- a face of the file that bytes are, with the tables that it has of these tags
+-- The face of this number, with its own tables, best map and advance widths.
 pub record IsFaceIn (bytes : List ℕ) (number : ℕ) (face : Face) : Type 0 where
   pub read : IsFaceOf bytes number face.file
   pub cff : IsTableOf face.file cff_tag face.cff.now
@@ -48,11 +49,11 @@ pub record IsFaceIn (bytes : List ℕ) (number : ℕ) (face : Face) : Type 0 whe
   pub advances : AreAdvancesOf face.hhea.now face.hmtx.now face.advances
   pub maxp : IsTableOf face.file maxp_tag face.maxp.now
 
--- one of the five tables that are needed
+-- one of the five required tables
 abbrev pub IsNeeded : (tag : ℕ) → Type 0
 IsNeeded tag = (tag ≡ cff_tag) ⊎ ((tag ≡ cmap_tag) ⊎ ((tag ≡ hhea_tag) ⊎ ((tag ≡ hmtx_tag) ⊎ (tag ≡ maxp_tag))))
 
--- the face is read, and this holds of it
+-- the file has the face, and this is true of it
 abbrev pub OfFile : (bytes : List ℕ) → (number : ℕ) → (FontFile → Type 0) → Type 0
 OfFile bytes number P = (file : FontFile) × IsFaceOf bytes number file × P file
 

@@ -1,4 +1,4 @@
--- A file of a face whose char strings call no subroutine.
+-- A file of a face without subroutines.
 use Rattle.std.specs.Prelude.{◌≡◌, ◌≢◌, ◌⊎◌, ℕ, ◌<◌, List}
 use Rattle.postscript_sfnt.specs.Lent.{HasNoTable, IsFaceOf, IsTableOf, tables_of, tag_of}
 use Rattle.postscript_sfnt.specs.Refusals.{NoFace}
@@ -15,23 +15,23 @@ use Rattle.postscript_files.specs.Faces.{OfFile, cff_tag}
 use Rattle.postscript_files.specs.declared.error.Error.{Error}
 use Rattle.postscript_files.specs.declared.error.Error.TheVariants.{File, Font, Memory, MissingTable, Overlap, SameTag, TooLarge}
 
--- The new table `CFF ` is one that `flat_font` answers.
+-- The new `CFF ` table is one that `flat_font` writes.
 pub record IsFlatFont (cff new : List ℕ) : Type 0 where
   pub drawn : KeepsDrawings every cff new
   pub same : KeepsGlyphs every cff new
   pub written : IsWritten IsKeptFont every cff new
   pub whole : IsWholeFont new
 
--- the tag of the signature of a file, which does not hold any more: "DSIG"
+-- the tag of the digital signature, which would not be valid for the new file: "DSIG"
 abbrev pub dsig_tag : ℕ
 dsig_tag = 0x44534947
 
--- a table that stays as it is
+-- a table that is copied
 abbrev pub Stays : (tag : ℕ) → Type 0
 Stays tag = (tag ≢ cff_tag) × (tag ≢ dsig_tag)
 
--- The new face has another table `CFF `, and else all tables of the old one but its signature, as they are, and no others. So characters,
--- metrics and layout are those of the old one.
+-- The new face has another `CFF ` table, copies of all other tables of the old one but its signature, and no others. So it has the
+-- characters, metrics and layout of the old one.
 pub record IsFlatFace (old new : FontFile) : Type 0 where
   pub was : List ℕ
   pub is : List ℕ
@@ -41,14 +41,14 @@ pub record IsFlatFace (old new : FontFile) : Type 0 where
   pub others : (tag : ℕ) (table : List ℕ) → Stays tag → IsTableOf old tag table → HasCopy new tag table
   pub only : (i : ℕ) → i < tables_of new → (tag_of new i ≡ cff_tag) ⊎ (Stays (tag_of new i) × (HasNoTable old (tag_of new i) → ⊥))
 
--- The old file has the face, the new one has one, "OTTO", and whoever reads it has such a one.
+-- The old file has the face. The new file has one face, of version "OTTO", and it is such a face however it is read.
 pub record IsFlatOf (bytes : List ℕ) (number : ℕ) (file : List ℕ) : Type 0 where
   pub old : FontFile
   pub was : IsFaceOf bytes number old
   pub opens : (count : ℕ) × Opens file count
   pub is : (new : FontFile) → IsFaceOf file 0 new → IsFlatFace old new
 
--- why there is none
+-- why no such file is written
 abbrev pub NoFlatOf : (bytes : List ℕ) → (number : ℕ) → Error → Type 0
 NoFlatOf bytes number (File e) = NoFace e bytes number
 NoFlatOf bytes number (MissingTable tag) = (tag ≡ cff_tag) × OfFile bytes number (λ old. HasNoTable old cff_tag)

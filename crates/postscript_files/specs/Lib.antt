@@ -8,3 +8,4 @@ pub mod Subsets
 pub mod Flats
 pub mod Others
 pub mod Made
+pub mod Listed

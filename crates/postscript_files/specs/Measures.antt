@@ -5,11 +5,12 @@ use Rattle.postscript_sfnt.specs.Metrics.{signed}
 use Rattle.postscript_sfnt.specs.declared.metrics.Advances.{Advances}
 use Rattle.postscript_sfnt_write.specs.declared.metrics.Metric.{Metric}
 
--- Behind each of so many advances stands a bearing; those of the glyphs past them follow.
+-- The offset of a left side bearing: it follows the advance of its glyph. The bearings of glyphs without their own advance follow these
+-- pairs.
 abbrev pub bearing_place : (advances glyph : ℕ) → ℕ
 bearing_place advances glyph = if nat_lt glyph advances then glyph * 4 + 2 else (glyph + advances) * 2
 
--- the bearing of a glyph, 0 where it is cut off
+-- the bearing of a glyph, or 0 if it is truncated
 abbrev pub bearing_in : (hmtx : List ℕ) → (advances glyph : ℕ) → ℤ
 bearing_in hmtx advances glyph =
     if nat_lt (length hmtx) (bearing_place advances glyph + 2) then pos 0 else signed hmtx (bearing_place advances glyph)

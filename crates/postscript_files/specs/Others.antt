@@ -1,4 +1,4 @@
--- The tables of a face that stay, as they are listed: private contracts and proofs alone name this.
+-- The tables of a face that are copied. Only private contracts and proofs use these definitions.
 use Rattle.std.specs.Prelude.{◌≡◌, ◌≢◌, ◌⊎◌, ℕ, ◌<◌, List, length}
 use Rattle.postscript_sfnt.specs.Lent.{HasNoTable, IsFaceOf, IsTableOf, tables_of, tag_of}
 use Rattle.postscript_sfnt.specs.declared.file.FontFile.{FontFile}
@@ -11,22 +11,22 @@ use Rattle.postscript_files.specs.declared.error.Error.{Error}
 use Rattle.postscript_files.specs.declared.error.Error.TheVariants.{Memory, Overlap, SameTag, TooLarge}
 use Rattle.postscript_files.specs.Flats.{Stays, dsig_tag}
 
--- there is a table of the tag
+-- there is a table with the tag
 abbrev pub Has : List Table → (tag : ℕ) → Type 0
 Has tables tag = (k : ℕ) × (t : Table) × IsGiven tables k t × (t.tag ≡ tag)
 
--- the first table has the tag of `CFF `, and these bytes; the others stay, and are of the face
+-- The first table is `CFF ` with these bytes. The others are tables of the face that stay.
 pub record AreOthers (file : FontFile) (font : List ℕ) (tables : List Table) : Type 0 where
   pub first : (t : Table) → IsGiven tables 0 t → (t.tag ≡ cff_tag) × (t.bytes.now ≡ font)
   pub some : 0 < length tables
   pub rest : (k : ℕ) (t : Table) → 0 < k → IsGiven tables k t → Stays t.tag × IsTableOf file t.tag t.bytes.now
 
--- each record before this one whose tag stays, and whose table the face has, has its table listed
+-- the tables of the first records are in the list, apart from the signature
 abbrev pub AreListedTo : FontFile → (i : ℕ) → List Table → Type 0
 AreListedTo file i tables = (k : ℕ) → k < i → tag_of file k ≢ dsig_tag → (table : List ℕ) → IsTableOf file (tag_of file k) table →
     Has tables (tag_of file k)
 
--- the tables of a new face: this one, and those of the old one that stay
+-- the tables of a new face: this one, and copies of those of the old one that stay
 pub record HasOthers (old : FontFile) (font : List ℕ) (new : FontFile) : Type 0 where
   pub has : IsTableOf new cff_tag font
   pub others : (tag : ℕ) (table : List ℕ) → Stays tag → IsTableOf old tag table → HasCopy new tag table
@@ -36,7 +36,7 @@ pub record IsFileWith (old : FontFile) (font bytes : List ℕ) : Type 0 where
   pub opens : (count : ℕ) × Opens bytes count
   pub is : (new : FontFile) → IsFaceOf bytes 0 new → HasOthers old font new
 
--- no cause but memory, size, tables that overlap and tables of one tag
+-- the cause is memory, size, overlapping tables or a repeated tag
 abbrev pub IsUnwritten : Error → Type 0
 IsUnwritten Memory = Unit {0}
 IsUnwritten Overlap = Unit {0}

@@ -1,4 +1,4 @@
-//! Which characters and glyphs are kept.
+//! The characters and glyphs of a subset.
 ghost use Rattle.std.specs.Prelude.{◌≡◌, ℕ, ◌++◌, ◌<◌, true, false, slice_index_or, slice_set, length, IfOk, IfErr, OnOk, IsTrue, ◌↔◌};
 ghost use Rattle.std.specs.List.{All};
 ghost use Rattle.postscript_files.specs.Choices.{AreKeptPairs, AreMarks, IsFirstMissing, IsMissing, NoneIsMissing, filtered as the_filtered, keeps as the_keeps, kept_if, named_of};
@@ -9,38 +9,39 @@ use postscript_sfnt::CharacterMap;
 use postscript_sfnt_write::Mapping;
 use std::alloc::Global;
 
-/// The first number past the characters of Unicode.
+/// One more than the last character of Unicode.
 const CHARS: usize = 0x110000;
 
-/// The first number past those of glyphs.
+/// One more than the last glyph number.
 const GLYPHS: usize = 0x10000;
 
-/// A table of the caller's own.
+/// A table of the caller's own, for [`Choice`].
 #[derive(Drop)]
 pub struct Given {
-    /// Its tag: the number of its four bytes, the high byte first.
+    /// The tag, as a big-endian number of four bytes.
     pub tag: u32,
+    /// The bytes of the table.
     pub bytes: Vec<u8>,
 }
 
-/// What a subset is to have.
+/// The contents of a subset.
 #[derive(Clone, Copy)]
 pub struct Choice<'t> {
-    /// Characters, in any order.
+    /// Characters, in any order. Repeated ones count once.
     pub chars: &'t [u32],
-    /// Glyphs, in any order, with all characters that the face has for them.
+    /// Glyph numbers, in any order. Each glyph is kept with all its characters.
     pub glyphs: &'t [usize],
-    /// Whether characters for which the face has no glyph are left out. Else they are refused.
+    /// Characters without a glyph are left out if this is set. Otherwise they are an error.
     pub lenient: bool,
-    /// Whether glyphs keep their numbers, with empty ones between them.
+    /// Glyphs keep their numbers if this is set, with empty glyphs between them.
     pub retain_gids: bool,
-    /// The tags of tables that are copied as they are, where the face has them.
+    /// Tags of tables that are copied unchanged, if the face has them.
     pub copied: &'t [u32],
-    /// Further tables.
+    /// Further tables for the new file.
     pub given: &'t [Given],
 }
 
-/// Sets the mark of a number, where it has one.
+/// Sets the mark of a number, if there is one.
 fn set(marks: &mut Vec<bool>, number: usize)
     ensures { marks.new.items ≡ slice_set marks.old.items number true }
 {
@@ -49,7 +50,7 @@ fn set(marks: &mut Vec<bool>, number: usize)
     }
 }
 
-/// So many marks, none of which is set.
+/// Returns this number of marks. None of them is set.
 fn unmarked(alloc: Global, count: usize) -> Result<Vec<bool>>
     ensures many { IfOk result (λ marks. length marks.items ≡ count) }
     ensures none { IfOk result (λ marks. (n : ℕ) → n < count → slice_index_or marks.items n false ≡ false) }
@@ -58,7 +59,7 @@ fn unmarked(alloc: Global, count: usize) -> Result<Vec<bool>>
     Ok(vec![in alloc; false; count]?)
 }
 
-/// So many marks, those of characters set.
+/// Returns this number of marks, with those of characters set.
 fn marked_chars(alloc: Global, chars: &[u32], count: usize) -> Result<Vec<bool>>
     ensures marks { IfOk result (λ marks. AreMarks chars.now count marks.items) }
     ensures memory { IfErr result (λ e. e ≡ errors.Memory) }
@@ -70,7 +71,7 @@ fn marked_chars(alloc: Global, chars: &[u32], count: usize) -> Result<Vec<bool>>
     Ok(marks)
 }
 
-/// So many marks, those of glyphs set.
+/// Returns this number of marks, with those of glyphs set.
 fn marked_glyphs(alloc: Global, glyphs: &[usize], count: usize) -> Result<Vec<bool>>
     ensures marks { IfOk result (λ marks. AreMarks glyphs.now count marks.items) }
     ensures memory { IfErr result (λ e. e ≡ errors.Memory) }
@@ -82,14 +83,14 @@ fn marked_glyphs(alloc: Global, glyphs: &[usize], count: usize) -> Result<Vec<bo
     Ok(marks)
 }
 
-/// Whether the mark of a number is set.
+/// Returns true if the mark of a number is set.
 fn is_marked(marks: &[bool], number: usize) -> bool
     ensures { result ≡ slice_index_or marks.now number false }
 {
     number < marks.len() && marks[number]
 }
 
-/// Whether a character with its glyph is kept: where its mark is set, or that of its glyph.
+/// Returns true if a character is kept: its mark is set, or that of its glyph.
 fn keeps(chars: &[bool], glyphs: &[bool], pair: &(u32, u16)) -> bool
     ensures exact { result ≡ the_keeps chars.now glyphs.now pair.now }
     ensures low { pair.now.1 < 65536 }
@@ -98,7 +99,7 @@ fn keeps(chars: &[bool], glyphs: &[bool], pair: &(u32, u16)) -> bool
     is_marked(chars, pair.0 as usize) || is_marked(glyphs, glyph)
 }
 
-/// Appends a character with its glyph, where it is kept.
+/// Appends a character with its glyph, if it is kept.
 fn push_if(pairs: &mut Vec<Mapping>, kept: bool, pair: &(u32, u16)) -> Result<()>
     ensures pushed { OnOk result (pairs.new.items ≡ pairs.old.items ++ kept_if kept pair.now) }
     ensures memory { IfErr result (λ e. e ≡ errors.Memory) }
@@ -112,7 +113,7 @@ fn push_if(pairs: &mut Vec<Mapping>, kept: bool, pair: &(u32, u16)) -> Result<()
     Ok(())
 }
 
-/// Those of some characters that are kept.
+/// Returns the characters that are kept, of a list with their glyphs.
 fn filtered(
     alloc: Global,
     all: &[(u32, u16)],
@@ -131,7 +132,7 @@ fn filtered(
     Ok(pairs)
 }
 
-/// The characters of a face that are kept, each with its glyph, in ascending order.
+/// Returns the characters of a face that are kept, each with its glyph, in ascending order.
 pub(crate) fn kept_pairs(
     alloc: Global,
     map: &CharacterMap<'_>,
@@ -146,14 +147,14 @@ pub(crate) fn kept_pairs(
     filtered(alloc, &all, &chars, &glyphs)
 }
 
-/// Whether the face has no glyph for a character.
+/// Returns true if the face has no glyph for a character.
 fn is_missing(map: &CharacterMap<'_>, char: u32) -> bool
     ensures { IsTrue result ↔ IsMissing map.now char }
 {
     char as usize >= CHARS || map.glyph_of(char) == 0
 }
 
-/// Refuses the first character for which the face has no glyph.
+/// Returns an error for the first character without a glyph.
 pub(crate) fn refuse_missing(map: &CharacterMap<'_>, chars: &[u32]) -> Result<()>
     ensures none { OnOk result (NoneIsMissing map.now chars.now) }
     ensures missing { IfErr result (λ e. IsFirstMissing map.now chars.now e) }
@@ -166,7 +167,7 @@ pub(crate) fn refuse_missing(map: &CharacterMap<'_>, chars: &[u32]) -> Result<()
     Ok(())
 }
 
-/// The glyphs that are named, and those of characters.
+/// Returns these glyphs, and the glyphs of characters.
 pub(crate) fn named(alloc: Global, glyphs: &[usize], pairs: &[Mapping]) -> Result<Vec<usize>>
     ensures named { IfOk result (λ named. named.items ≡ named_of glyphs.now pairs.now) }
     ensures memory { IfErr result (λ e. e ≡ errors.Memory) }

@@ -1,52 +1,52 @@
-//! Why no file is written.
+//! Errors.
 ghost use Rattle.std.specs.Prelude.{◌≡◌};
 ghost use Rattle.postscript_files.specs.declared.error.Error.TheVariants as errors;
 
 use std::alloc::{AllocError, AllocFailed};
 use thiserror::Error;
 
-/// What a call answers, or the error that it is refused with.
+/// The result of a call of this crate.
 pub type Result<T> = std::result::Result<T, Error>;
 
-/// A refusal.
+/// The reason why no face is opened, or no file is written.
 #[derive(Debug, Drop, Error)]
 pub enum Error {
-    /// Memory was refused.
-    #[error("memory was refused")]
+    /// Out of memory.
+    #[error("out of memory")]
     Memory,
-    /// The file is refused, or has no such face.
+    /// The file is malformed, or it has too few faces.
     #[error("{0}")]
     File(postscript_sfnt::Error),
-    /// The face has no table of this tag, which is needed.
-    #[error("a table that is needed is not there")]
+    /// The face has no table with this tag, which is required.
+    #[error("a required table is missing")]
     MissingTable(u32),
-    /// The table `cmap` has no map that is read.
-    #[error("there is no character map that is read")]
+    /// The `cmap` table has no supported subtable, or its best one is truncated.
+    #[error("the cmap table has no supported subtable")]
     NoMap,
-    /// The tables `hhea` and `hmtx` tell no advances.
-    #[error("there are no advances")]
+    /// The `hhea` and `hmtx` tables have no advance widths, or they are truncated.
+    #[error("the hhea and hmtx tables have no advance widths")]
     NoAdvances,
-    /// The face has no glyph for this character, which is asked for.
-    #[error("the character {0} has no glyph")]
+    /// The face has no glyph for this character.
+    #[error("the font has no glyph for the character {0}")]
     MissingCharacter(u32),
-    /// The table `CFF ` is refused, or glyphs of it.
+    /// The `CFF ` table is malformed, or one of the glyphs is.
     #[error("{0}")]
     Font(postscript_write::Error),
-    /// Tables of the face overlap: together they have more bytes than the file.
-    #[error("tables overlap")]
+    /// The tables of the face overlap: together they have more bytes than the file.
+    #[error("the tables overlap: together they have more bytes than the file")]
     Overlap,
     /// Two tables have this tag.
-    #[error("two tables have one tag")]
+    #[error("two tables have the same tag")]
     SameTag(u32),
-    /// The tables `hhea` or `maxp` are cut.
-    #[error("a table is cut")]
+    /// The `maxp` table is truncated.
+    #[error("the maxp table is truncated")]
     Cut,
-    /// The file would have 2^32 bytes or 4,096 tables or more.
+    /// The file would have 4,096 tables or more, or 2^32 bytes or more.
     #[error("the file is too large to be written")]
     TooLarge,
 }
 
-/// Memory that was refused: `Memory`. Never refused.
+/// Converts a failed allocation to `Memory`.
 impl From<AllocError> for Error {
     ghost from_gives = { λ _ e. e ≡ errors.Memory };
 
@@ -55,7 +55,7 @@ impl From<AllocError> for Error {
     }
 }
 
-/// Memory that was refused to a call that hands its value back: `Memory`. Never refused.
+/// Converts a failed allocation that returns its value to `Memory`.
 impl<T: Drop> From<AllocFailed<T>> for Error {
     ghost from_gives = { λ _ e. e ≡ errors.Memory };
 
@@ -64,7 +64,7 @@ impl<T: Drop> From<AllocFailed<T>> for Error {
     }
 }
 
-/// A refusal of a file: `File`. Never refused.
+/// Converts an error of reading a file to `File`.
 impl From<postscript_sfnt::Error> for Error {
     ghost from_gives = { λ fault e. e ≡ errors.File fault };
 

@@ -1,4 +1,4 @@
-//! Faces whose outlines stand in a table `CFF `.
+//! Faces with a `CFF ` table.
 ghost use Rattle.std.specs.Prelude.{◌≡◌, ℕ, IfOk, IfErr, MatchResult};
 ghost use Rattle.postscript_base.specs.Numbers.{big_endian};
 ghost use Rattle.postscript_sfnt.specs.Lent.{AreAdvancesOf, HasNoTable, IsTableOf};
@@ -9,25 +9,28 @@ ghost use Rattle.postscript_files.specs.declared.error.Error.TheVariants as erro
 use crate::error::{Error, Result};
 use postscript_sfnt::{Advances, CharacterMap, FontFile};
 
-/// What is read of a face: tables, the best character map, and the advances.
+/// A face with its `CFF ` table, its best character map, its advance widths and the tables that these come from.
 #[derive(Clone, Copy)]
 pub struct Face<'l> {
+    /// The face in its file.
     pub file: FontFile<'l>,
-    /// The table `CFF `.
+    /// The `CFF ` table.
     pub cff: &'l [u8],
-    /// The table `cmap`.
+    /// The `cmap` table.
     pub cmap: &'l [u8],
+    /// The best subtable of `cmap`.
     pub map: CharacterMap<'l>,
-    /// The table `hhea`.
+    /// The `hhea` table.
     pub hhea: &'l [u8],
-    /// The table `hmtx`.
+    /// The `hmtx` table.
     pub hmtx: &'l [u8],
+    /// The advance widths in `hmtx`.
     pub advances: Advances<'l>,
-    /// The table `maxp`.
+    /// The `maxp` table.
     pub maxp: &'l [u8],
 }
 
-/// A table that is needed.
+/// Returns a required table.
 pub(crate) fn needed<'l>(file: &FontFile<'l>, tag: [u8; 4]) -> Result<&'l [u8]>
     ensures { MatchResult result
         (λ table. IsTableOf file.now (big_endian tag) table.now)
@@ -39,7 +42,7 @@ pub(crate) fn needed<'l>(file: &FontFile<'l>, tag: [u8; 4]) -> Result<&'l [u8]>
     }
 }
 
-/// The best map of a table `cmap`.
+/// Returns the best character map of a `cmap` table.
 fn best_map(cmap: &[u8]) -> Result<CharacterMap<'_>>
     ensures { MatchResult result (λ map. IsBestMap cmap.now map) (λ e. (e ≡ errors.NoMap) × HasNoMap cmap.now) }
 {
@@ -49,7 +52,7 @@ fn best_map(cmap: &[u8]) -> Result<CharacterMap<'_>>
     }
 }
 
-/// The advances that two tables tell.
+/// Returns the advance widths of two tables.
 fn advances_of<'l>(hhea: &[u8], hmtx: &'l [u8]) -> Result<Advances<'l>>
     ensures { MatchResult result
         (λ advances. AreAdvancesOf hhea.now hmtx.now advances)
@@ -62,13 +65,18 @@ fn advances_of<'l>(hhea: &[u8], hmtx: &'l [u8]) -> Result<Advances<'l>>
 }
 
 impl<'l> Face<'l> {
-    /// A face of the file that the bytes are, counted from 0.
+    /// Opens a face of a file. Faces are numbered from 0.
     ///
-    /// Refused: `File` where the file or the face is refused; `MissingTable` where the face has no table `CFF `, `cmap`, `hhea`, `hmtx` or
-    /// `maxp`; `NoMap` where the best map of `cmap` is of another format, or cut, or there is none; `NoAdvances` where `hhea` and `hmtx`
-    /// tell none.
+    /// # Errors
+    ///
+    /// - `File`: the file is malformed, or it has too few faces.
+    /// - `MissingTable`: the face has no `CFF `, `cmap`, `hhea`, `hmtx` or `maxp` table.
+    /// - `NoMap`: `cmap` has no Unicode subtable, or the best one is truncated or has another format than 4, 6 or 12.
+    /// - `NoAdvances`: `hhea` counts no advance widths, or `hmtx` has fewer.
     pub fn open(bytes: &'l [u8], number: usize) -> Result<Face<'l>>
+        // The face is the one of this number, with its own tables, best map and advance widths.
         ensures found { IfOk result (λ face. IsFaceIn bytes.now number face) }
+        // An error is justified by the file, a missing table, the character maps or the advance widths.
         ensures why { IfErr result (λ e. NoFaceIn e bytes.now number) }
     {
         let file = FontFile::read(bytes, number)?;

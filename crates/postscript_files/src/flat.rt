@@ -1,4 +1,4 @@
-//! Files of a face whose char strings call no subroutine.
+//! Files of a face without subroutines.
 ghost use Rattle.std.specs.Prelude.{◌≡◌, ◌≢◌, ℕ, ◌<◌, List, length, OnOk, IfOk, IfErr, IsTrue, ◌↔◌, ◌⊎◌};
 ghost use Rattle.postscript_sfnt.specs.Lent.{IsTableOf, tables_of, tag_of};
 ghost use Rattle.postscript_write.specs.Refusals.{IsRefusedBy};
@@ -16,13 +16,13 @@ use postscript_sfnt_write::Table;
 use postscript_write::flat_font;
 use std::alloc::Global;
 
-/// The tag of the table that is written anew.
+/// The tag of the table that is written again.
 const CFF: u32 = 0x43464620;
 
-/// The tag of the signature of the file, which does not hold any more.
+/// The tag of the digital signature, which would not be valid for the new file.
 const DSIG: u32 = 0x44534947;
 
-/// Whether there is a table of the tag.
+/// Returns true if there is a table with the tag.
 fn has(tables: &[Table<'_>], tag: u32) -> bool
     ensures { IsTrue result ↔ Has tables.now tag }
 {
@@ -34,7 +34,7 @@ fn has(tables: &[Table<'_>], tag: u32) -> bool
     false
 }
 
-/// Adds a table of a face, where it is to stay and is not there.
+/// Adds a table of a face, if it stays and is not in the list yet.
 fn put_other<'t>(
     tables: &mut Vec<Table<'t>>,
     file: &FontFile<'t>,
@@ -55,7 +55,7 @@ fn put_other<'t>(
     Ok(())
 }
 
-/// The tag of a record of a face.
+/// Returns the tag of a record of a face.
 fn tag_at(file: &FontFile<'_>, i: usize) -> u32
     requires { i < tables_of file.now }
     ensures { result ≡ tag_of file.now i }
@@ -66,7 +66,7 @@ fn tag_at(file: &FontFile<'_>, i: usize) -> u32
     }
 }
 
-/// Adds the tables of a face but for its signature, of each tag the first.
+/// Adds the first table of each tag of a face, without its signature.
 fn put_others<'t>(tables: &mut Vec<Table<'t>>, file: &FontFile<'t>, font: &[u8]) -> Result<()>
     requires { AreOthers file.now font.now tables.old.items }
     ensures others { OnOk result (AreOthers file.now font.now tables.new.items) }
@@ -79,7 +79,7 @@ fn put_others<'t>(tables: &mut Vec<Table<'t>>, file: &FontFile<'t>, font: &[u8])
     Ok(())
 }
 
-/// How many bytes tables have together, but for the first one.
+/// Returns the number of bytes of all tables but the first.
 fn size(tables: &[Table<'_>]) -> usize {
     let mut sum = 0usize;
     for i in 1..tables.len() {
@@ -88,7 +88,7 @@ fn size(tables: &[Table<'_>]) -> usize {
     sum
 }
 
-/// The table `CFF ` without subroutines.
+/// Returns a `CFF ` table without subroutines.
 fn font_of(alloc: Global, cff: &[u8]) -> Result<Vec<u8>>
     ensures font { IfOk result (λ font. IsFlatFont cff.now font.items) }
     ensures refused { IfErr result (λ e. (fault : Refusal) × (e ≡ errors.Font fault) × IsRefusedBy the_every cff.now fault) }
@@ -99,7 +99,7 @@ fn font_of(alloc: Global, cff: &[u8]) -> Result<Vec<u8>>
     }
 }
 
-/// The tables of a face with another table `CFF `. They are refused where they overlap.
+/// Returns the tables of a face with another `CFF ` table, or an error if they overlap.
 fn others_of<'t>(
     alloc: Global,
     most: usize,
@@ -122,7 +122,7 @@ fn others_of<'t>(
     Ok(tables)
 }
 
-/// The file of a face with another table `CFF `.
+/// Returns the file of a face with another `CFF ` table.
 fn with_font(alloc: Global, most: usize, face: &FontFile<'_>, font: &[u8]) -> Result<Vec<u8>>
     ensures file { IfOk result (λ file. IsFileWith face.now font.now file.items) }
     ensures refused { IfErr result (λ e. IsUnwritten e) }
@@ -131,12 +131,23 @@ fn with_font(alloc: Global, most: usize, face: &FontFile<'_>, font: &[u8]) -> Re
     file_with(alloc, &tables)
 }
 
-/// The file of a face of a file, whose char strings call no subroutine. All its other tables stay as they are, but for its signature.
+/// Writes a file with one face of a file, desubroutinized.
 ///
-/// Refused: `File` where the file or the face is refused; `MissingTable` where it has no table `CFF `; `Font` where this is refused, or a
-/// glyph of it; `Overlap` where its tables have more bytes together than the file; `TooLarge`; `Memory`.
+/// The `CFF ` table is written by `postscript_write::flat_font`. All other tables are copied, but not a digital signature
+/// (`DSIG`). Only `checkSumAdjustment` in `head` is computed again.
+///
+/// # Errors
+///
+/// - `File`: the file is malformed, or it has too few faces.
+/// - `MissingTable`: the face has no `CFF ` table.
+/// - `Font`: the `CFF ` table or one of its glyphs is malformed.
+/// - `Overlap`: the tables of the face have more bytes together than the file.
+/// - `TooLarge`: the new file would have 4,096 tables or more, or 2^32 bytes or more.
+/// - `Memory`: out of memory.
 pub fn flat_file(alloc: Global, file: &[u8], number: usize) -> Result<Vec<u8>>
+    // The new file has one face: the font without calls, and copies of all other tables.
     ensures flat { IfOk result (λ flat. IsFlatOf file.now number flat.items) }
+    // An error is justified by the file, the missing table or the font.
     ensures refused { IfErr result (λ e. NoFlatOf file.now number e) }
 {
     let face = FontFile::read(file, number)?;

@@ -1,8 +1,9 @@
-//! What is written.
+//! Laws of subsets. The functions do nothing: their clauses are the laws.
 ghost use Rattle.postscript_files.specs.Made.{KeptAreTheSame};
 
-/// A law: each glyph that `kept_glyphs` tells is drawn as the one in its place of what `subset` answers, and is the same. It does nothing
-/// and is never refused.
+/// States that each glyph that `kept_glyphs` returns is drawn like the glyph at its index in the font that `subset`
+/// writes, and has the same name and advance width.
 pub fn kept_are_the_same()
+    // Glyph `i` of the new font is drawn and named as kept glyph `i`, and has its advance width.
     ensures law { KeptAreTheSame }
 {}

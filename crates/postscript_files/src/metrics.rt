@@ -11,7 +11,7 @@ use postscript_sfnt::Advances;
 use postscript_sfnt_write::Metric;
 use std::alloc::Global;
 
-/// Where the left side bearing of a glyph stands in a table `hmtx` with so many advances.
+/// Returns the offset of a left side bearing in an `hmtx` table with this number of advances.
 fn place_of(advances: usize, glyph: usize) -> usize
     requires advances { advances < 65536 }
     requires glyph { glyph < 65536 }
@@ -25,7 +25,7 @@ fn place_of(advances: usize, glyph: usize) -> usize
     }
 }
 
-/// The left side bearing of a glyph; 0 where it is cut off.
+/// Returns the left side bearing of a glyph, or 0 if it is truncated.
 fn bearing(hmtx: &[u8], advances: usize, glyph: usize) -> i16
     requires advances { advances < 65536 }
     requires glyph { glyph < 65536 }
@@ -38,7 +38,7 @@ fn bearing(hmtx: &[u8], advances: usize, glyph: usize) -> i16
     (number_at(hmtx, place, 2) as u16).cast_signed()
 }
 
-/// The metric of a glyph.
+/// Returns the metrics of a glyph.
 fn metric(advances: &Advances<'_>, hmtx: &[u8], count: usize, glyph: usize) -> Metric
     requires count { count < 65536 }
     requires glyph { glyph < 65536 }
@@ -50,7 +50,7 @@ fn metric(advances: &Advances<'_>, hmtx: &[u8], count: usize, glyph: usize) -> M
     }
 }
 
-/// How many advances a table `hhea` tells; 0 where it is cut.
+/// Returns the number of advances in an `hhea` table, or 0 if it is truncated.
 fn advances_told(hhea: &[u8]) -> usize
     ensures small { result < 65536 }
     ensures told { 36 ≤ length hhea.now → result ≡ the_number hhea.now 34 2 }
@@ -61,7 +61,7 @@ fn advances_told(hhea: &[u8]) -> usize
     number_at(hhea, 34, 2)
 }
 
-/// The metrics of the glyphs that new ones are made of.
+/// Returns the metrics of the new glyphs, given the number of old advances.
 fn metrics_of(
     alloc: Global,
     advances: &Advances<'_>,
@@ -81,7 +81,7 @@ fn metrics_of(
     Ok(metrics)
 }
 
-/// The metrics of the glyphs of a face that new ones are made of.
+/// Returns the metrics of the new glyphs, which are those of their origins.
 pub(crate) fn metrics(
     alloc: Global,
     hhea: &[u8],

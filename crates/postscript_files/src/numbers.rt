@@ -7,10 +7,10 @@ use crate::error::{Error, Result};
 use postscript_sfnt_write::Mapping;
 use std::alloc::Global;
 
-/// The first number past those of glyphs.
+/// One more than the last glyph number.
 const GLYPHS: usize = 0x10000;
 
-/// For each glyph of the old face that the new one is made of, a number that it has there.
+/// Returns the new number of each old glyph that is in the new font.
 pub(crate) fn numbers_of(alloc: Global, origins: &[usize]) -> Result<Vec<u16>>
     ensures numbers { IfOk result (λ numbers. AreNumbersOf origins.now numbers.items) }
     ensures small { OnOk result (AreSmall origins.now) }
@@ -28,7 +28,7 @@ pub(crate) fn numbers_of(alloc: Global, origins: &[usize]) -> Result<Vec<u16>>
     Ok(numbers)
 }
 
-/// The number of a glyph.
+/// Returns the new number of a glyph.
 fn number_of(numbers: &[u16], glyph: u16) -> u16
     ensures { result ≡ slice_index_or numbers.now glyph 0 }
 {
@@ -40,7 +40,7 @@ fn number_of(numbers: &[u16], glyph: u16) -> u16
     }
 }
 
-/// Characters with the new numbers of their glyphs.
+/// Returns characters with the new numbers of their glyphs.
 pub(crate) fn renumbered(alloc: Global, pairs: &[Mapping], numbers: &[u16]) -> Result<Vec<Mapping>>
     ensures renumbered { IfOk result (λ all. AreRenumbered pairs.now numbers.now all.items) }
     ensures memory { IfErr result (λ e. e ≡ errors.Memory) }

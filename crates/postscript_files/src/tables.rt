@@ -11,14 +11,14 @@ use postscript_sfnt::FontFile;
 use postscript_sfnt_write::{Table, file_of};
 use std::alloc::Global;
 
-/// The table of a tag that a face has, if it has one.
+/// Returns the table with a tag, if the face has one.
 pub(crate) fn table_of<'t>(file: &FontFile<'t>, tag: u32) -> Option<&'t [u8]>
     ensures { MatchOption result (HasNoTable file.now tag) (λ table. IsTableOf file.now tag table.now) }
 {
     file.table(tag.to_be_bytes())
 }
 
-/// The first tag that two neighbours have.
+/// Returns the first tag that two neighbours have.
 fn twice(tables: &[Table<'_>]) -> Option<u32>
     ensures found { IfSome result (λ tag. HasNeighbours tables.now tag) }
     ensures none { IfNone result (NoNeighbours tables.now) }
@@ -31,7 +31,7 @@ fn twice(tables: &[Table<'_>]) -> Option<u32>
     None
 }
 
-/// A file of tables whose tags rise.
+/// Writes a file of tables whose tags are in ascending order.
 fn written(alloc: Global, tables: &[Table<'_>]) -> Result<Vec<u8>>
     requires { TagsRise tables.now }
     ensures opens { IfOk result (λ file. Opens file.items (length tables.now)) }
@@ -47,7 +47,7 @@ fn written(alloc: Global, tables: &[Table<'_>]) -> Result<Vec<u8>>
     }
 }
 
-/// A file of tables, in the order of their tags.
+/// Writes a file of tables, sorted by their tags.
 pub(crate) fn file_with(alloc: Global, tables: &[Table<'_>]) -> Result<Vec<u8>>
     ensures file { IfOk result (λ file. IsFileOf tables.now file.items) }
     ensures refused { IfErr result (λ e. NoFileOf e tables.now) }
