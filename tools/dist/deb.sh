@@ -63,7 +63,9 @@ finished() {
     doc=usr/share/doc/$1
     mkdir -p DEBIAN "$doc"
     cp "$tree/PROOF.txt" "$doc"
-    awk -v text="$(sed 's/^$/./; s/^/ /' "$tree/LICENSE-MIT")" '{ if ($0 == "@MIT@") print text; else print }' \
+    awk -v text="$(sed 's/^$/./; s/^/ /' "$tree/LICENSE-MIT")" \
+        -v unicode="$(sed 's/^$/./; s/^/ /' "$tree/licences/ucd_normal-LICENSE-UNICODE")" \
+        '{ if ($0 == "@MIT@") print text; else if ($0 == "@UNICODE@") print unicode; else print }' \
         "$top/tools/dist/debian/copyright.in" > "$doc/copyright"
     filled "$top/tools/dist/debian/changelog.in" "MAINTAINER=$maintainer" "DATE=$(date -R -d "@$SOURCE_DATE_EPOCH")" | gzip -9n > "$doc/changelog.gz"
     filled "$top/tools/dist/debian/control.in" "LIBC=$libc" "LIBC_OF_PROGRAMS=$libc_of_programs" | awk -v RS= -v wanted="Package: $1" 'index($0, wanted "\n") == 1' > DEBIAN/control

@@ -38,6 +38,7 @@ SCRIPTS = [
     ("command_line", "tools/evidence/command_line.py", PSOTF),
     ("written", "/usr/bin/python3 tools/evidence/written.py 42 FONTS", PSOTF),
     ("accented", "/usr/bin/python3 tools/evidence/accented.py", PSOTF),
+    ("shaped", "/usr/bin/python3 tools/evidence/shaped.py 1 100 fonts-ebgaramond fonts-cantarell fonts-lobster fonts-jura", PSOTF + " crates/postscript_layout"),
     ("report", "tools/evidence/report.py", PSOTF),
     ("changed_fonts", "python3 tools/evidence/changed_fonts.py --seed 1", "crates/postscript_base crates/postscript_compact1"),
     ("random_programs", "python3 tools/evidence/random_programs.py --seed 1", TYPE2),

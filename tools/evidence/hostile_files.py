@@ -145,6 +145,14 @@ def groups(rows):
 LETTERS = groups([(65, 66, 1)])
 
 
+def substitutions(count):
+    """Returns a `GSUB` table with many lookups at one offset, each with as many subtables at one offset that covers all glyphs."""
+    lookups = short(count) + short(2 + 2 * count) * count
+    lookup = short(1) + short(0) + short(count) + short(6 + 2 * count) * count
+    single = short(1) + short(6) + short(1) + short(2) + short(1) + short(0) + short(MANY) + short(0)
+    return long(0x00010000) + short(0) + short(0) + short(10) + lookups + lookup + single
+
+
 def file_of(outlines, glyphs, cmap=LETTERS, more=(), tag=b"CFF ", others=()):
     """Returns an OpenType file with this table of outlines and others, and its number of glyphs. Each tag of `more` covers all other
     tables."""
@@ -226,6 +234,7 @@ def searched():
     falling = [(2 * i, 2 * i, 1) for i in range(MANY, 0, -1)]
     yield "a map of 65,535 groups that fall", file_of(plain_font([END] * 2), 2, groups(falling))
     yield "a map of 65,535 groups behind all characters", file_of(plain_font([END] * 2), 2, groups([(0x10FFFF, 0x10FFFF, 1)] * MANY + [(0, 0x10FFFF, 1)]))
+    yield "30,000 lookups of 30,000 subtables of all glyphs", file_of(plain_font([END] * 2), 2, others=[(b"GSUB", substitutions(30_000))])
     yield "20,000 dictionaries over 60,000 glyphs", file_of(plain_font([END] * 60_000, tops=20_000), 60_000)
     yield "10,000 font dictionaries over 60,000 subroutines", file_of(
         keyed_font([END] * 2, b"\x00\x00\x00", 10_000, [RETURN] * 60_000), 2,

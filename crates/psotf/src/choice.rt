@@ -2,6 +2,8 @@
 use crate::characters::{Mapped, all_of, by_glyph, glyph_of, of_glyph, refuse_missing};
 use crate::face::Face;
 use crate::failure::Failure;
+use crate::limit::Budget;
+use crate::{composed, layout};
 use clap::ArgMatches;
 use postscript_sfnt_write::Mapping;
 use std::alloc::{AllocError, Global};
@@ -9,6 +11,9 @@ use std::alloc::{AllocError, Global};
 /// The message for a malformed list of characters.
 const NOT_IN_HEX: &str =
     "--unicodes takes a list of hexadecimal numbers and ranges, e.g. 41,U+42,61-7a";
+
+/// The character U+0020.
+const SPACE: u32 = 0x20;
 
 /// Glyphs, and characters with their glyphs.
 #[derive(Drop)]
@@ -147,6 +152,38 @@ impl Choice {
         self.pairs.sort_by_key(|pair: &Mapping| pair.char)?;
         self.pairs.dedup_by_key(|pair: &mut Mapping| pair.char);
         Ok(())
+    }
+
+    /// Adds the space, if the font has a glyph for it. Shapers draw it instead of characters that they hide.
+    fn put_space(&mut self, face: &Face<'_>) -> Result<(), AllocError> {
+        match glyph_of(&face.map, SPACE) {
+            0 => Ok(()),
+            glyph => self.put_pair(SPACE, glyph),
+        }
+    }
+
+    /// Adds the characters of the font that a shaper may compose of the characters, or decompose them to.
+    fn put_composed(&mut self, alloc: Global, face: &Face<'_>) -> Result<(), AllocError> {
+        for pair in composed::added(alloc, face, &self.pairs)? {
+            self.put_pair(pair.char, pair.glyph)?;
+        }
+        Ok(())
+    }
+
+    /// Adds the space, the characters that a shaper may compose, and all glyphs that the layout tables can substitute
+    /// for the glyphs. Returns the number of glyphs that are added.
+    pub fn put_layout(
+        &mut self,
+        alloc: Global,
+        face: &Face<'_>,
+        budget: &mut Budget,
+    ) -> Result<usize, Failure> {
+        let chosen = self.glyphs.len();
+        self.put_space(face)?;
+        self.put_composed(alloc, face)?;
+        layout::close(alloc, face, &mut self.glyphs, budget)?;
+        self.order()?;
+        Ok(self.glyphs.len().saturating_sub(chosen))
     }
 
     /// Adds the glyphs that the arguments choose and `.notdef`, sorted. It fails if they choose none.

@@ -182,7 +182,7 @@ const SUBCOMMANDS: &[Subcommand] = &[
     },
     Subcommand {
         name: "subset",
-        about: "Write a font with only some glyphs (kerning and ligatures are dropped)",
+        about: "Write a font with only some glyphs (without --retain-gids, kerning and ligatures are dropped)",
         group: "kept",
         one_of: &["text", "gids", "unicodes"],
         place: Place::Any,
@@ -204,7 +204,11 @@ const SUBCOMMANDS: &[Subcommand] = &[
             ),
             Word::Flag(
                 "retain-gids",
-                "Keep glyph numbers, with empty glyphs in between",
+                "Keep glyph numbers, with empty glyphs in between, and the layout tables with all glyphs that they substitute",
+            ),
+            Word::Flag(
+                "drop-layout",
+                "With --retain-gids: drop the layout tables (kerning, ligatures, vertical metrics)",
             ),
             Word::Flag(
                 "keep-names",

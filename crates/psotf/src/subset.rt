@@ -5,7 +5,7 @@ use crate::face::Face;
 use crate::failure::Failure;
 use crate::limit::Budget;
 use crate::made::Made;
-use crate::{leaving, naming, saving};
+use crate::{layout, leaving, naming, saving, telling};
 use clap::ArgMatches;
 use postscript_base::index::number::number_within;
 use postscript_sfnt::FontFile;
@@ -174,9 +174,13 @@ fn put_made(
     made.end()
 }
 
-/// Adds the tables that are copied.
-fn put_same<'t>(tables: &mut Vec<Table<'t>>, file: &FontFile<'t>) -> Result<(), AllocError> {
-    for tag in &SAME {
+/// Adds copies of the tables with some tags.
+fn put_same<'t>(
+    tables: &mut Vec<Table<'t>>,
+    file: &FontFile<'t>,
+    tags: &[[u8; 4]],
+) -> Result<(), AllocError> {
+    for tag in tags {
         if let Some(bytes) = file.table(*tag) {
             let tag = u32::from_be_bytes(*tag);
             tables.push(Table { tag, bytes })?;
@@ -186,9 +190,17 @@ fn put_same<'t>(tables: &mut Vec<Table<'t>>, file: &FontFile<'t>) -> Result<(), 
 }
 
 /// Returns the file of the made and the copied tables.
-fn file_with(alloc: Global, face: &Face<'_>, made: &Made) -> Result<Vec<u8>, Failure> {
+fn file_with(
+    alloc: Global,
+    face: &Face<'_>,
+    words: &ArgMatches<'_>,
+    made: &Made,
+) -> Result<Vec<u8>, Failure> {
     let mut tables = made.tables(alloc)?;
-    put_same(&mut tables, &face.file)?;
+    put_same(&mut tables, &face.file, &SAME)?;
+    if layout::is_kept(words) {
+        put_same(&mut tables, &face.file, &layout::TABLES)?;
+    }
     saving::file(alloc, &mut tables)
 }
 
@@ -201,13 +213,39 @@ fn file_of_choice(
 ) -> Result<Vec<u8>, Failure> {
     let mut made = Made::new(alloc);
     put_made(&mut made, alloc, face, words, choice)?;
-    file_with(alloc, face, &made)
+    file_with(alloc, face, words, &made)
 }
 
-/// Reports the added glyphs and the dropped tables.
-fn tell(rt: &HostRuntime, face: &Face<'_>, kept: &Kept) -> Result<(), Failure> {
+/// Reports the added components and the dropped tables.
+fn tell(
+    rt: &HostRuntime,
+    face: &Face<'_>,
+    words: &ArgMatches<'_>,
+    kept: &Kept,
+) -> Result<(), Failure> {
     kept.tell(rt)?;
-    leaving::tell(rt, &face.file)
+    leaving::tell(rt, &face.file, layout::is_kept(words))
+}
+
+/// Adds the glyphs of the layout tables, if the subset keeps these. Without `--quiet` it reports their number.
+fn put_layout(
+    rt: &HostRuntime,
+    face: &Face<'_>,
+    words: &ArgMatches<'_>,
+    choice: &mut Choice,
+    budget: &mut Budget,
+) -> Result<(), Failure> {
+    if !layout::is_kept(words) {
+        return Ok(());
+    }
+    let added = choice.put_layout(rt.alloc(), face, budget)?;
+    if added == 0 || words.get_flag("quiet") {
+        return Ok(());
+    }
+    telling::tell(
+        rt,
+        format_args!("glyphs added for the layout tables: {added}"),
+    )
 }
 
 /// Writes the file of the chosen glyphs and their components.
@@ -223,13 +261,13 @@ fn write_choice<W: Write>(
     kept.ask(rt.alloc(), &face.font, &choice.glyphs, budget)?;
     let file = file_of_choice(rt.alloc(), face, words, choice)?;
     if !words.get_flag("quiet") {
-        tell(rt, face, &kept)?;
+        tell(rt, face, words, &kept)?;
     }
     saving::put(rt, words, &file, out)
 }
 
-/// Writes the file of the chosen glyphs and their components. It fails if one of them costs more than the limit.
-/// Without `--quiet` it reports added glyphs and dropped tables.
+/// Writes the file of the chosen glyphs and their components. It fails if one of them, or the search for substitutions,
+/// costs more than the limit. Without `--quiet` it reports added glyphs and dropped tables.
 pub fn write<W: Write>(
     rt: &HostRuntime,
     face: &Face<'_>,
@@ -237,6 +275,7 @@ pub fn write<W: Write>(
     budget: &mut Budget,
     out: &mut W,
 ) -> Result<(), Failure> {
-    let choice = Choice::read(rt.alloc(), face, words)?;
+    let mut choice = Choice::read(rt.alloc(), face, words)?;
+    put_layout(rt, face, words, &mut choice, budget)?;
     write_choice(rt, face, words, &choice, budget, out)
 }
