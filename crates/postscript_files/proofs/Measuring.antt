@@ -32,8 +32,8 @@ pub same-advance : (old new : Face) (origins : List ℕ) (i glyph : ℕ) → IsH
     IsWord new.hhea.now 34 (length origins) → AreAdvancesOf new.hhea.now new.hmtx.now new.advances → IsOrigin origins i glyph →
     advance_in new.advances i ≡ advance_in old.advances glyph
 same-advance old new origins i glyph made told read h =
-    made.advances new.hhea.now new.advances
-    (subst (IsWord new.hhea.now 34) (sym (as-many old origins made.metrics made.are)) told) read i (of_old old glyph)
+    let many = as-many old origins made.metrics made.are in
+    made.advances new.hhea.now (length origins) new.advances told (omega (arith, many)) read i (of_old old glyph) h.there
     (metric-there old origins made.metrics i glyph made.are h)
 
 -- the bearing of a glyph that has an advance of its own

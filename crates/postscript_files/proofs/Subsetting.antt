@@ -265,8 +265,7 @@ opened choice old pairs origins font made file some m it =
     (bytes-after made.cmap.items (place_at made.cmap.items readable.i) m.cmap_bytes) readable.whole in
     let many : length m.hmtx.metrics ≡ length origins = many-metrics old origins made.hmtx.items m.hmtx in
     let told : HasAdvances made.hhea.items made.hmtx.items (length origins) =
-    subst (HasAdvances made.hhea.items made.hmtx.items) many
-    (m.hmtx.read made.hhea.items (subst (IsWord made.hhea.items 34) (sym many) m.hhea) (omega (arith, many, some))) in (
+    m.hmtx.read made.hhea.items (length origins) m.hhea some (omega (arith, many)) in (
       record {
         file = face.0;
         cff = record { ref_ptr = (0, 0); now = font };
