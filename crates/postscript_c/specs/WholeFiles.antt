@@ -8,7 +8,7 @@ use Rattle.postscript_c.specs.Written.{refusal, refusal_of, written_code}
 use Rattle.postscript_c.specs.declared.written.PsfRefusal.{PsfRefusal}
 use Rattle.postscript_files.specs.Faces.{cff_tag}
 use Rattle.postscript_files.specs.Flats.{IsFlatOf, NoFlatOf}
-use Rattle.postscript_files.specs.Subsets.{IsSubsetOf}
+use Rattle.postscript_files.specs.Subsets.{IsSubsetOf, NoSubsetOf}
 use Rattle.postscript_files.specs.declared.choice.Choice.{Choice}
 use Rattle.postscript_files.specs.declared.error.Error.{Error}
 use Rattle.postscript_files.specs.declared.error.Error.TheVariants.{Cut, File, Font, Memory, MissingCharacter, MissingTable, NoAdvances, NoMap, Overlap, SameTag, TooLarge}
@@ -93,9 +93,10 @@ pub record IsChoice (chars glyphs copied : List ℕ) (lenient keeps : ℕ) (choi
   pub retains : IsSet keeps choice.retain_gids
   pub none_given : choice.given.now ≡ []
 
--- the file with this choice of characters and glyphs
+-- the file with this choice of characters and glyphs, or why there is none
 pub record IsSubsetFile (chars glyphs copied : List ℕ) (lenient keeps : ℕ) (bytes : List ℕ) (face : ℕ)
     (answer : Result (Vec ℕ Global) Error) : Type 0 where
   pub choice : Choice
   pub chosen : IsChoice chars glyphs copied lenient keeps choice
   pub subset : IfOk answer (λ file. IsSubsetOf choice bytes face file.items)
+  pub refused : IfErr answer (λ e. NoSubsetOf choice bytes face e)
