@@ -21,7 +21,7 @@
  * Time and memory: a call with a psf_font runs a glyph, with the components of a seac glyph, for at most font->limit units. An
  * operator with the numbers before it costs one unit per byte, a roll 4,096 more, a sqrt 8 more. psf_font_open sets the limit
  * to PSF_LIMIT; you may change it. Memory grows with the result, the numbers on the stack and the DICTs, so it grows with
- * the limit. psf_font_flat and psf_font_subset take a limit for the whole font. docs/limits.md lists what else takes time, and
+ * the limit. psf_font_flat, psf_font_subset, psf_file_flat and psf_file_subset take a limit for the whole font. docs/limits.md lists what else takes time, and
  * what was measured.
  *
  * The library is built for 64-bit machines only.
@@ -117,7 +117,11 @@ enum {
     PSF_CFF2_INDEX = 66,                  /* an INDEX of the CFF2 table is malformed */
     PSF_CFF2_SELECT = 67,                 /* FDSelect of the CFF2 table is malformed, or of another format than 0, 3 and 4 */
     PSF_CFF2_STORE = 68,                  /* the variation store of the CFF2 table is malformed */
-    PSF_CFF2_DATA = 69                    /* item variation data of the CFF2 table are missing or truncated */
+    PSF_CFF2_DATA = 69,                   /* item variation data of the CFF2 table are missing or truncated */
+    PSF_NO_CHARACTER = 70,                /* the face has no glyph for a character */
+    PSF_OVERLAP = 71,                     /* the tables of the face overlap: together they have more bytes than the file */
+    PSF_SAME_TAG = 72,                    /* two tables of the new file would have the same tag */
+    PSF_CUT_TABLE = 73                    /* the maxp table is truncated */
 };
 
 /* Kinds of segments. */
@@ -210,9 +214,10 @@ typedef struct psf_instance {
     int32_t postscript_name; /* the name ID of its PostScript name, or -1 */
 } psf_instance;
 
-/* Details of an error of psf_font_flat and psf_font_subset. */
+/* Details of an error of psf_font_flat, psf_font_subset, psf_file_flat and psf_file_subset. */
 typedef struct psf_refusal {
-    uint64_t glyph; /* the glyph of the error; 0 if there is none. On PSF_TOO_LARGE, 0 is .notdef or no glyph */
+    uint64_t glyph; /* the glyph of the error; 0 if there is none. On PSF_TOO_LARGE, 0 is .notdef or no glyph. On
+                       PSF_NO_CHARACTER the character, on PSF_NO_TABLE and PSF_SAME_TAG the tag of the table */
     int32_t cause;  /* on PSF_REFUSED_GLYPH the error of the glyph; otherwise 0 */
 } psf_refusal;
 
@@ -300,6 +305,27 @@ int32_t psf_font_flat(const uint8_t *cff, size_t length, uint64_t limit, uint8_t
  * Outputs and errors are those of psf_font_flat, and PSF_NO_GLYPHS, PSF_NO_GLYPH, and PSF_NO_NAME if keeps is 0. */
 int32_t psf_font_subset(const uint8_t *cff, size_t length, const size_t *glyphs, size_t named, uint32_t keeps,
                         uint64_t limit, uint8_t *subset, size_t room, size_t *count, psf_refusal *refusal);
+
+/* Writes a whole font file with one face of file[0..length], without subroutines, to flat[0..room]. All tables other than
+ * CFF are copied, except for the digital signature (DSIG).
+ * The face must pass psf_font_fits with this limit, otherwise the call returns PSF_TOO_LONG. A good limit is 20 * PSF_LIMIT.
+ * Sets *count to the size on PSF_OK and PSF_NO_ROOM; on all other errors sets *refusal instead. Other errors: PSF_CUT_FILE,
+ * PSF_UNKNOWN_FILE, PSF_NO_FACE, PSF_NO_TABLE, PSF_OVERLAP, PSF_TOO_LARGE, and those of psf_font_flat. */
+int32_t psf_file_flat(const uint8_t *file, size_t length, size_t face, uint64_t limit, uint8_t *flat, size_t room,
+                      size_t *count, psf_refusal *refusal);
+
+/* Writes a whole font file with only some characters and glyphs of a face of file[0..length] to subset[0..room], without
+ * subroutines. The characters are characters[0..asked], and those of glyphs[0..named]. The glyphs are .notdef, glyphs[0..named],
+ * those of all characters, and the components of seac glyphs. Each is drawn, named and measured as before.
+ * The tables with the tags copied[0..tables] are copied, such as 0x6e616d65 for the name table; tags that the face does not have
+ * are ignored. There are no other tables besides CFF, cmap, hhea, hmtx, maxp and post, so kerning and ligatures are lost.
+ * If lenient is 0, a character without a glyph is an error; otherwise it is left out. If keeps is 0, glyphs get new numbers in
+ * ascending order; otherwise they keep their numbers, and all others are empty.
+ * Outputs and errors are those of psf_file_flat, and PSF_NO_MAP, PSF_NO_ADVANCES, PSF_NO_CHARACTER, PSF_CUT_TABLE, PSF_SAME_TAG,
+ * and those of psf_font_subset. */
+int32_t psf_file_subset(const uint8_t *file, size_t length, size_t face, const uint32_t *characters, size_t asked,
+                        const size_t *glyphs, size_t named, const uint32_t *copied, size_t tables, uint32_t lenient,
+                        uint32_t keeps, uint64_t limit, uint8_t *subset, size_t room, size_t *count, psf_refusal *refusal);
 
 /* Writes the name of a glyph, without a terminating 0, to name[0..room]. The glyphs of a CID-keyed font have no names.
  * Sets *count to its length on PSF_OK and PSF_NO_ROOM. Other errors: PSF_NO_NAME, and from 1 to 15. */

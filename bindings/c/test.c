@@ -1,4 +1,4 @@
-/* test FONT.hex ACCENTS.hex VARIABLE.hex: calls each function of postscript.h over the fonts whose bytes are spelled there, and
+/* test FONT.hex ACCENTS.hex VARIABLE.hex WHOLE.hex: calls each function of postscript.h over the fonts whose bytes are spelled there, and
  * compares. */
 #include <stdio.h>
 #include <stdlib.h>
@@ -507,21 +507,77 @@ static void check_not_variable(const uint8_t *file, size_t length) {
     holds(psf_variable_advance(file, length, 0, &coordinate, 0, 2, &advance) == PSF_NO_TABLE && advance == 7, "no hmtx");
 }
 
+/* Whether two files have the same bytes in a table. */
+static int same_table(const uint8_t *one, size_t length, const uint8_t *other, size_t size, uint32_t tag) {
+    size_t place = 0, count = 0, other_place = 0, other_count = 0;
+    return psf_file_table(one, length, 0, tag, &place, &count) == PSF_OK
+        && psf_file_table(other, size, 0, tag, &other_place, &other_count) == PSF_OK && count == other_count
+        && memcmp(one + place, other + other_place, count) == 0;
+}
+
+static void check_flat_file(const uint8_t *file, size_t length) {
+    uint8_t written[1024];
+    size_t count = 0, place = 0, size = 0;
+    psf_refusal refusal = {77, 77};
+    psf_font font;
+    holds(psf_file_flat(file, length, 0, LIMIT, written, 0, &count, &refusal) == PSF_NO_ROOM && count > 100 && count < 1024, "no room for a file");
+    holds(psf_file_flat(file, length, 0, LIMIT, written, 1024, &count, &refusal) == PSF_OK && refusal.glyph == 77, "a flat file");
+    holds(same_table(file, length, written, count, PSF_TAG('c', 'm', 'a', 'p')), "its characters");
+    holds(psf_file_table(written, count, 0, PSF_TAG('C', 'F', 'F', ' '), &place, &size) == PSF_OK, "its font");
+    holds(psf_font_open(written + place, size, &font) == PSF_OK && font.glyphs == 4, "its glyphs");
+    holds(psf_file_flat(file, length, 1, LIMIT, written, 1024, &count, &refusal) == PSF_NO_FACE && refusal.glyph == 0, "a flat file of no face");
+    holds(psf_file_flat(file, length, 0, 1, written, 1024, &count, &refusal) == PSF_TOO_LONG, "a flat file past the limit");
+}
+
+static void check_subset_file(const uint8_t *file, size_t length, const uint8_t *lacking) {
+    static const uint32_t letter[] = {'A'}, other[] = {'A', 'B'}, copied[] = {PSF_TAG('n', 'a', 'm', 'e'), PSF_TAG('O', 'S', '/', '2')};
+    static const uint32_t twice[] = {PSF_TAG('n', 'a', 'm', 'e'), PSF_TAG('n', 'a', 'm', 'e')};
+    static const size_t first[] = {1}, past[] = {9};
+    uint8_t written[1024];
+    size_t count = 0, place = 0, size = 0, old_place = 0, old_size = 0, glyph = 9;
+    psf_refusal refusal = {77, 77};
+    psf_font font;
+    holds(psf_file_subset(file, length, 0, letter, 1, first, 0, copied, 2, 0, 0, LIMIT, written, 20, &count, &refusal) == PSF_NO_ROOM, "no room for a subset");
+    holds(psf_file_subset(file, length, 0, letter, 1, first, 0, copied, 2, 0, 0, LIMIT, written, 1024, &count, &refusal) == PSF_OK, "a subset");
+    holds(refusal.glyph == 77 && same_table(file, length, written, count, PSF_TAG('n', 'a', 'm', 'e')), "with its names");
+    holds(psf_file_table(written, count, 0, PSF_TAG('h', 'e', 'a', 'd'), &place, &size) == PSF_NO_TABLE, "without head");
+    holds(same_table(file, length, written, count, PSF_TAG('h', 'm', 't', 'x')), "with its metrics");
+    holds(psf_file_table(written, count, 0, PSF_TAG('c', 'm', 'a', 'p'), &place, &size) == PSF_OK, "with a map");
+    holds(psf_map_glyph(written + place, size, 'A', &glyph) == PSF_OK && glyph == 1, "of the character");
+    holds(psf_map_glyph(written + place, size, 'B', &glyph) == PSF_OK && glyph == 0, "and no other");
+    holds(psf_file_table(file, length, 0, PSF_TAG('C', 'F', 'F', ' '), &old_place, &old_size) == PSF_OK, "the old font");
+    holds(psf_file_table(written, count, 0, PSF_TAG('C', 'F', 'F', ' '), &place, &size) == PSF_OK, "the new font");
+    holds(psf_font_open(written + place, size, &font) == PSF_OK && font.glyphs == 2, "of two glyphs");
+    check_alike(file + old_place, old_size, 1, written + place, size, 1);
+    holds(psf_file_subset(file, length, 0, letter, 0, first, 1, copied, 0, 0, 1, LIMIT, written, 1024, &count, &refusal) == PSF_OK, "a subset of a glyph");
+    holds(psf_file_subset(file, length, 0, other, 2, first, 0, copied, 0, 0, 0, LIMIT, written, 1024, &count, &refusal) == PSF_NO_CHARACTER
+          && refusal.glyph == 'B', "no glyph for B");
+    holds(psf_file_subset(file, length, 0, other, 2, first, 0, copied, 0, 1, 0, LIMIT, written, 1024, &count, &refusal) == PSF_OK, "B is left out");
+    holds(psf_file_subset(file, length, 0, letter, 0, first, 0, copied, 0, 0, 0, LIMIT, written, 1024, &count, &refusal) == PSF_NO_GLYPHS, "nothing chosen");
+    holds(psf_file_subset(file, length, 0, letter, 0, past, 1, copied, 0, 0, 0, LIMIT, written, 1024, &count, &refusal) == PSF_NO_GLYPH
+          && refusal.glyph == 9, "no glyph 9");
+    holds(psf_file_subset(file, length, 0, letter, 1, first, 0, twice, 2, 0, 0, LIMIT, written, 1024, &count, &refusal) == PSF_SAME_TAG
+          && refusal.glyph == PSF_TAG('n', 'a', 'm', 'e'), "a table twice");
+    holds(psf_file_subset(file, length, 0, letter, 1, first, 0, copied, 0, 0, 0, 1, written, 1024, &count, &refusal) == PSF_TOO_LONG, "a subset past the limit");
+    holds(psf_file_subset(lacking, 228, 0, letter, 1, first, 0, copied, 0, 0, 0, LIMIT, written, 1024, &count, &refusal) == PSF_NO_TABLE
+          && refusal.glyph == PSF_TAG('h', 'h', 'e', 'a'), "a file without hhea");
+}
+
 static void check_texts(void) {
     uint8_t text[80];
     size_t count = 0;
     holds(psf_version() == PSF_VERSION, "the version of the header");
-    for (int32_t status = 0; status <= PSF_CFF2_DATA; status++)
+    for (int32_t status = 0; status <= PSF_CUT_TABLE; status++)
         holds(psf_status_text(status, text, sizeof text, &count) == PSF_OK && count > 0, "a text");
     holds(psf_status_text(PSF_NO_GLYPH, text, sizeof text, &count) == PSF_OK && memcmp(text, "no such glyph", 13) == 0, "its words");
     holds(psf_status_text(PSF_NO_GLYPH, text, 3, &count) == PSF_NO_ROOM && count == 13, "no room for a text");
-    holds(psf_status_text(PSF_CFF2_DATA + 1, text, sizeof text, &count) == PSF_NO_STATUS, "no text");
+    holds(psf_status_text(PSF_CUT_TABLE + 1, text, sizeof text, &count) == PSF_NO_STATUS, "no text");
     holds(psf_status_text(-1, text, sizeof text, &count) == PSF_NO_STATUS, "no text below 0");
 }
 
 int main(int argc, char **argv) {
-    uint8_t file[1024], accents[256], variable[1024];
-    if (argc != 4) return 2;
+    uint8_t file[1024], accents[256], variable[1024], whole[1024];
+    if (argc != 5) return 2;
     size_t length = read_hex(argv[1], file, sizeof file), faces = 0, place = 0, size = 0, glyph = 99;
     holds(length == 228, "the length of the font");
     holds(psf_file_faces(file, length, &faces) == PSF_OK && faces == 1, "one face");
@@ -581,6 +637,11 @@ int main(int argc, char **argv) {
     check_places(variable, length);
     check_advances(variable, length);
     check_refused_tables(variable, length);
+    length = read_hex(argv[1], file, sizeof file);
+    check_flat_file(file, length);
+    length = read_hex(argv[4], whole, sizeof whole);
+    holds(length == 412, "the length of the file with metrics");
+    check_subset_file(whole, length, file);
     check_texts();
     printf("postscript.h: %s\n", failures ? "tests failed" : "all tests passed");
     return failures != 0;

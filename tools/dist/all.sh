@@ -24,6 +24,7 @@ rm -rf "$top/dist"
 mkdir "$work/dist"
 for kind in archive wheel crate deb; do "$top/tools/dist/$kind.sh" "$work/tree" "$work/dist"; done
 cp "$work/PROOF.txt" "$work/dist/postscript-proved-$version-PROOF.txt"
+cp "$work/tree/SBOM.spdx.json" "$work/dist/postscript-proved-$version-SBOM.spdx.json"
 "$top/tools/dist/leaks.sh" "$work/dist"
 (cd "$work/dist" && sha256sum -- * > SHA256SUMS)
 mv "$work/dist" "$top/dist"

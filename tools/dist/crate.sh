@@ -10,8 +10,8 @@ trap 'rm -r "$work"' EXIT
 mkdir "$work/$crate" "$work/$crate/lib"
 cp -r "$top/bindings/rust/src" "$top/bindings/rust/tests" "$top/bindings/rust/examples" "$work/$crate"
 cp "$top/bindings/rust/build.rs" "$top/bindings/rust/README.md" "$top/bindings/rust/Cargo.toml" "$work/$crate"
-cp "$top/bindings/font.hex" "$top/bindings/accents.hex" "$top/bindings/variable.hex" "$work/$crate/tests"
-sed -i 's|"../../\(font\|accents\|variable\)\.hex"|"\1.hex"|' "$work/$crate/tests"/*.rs
+cp "$top/bindings/font.hex" "$top/bindings/accents.hex" "$top/bindings/variable.hex" "$top/bindings/whole.hex" "$work/$crate/tests"
+sed -i 's|"../../\(font\|accents\|variable\|whole\)\.hex"|"\1.hex"|' "$work/$crate/tests"/*.rs
 cp "$tree/lib/libpostscript.a" "$work/$crate/lib"
 cp "$tree/LICENSE-APACHE" "$tree/LICENSE-MIT" "$tree/PROOF.txt" "$work/$crate"
 chmod -R u=rwX,go=rX "$work/$crate"

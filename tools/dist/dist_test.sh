@@ -26,7 +26,7 @@ mkdir -p "$root/t/out"
 cp -r "$top/dist" "$root/t/dist"
 mkdir "$root/t/tests"
 cp "$top/bindings/python/test_postscript.py" "$root/t/tests"
-cp "$top/bindings/font.hex" "$top/bindings/accents.hex" "$top/bindings/variable.hex" "$root/t"
+cp "$top/bindings/font.hex" "$top/bindings/accents.hex" "$top/bindings/variable.hex" "$top/bindings/whole.hex" "$root/t"
 passed=0 failed=0
 font=/usr/share/fonts/opentype/ebgaramond/EBGaramond12-Regular.otf
 

@@ -27,6 +27,7 @@ filled "$top/tools/dist/postscriptConfigVersion.cmake.in" > "$tree/lib/cmake/pos
 
 cp "$top/README.md" "$top/CHANGELOG.md" "$top/CONTRIBUTING.md" "$top/SECURITY.md" "$top/LICENSE-APACHE" "$top/LICENSE-MIT" "$tree"
 cp "$proof" "$tree/PROOF.txt"
+"$top/tools/dist/sbom.py" > "$tree/SBOM.spdx.json"
 cp -r "$top/docs/." "$tree/docs"
 # links to files that are only in the repository become text
 /usr/bin/python3 - "$tree" << 'END'

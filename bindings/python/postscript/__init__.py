@@ -190,6 +190,10 @@ class Status(enum.IntEnum):
     CFF2_SELECT = 67
     CFF2_STORE = 68
     CFF2_DATA = 69
+    NO_CHARACTER = 70
+    OVERLAP = 71
+    SAME_TAG = 72
+    CUT_TABLE = 73
 
 
 def _status(number: int) -> Union[Status, int]:
@@ -212,12 +216,20 @@ class Error(Exception):
 
 class WriteError(Error):
     """A font was not written. `glyph` is the glyph that caused it, or None, as for `Status.TOO_LARGE`. For `Status.REFUSED_GLYPH`, `cause` is the error of
-    that glyph."""
+    that glyph. `character` is the code point for `Status.NO_CHARACTER`, and `table` the tag for `Status.NO_TABLE` and `SAME_TAG`."""
 
     def __init__(self, status: int, glyph: int, cause: int) -> None:
         means_glyph = status in (Status.REFUSED_GLYPH, Status.NO_GLYPH, Status.NO_PART, Status.NO_NAME)
         text = _text_of(cause if status == Status.REFUSED_GLYPH else status)
-        super().__init__(status, f"glyph {glyph}: {text}" if means_glyph else text, glyph if means_glyph else None)
+        self.character: Optional[int] = glyph if status == Status.NO_CHARACTER else None
+        self.table: Optional[str] = glyph.to_bytes(4, "big").decode("latin-1") if status in (Status.NO_TABLE, Status.SAME_TAG) else None
+        if means_glyph:
+            text = f"glyph {glyph}: {text}"
+        elif self.character is not None:
+            text = f"U+{glyph:04X}: {text}"
+        elif self.table is not None:
+            text = f"table {self.table!r}: {text}"
+        super().__init__(status, text, glyph if means_glyph else None)
         self._told = int(status), glyph, int(cause)
         self.cause: Optional[Union[Status, int]] = _status(cause) if status == Status.REFUSED_GLYPH else None
 
@@ -407,6 +419,11 @@ for _name, _arguments in {
     "psf_glyph_operations": [_bytes, _size, POINTER(_Font), _size, POINTER(_Operation), _size, _sizes, POINTER(c_int32), _size, _sizes],
     "psf_font_flat": [_bytes, _size, c_uint64, _room, _size, _sizes, POINTER(_Refusal)],
     "psf_font_subset": [_bytes, _size, _sizes, _size, c_uint32, c_uint64, _room, _size, _sizes, POINTER(_Refusal)],
+    "psf_file_flat": [_bytes, _size, _size, c_uint64, _room, _size, _sizes, POINTER(_Refusal)],
+    "psf_file_subset": [
+        _bytes, _size, _size, POINTER(c_uint32), _size, _sizes, _size, POINTER(c_uint32), _size, c_uint32, c_uint32, c_uint64, _room, _size,
+        _sizes, POINTER(_Refusal),
+    ],  # fmt: skip
     "psf_glyph_name": [_bytes, _size, _size, _room, _size, _sizes],
     "psf_font_identifiers": [_bytes, _size, POINTER(c_int32), _size, _sizes],
     "psf_font_string": [_bytes, _size, c_uint16, _room, _size, _sizes],
@@ -557,6 +574,8 @@ class Font:
         self._font = _Font()
         _checked(_library.psf_font_open(*self._view.told, byref(self._font)))
         self._font.limit = limit
+        self._file: Optional[_View] = None
+        self._face = 0
         #: the characters with their glyphs
         self.cmap = CharacterMap(self._map)
 
@@ -580,7 +599,9 @@ class Font:
         except Error as e:
             if e.status != Status.NO_TABLE:
                 raise
-        return cls(cff, cmap, limit)
+        font = cls(cff, cmap, limit)
+        font._file, font._face = view, face
+        return font
 
     def __len__(self) -> int:
         return int(self._font.glyphs)
@@ -666,6 +687,46 @@ class Font:
         named = (c_size_t * len(numbers))(*numbers)
         return _font_of(
             len(cff) + 1024, lambda *lent: _library.psf_font_subset(*cff.told, named, len(numbers), int(keep_numbers), limit, *lent)
+        )
+
+    def _whole(self) -> _View:
+        if self._file is None:
+            raise ValueError("the font was opened from a CFF table, not from a font file")
+        return self._file
+
+    def flat_file(self) -> bytes:
+        """Returns a font file with this face, without subroutines. All other tables are copied, except for the digital signature.
+        Raises `WriteError`, as `flat` does, and for `Status.OVERLAP`; and `ValueError` if the font was not opened from a file."""
+        file, limit = self._whole(), self._limit_of_all
+        return _font_of(2 * len(file) + 1024, lambda *lent: _library.psf_file_flat(*file.told, self._face, limit, *lent))
+
+    def subset_file(
+        self,
+        text: str = "",
+        unicodes: Iterable[int] = (),
+        glyphs: Iterable[int] = (),
+        keep_numbers: bool = False,
+        ignore_missing: bool = False,
+        tables: Iterable[str] = ("OS/2", "head", "name"),
+    ) -> bytes:
+        """Returns a font file with only some characters and glyphs of this face: those of `text` and `unicodes`, and `glyphs` with all
+        their characters. It also has `.notdef` and the components of `seac` glyphs. Each glyph is drawn, named and measured as before.
+        Kerning and ligatures are lost: the tables are those that every font needs, and copies of `tables`.
+
+        Glyphs get new numbers in ascending order, unless `keep_numbers` is set. Raises `WriteError`: `Status.NO_CHARACTER` for a
+        character without a glyph, unless `ignore_missing` is set; `NO_GLYPHS` if nothing is left; `NO_TABLE`, `NO_MAP`, `NO_ADVANCES`,
+        `CUT_TABLE` and `SAME_TAG` for the tables; and the errors of `subset`. Raises `ValueError` if the font was not opened from a
+        file."""
+        file, limit = self._whole(), self._limit_of_all
+        asked, numbers = [*map(ord, text), *unicodes], list(glyphs)
+        tags = [int.from_bytes(tag.encode("latin-1").ljust(4), "big") for tag in tables]
+        characters, named, copied = (c_uint32 * len(asked))(*asked), (c_size_t * len(numbers))(*numbers), (c_uint32 * len(tags))(*tags)
+        return _font_of(
+            len(file) + 1024,
+            lambda *lent: _library.psf_file_subset(
+                *file.told, self._face, characters, len(asked), named, len(numbers), copied, len(tags), int(ignore_missing),
+                int(keep_numbers), limit, *lent
+            ),  # fmt: skip
         )
 
     def glyph_of(self, character: str) -> Glyph:

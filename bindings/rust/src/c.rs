@@ -206,6 +206,34 @@ extern "C" {
         count: *mut usize,
         refusal: *mut Refusal,
     ) -> i32;
+    fn psf_file_flat(
+        file: *const u8,
+        length: usize,
+        face: usize,
+        limit: u64,
+        flat: *mut u8,
+        room: usize,
+        count: *mut usize,
+        refusal: *mut Refusal,
+    ) -> i32;
+    fn psf_file_subset(
+        file: *const u8,
+        length: usize,
+        face: usize,
+        characters: *const u32,
+        asked: usize,
+        glyphs: *const usize,
+        named: usize,
+        copied: *const u32,
+        tables: usize,
+        lenient: u32,
+        keeps: u32,
+        limit: u64,
+        subset: *mut u8,
+        room: usize,
+        count: *mut usize,
+        refusal: *mut Refusal,
+    ) -> i32;
     fn psf_glyph_name(
         cff: *const u8,
         length: usize,
@@ -577,6 +605,63 @@ pub fn font_subset(
             glyphs.as_ptr(),
             glyphs.len(),
             keeps.into(),
+            limit,
+            room.as_mut_ptr(),
+            room.len(),
+            count,
+            refusal,
+        )
+    })
+}
+
+pub fn file_flat(
+    file: &[u8],
+    face: usize,
+    limit: u64,
+) -> core::result::Result<Vec<u8>, (Error, Refusal)> {
+    written(2 * file.len() + 1024, |room, count, refusal| unsafe {
+        psf_file_flat(
+            file.as_ptr(),
+            file.len(),
+            face,
+            limit,
+            room.as_mut_ptr(),
+            room.len(),
+            count,
+            refusal,
+        )
+    })
+}
+
+/// The contents of a subset.
+#[derive(Clone, Debug, Default)]
+pub struct Choice {
+    pub characters: Vec<u32>,
+    pub glyphs: Vec<usize>,
+    pub copied: Vec<u32>,
+    pub lenient: bool,
+    pub keeps: bool,
+}
+
+pub fn file_subset(
+    file: &[u8],
+    face: usize,
+    choice: &Choice,
+    limit: u64,
+) -> core::result::Result<Vec<u8>, (Error, Refusal)> {
+    written(file.len() + 1024, |room, count, refusal| unsafe {
+        psf_file_subset(
+            file.as_ptr(),
+            file.len(),
+            face,
+            choice.characters.as_ptr(),
+            choice.characters.len(),
+            choice.glyphs.as_ptr(),
+            choice.glyphs.len(),
+            choice.copied.as_ptr(),
+            choice.copied.len(),
+            choice.lenient.into(),
+            choice.keeps.into(),
             limit,
             room.as_mut_ptr(),
             room.len(),

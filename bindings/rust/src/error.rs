@@ -153,6 +153,14 @@ pub enum Error {
     Cff2Store = 68,
     /// Item variation data of the CFF2 table are missing or truncated.
     Cff2Data = 69,
+    /// The face has no glyph for a character.
+    NoCharacter = 70,
+    /// The tables of the face overlap: together they have more bytes than the file.
+    Overlap = 71,
+    /// Two tables of the new file would have the same tag.
+    SameTag = 72,
+    /// The maxp table is truncated.
+    CutTable = 73,
     /// A status that this crate does not know.
     Other = -1,
     /// The linked library has another version than this crate, so no font is opened.
@@ -160,7 +168,7 @@ pub enum Error {
 }
 
 /// All errors with a number.
-const ERRORS: [Error; 63] = [
+const ERRORS: [Error; 67] = [
     Error::UnexpectedEof,
     Error::Memory,
     Error::MalformedOffset,
@@ -224,6 +232,10 @@ const ERRORS: [Error; 63] = [
     Error::Cff2Select,
     Error::Cff2Store,
     Error::Cff2Data,
+    Error::NoCharacter,
+    Error::Overlap,
+    Error::SameTag,
+    Error::CutTable,
 ];
 
 impl Error {

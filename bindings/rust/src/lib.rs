@@ -44,7 +44,7 @@ pub use error::{Error, Result};
 pub use operation::Operation;
 pub use outline::{Bounds, Glyph, Outline, OutlineSink, Point, Segment};
 pub use variable::{Axis, Instance, Place, VariableFont};
-pub use write::WriteError;
+pub use write::{SubsetFile, WriteError};
 
 /// Returns the version of the linked library: major, minor and patch number.
 ///
@@ -98,6 +98,8 @@ const GLYPHS: u64 = 20;
 pub struct Font<'a> {
     cff: &'a [u8],
     cmap: Option<&'a [u8]>,
+    file: Option<&'a [u8]>,
+    face: usize,
     font: c::Font,
 }
 
@@ -130,7 +132,7 @@ impl<'a> Font<'a> {
             Err(Error::NoTable) => None,
             Err(e) => return Err(e),
         };
-        Ok(Font { cmap, ..Font::from_table(cff)? })
+        Ok(Font { cmap, file: Some(file), face, ..Font::from_table(cff)? })
     }
 
     /// Opens the first font of a `CFF ` table. It has no character map.
@@ -148,7 +150,7 @@ impl<'a> Font<'a> {
     ///
     /// If the table is malformed: see [`Error`]. [`Error::OtherVersion`] if the linked library has another version than this crate.
     pub fn from_table(cff: &'a [u8]) -> Result<Self> {
-        Ok(Font { cff, cmap: None, font: c::open(cff)? })
+        Ok(Font { cff, cmap: None, file: None, face: 0, font: c::open(cff)? })
     }
 
     /// Returns the bytes of the `CFF ` table.
@@ -415,6 +417,29 @@ impl<'a> Font<'a> {
     /// Those of [`Font::subset`].
     pub fn subset_keeping(&self, glyphs: &[usize]) -> core::result::Result<Vec<u8>, WriteError> {
         c::font_subset(self.cff, glyphs, true, self.limit_of_all()).map_err(WriteError::of)
+    }
+
+    /// Returns a font file with this face and no subroutines. All other tables are copied, except for the digital signature.
+    ///
+    /// ```
+    /// # let bytes = std::fs::read("examples/small.otf")?;
+    /// # let font = postscript::Font::from_file(&bytes, 0)?;
+    /// let flat = font.flat_file()?;
+    /// assert_eq!(postscript::Font::from_file(&flat, 0)?.outline(2), font.outline(2));
+    /// # Ok::<(), Box<dyn std::error::Error>>(())
+    /// ```
+    ///
+    /// # Errors
+    ///
+    /// Those of [`Font::flat`]; [`Error::Overlap`]; and [`Error::CutFile`] if the font was not opened by [`Font::from_file`].
+    pub fn flat_file(&self) -> core::result::Result<Vec<u8>, WriteError> {
+        let file = self.file.unwrap_or_default();
+        c::file_flat(file, self.face, self.limit_of_all()).map_err(WriteError::of)
+    }
+
+    /// Prepares a font file with only some characters and glyphs of this face: see [`SubsetFile`].
+    pub fn subset_file(&self) -> SubsetFile<'a> {
+        SubsetFile::of(self.file, self.face, self.limit_of_all())
     }
 
     /// How many units a whole font may cost.

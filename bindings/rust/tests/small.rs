@@ -36,6 +36,55 @@ const _: () = {
     are_shared::<(Outline, Segment, Point, Bounds, postscript::Glyph, Operation, Error, WriteError)>();
 };
 
+/// An error without details.
+const NO_ERROR: WriteError = WriteError {
+    error: Error::Other,
+    glyph: None,
+    cause: None,
+    character: None,
+    table: None,
+};
+
+/// The file with metrics that `bindings/whole.hex` spells: `.notdef` and `A`.
+fn whole() -> Vec<u8> {
+    let text: String = include_str!("../../whole.hex").split_whitespace().collect();
+    (0..text.len()).step_by(2).map(|i| u8::from_str_radix(&text[i..i + 2], 16).unwrap()).collect()
+}
+
+#[test]
+fn files_are_written() {
+    let bytes = whole();
+    let font = Font::from_file(&bytes, 0).unwrap();
+    let file = font.subset_file().text("AA").tables(&[*b"name", *b"OS/2"]).write().unwrap();
+    let subset = Font::from_file(&file, 0).unwrap();
+    assert_eq!((subset.glyph_count(), subset.glyph_index('A'), subset.glyph_index('B')), (2, Some(1), None));
+    assert_eq!(subset.outline(1), font.outline(1));
+    let file = font.subset_file().glyphs([1]).keep_numbers(true).write().unwrap();
+    assert_eq!(Font::from_file(&file, 0).unwrap().outline(1), font.outline(1));
+    let file = font.subset_file().characters(['A', 'B']).ignore_missing(true).write().unwrap();
+    assert_eq!(Font::from_file(&file, 0).unwrap().glyph_index('A'), Some(1));
+    let file = font.flat_file().unwrap();
+    assert_eq!(Font::from_file(&file, 0).unwrap().outline(1), font.outline(1));
+}
+
+#[test]
+fn files_that_are_not_written() {
+    let (bytes, lacking) = (whole(), small());
+    let font = Font::from_file(&bytes, 0).unwrap();
+    let missing = WriteError { error: Error::NoCharacter, character: Some(66), ..NO_ERROR };
+    assert_eq!(font.subset_file().text("AB").write(), Err(missing));
+    assert_eq!(missing.to_string(), "U+0042: the font has no glyph for a character");
+    let none = WriteError { error: Error::NoGlyphs, ..NO_ERROR };
+    assert_eq!(font.subset_file().write(), Err(none));
+    let twice = WriteError { error: Error::SameTag, table: Some(*b"name"), ..NO_ERROR };
+    assert_eq!(font.subset_file().text("A").tables(&[*b"name", *b"name"]).write(), Err(twice));
+    let lacking = Font::from_file(&lacking, 0).unwrap();
+    let table = WriteError { error: Error::NoTable, table: Some(*b"hhea"), ..NO_ERROR };
+    assert_eq!(lacking.subset_file().text("A").write(), Err(table));
+    let table = Font::from_table(font.table()).unwrap();
+    assert_eq!(table.flat_file().unwrap_err().error, Error::CutFile);
+}
+
 #[test]
 fn threads_share_a_font() {
     let bytes = bytes();
@@ -191,9 +240,9 @@ fn written_fonts() {
 fn fonts_that_are_not_written() {
     let bytes = bytes();
     let font = Font::from_file(&bytes, 0).unwrap();
-    let none = WriteError { error: Error::NoGlyphs, glyph: None, cause: None };
+    let none = WriteError { error: Error::NoGlyphs, ..NO_ERROR };
     assert_eq!(font.subset(&[]), Err(none));
-    let past = WriteError { error: Error::NoGlyph, glyph: Some(4), cause: None };
+    let past = WriteError { error: Error::NoGlyph, glyph: Some(4), ..NO_ERROR };
     assert_eq!(font.subset_keeping(&[1, 4]), Err(past));
     assert_eq!(past.to_string(), "glyph 4: no such glyph");
     // the code of the glyph A is spoiled: it returns
@@ -201,7 +250,7 @@ fn fonts_that_are_not_written() {
     let place = table.windows(3).position(|bytes| bytes == [0x8b, 0x16, 0xf7]).unwrap();
     table[place] = 0x0b;
     let cause = Some(Error::ReturnWithoutCaller);
-    let refused = WriteError { error: Error::RefusedGlyph, glyph: Some(2), cause };
+    let refused = WriteError { error: Error::RefusedGlyph, glyph: Some(2), cause, ..NO_ERROR };
     assert_eq!(Font::from_table(&table).unwrap().flat(), Err(refused));
     assert_eq!(refused.to_string(), "glyph 2: found a return operator without a caller");
 }

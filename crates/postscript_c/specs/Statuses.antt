@@ -2,7 +2,7 @@
 use Rattle.std.specs.Prelude.{◌≡◌, ◌⊎◌, ℕ, ℤ, pos, negsuc, List, [], ◌∷◌, Option, Some, None, codes, slice_get}
 use Rattle.postscript_c.specs.Texts.{HandsOver, Lent}
 
--- the texts of statuses 0 to 69
+-- the texts of statuses 0 to 73
 abbrev pub texts : List (List ℕ)
 texts =
     codes "done" ∷
@@ -74,7 +74,11 @@ texts =
     codes "an INDEX of the CFF2 table is malformed" ∷
     codes "FDSelect of the CFF2 table is malformed" ∷
     codes "the item variation store of the CFF2 table is malformed" ∷
-    codes "item variation data of the CFF2 table are missing" ∷ []
+    codes "item variation data of the CFF2 table are missing" ∷
+    codes "the font has no glyph for a character" ∷
+    codes "the tables overlap" ∷
+    codes "two tables have the same tag" ∷
+    codes "a table ends early" ∷ []
 
 abbrev pub text_of : (status : ℤ) → Option (List ℕ)
 text_of (pos n) = slice_get texts n

@@ -27,7 +27,7 @@ pub(crate) fn hand_over<T: Copy>(items: &[T], room: &mut [T], count: &mut usize)
 }
 
 /// The texts of all statuses from 0 on.
-const TEXTS: [&str; 70] = [
+const TEXTS: [&str; 74] = [
     "done",
     "failed to fill whole buffer",
     "found a fault of the tape",
@@ -98,6 +98,10 @@ const TEXTS: [&str; 70] = [
     "FDSelect of the CFF2 table is malformed",
     "the item variation store of the CFF2 table is malformed",
     "item variation data of the CFF2 table are missing",
+    "the font has no glyph for a character",
+    "the tables overlap",
+    "two tables have the same tag",
+    "a table ends early",
 ];
 
 /// The text with an index, if there is one.

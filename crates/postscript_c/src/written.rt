@@ -24,7 +24,7 @@ pub struct PsfRefusal {
 }
 
 /// The status of an error.
-fn written_status(e: &Error) -> i32
+pub(crate) fn written_status(e: &Error) -> i32
     ensures { result ≡ pos (written_code e.now) }
 {
     match e {
@@ -40,7 +40,7 @@ fn written_status(e: &Error) -> i32
 }
 
 /// The details of a glyph and a cause.
-fn of(glyph: usize, cause: i32) -> PsfRefusal
+pub(crate) fn refusal_with(glyph: usize, cause: i32) -> PsfRefusal
     ensures { result ≡ record { glyph = glyph; cause = cause } }
 {
     PsfRefusal {
@@ -50,16 +50,16 @@ fn of(glyph: usize, cause: i32) -> PsfRefusal
 }
 
 /// The glyph of an error, and the status of its cause.
-fn refusal_of(e: &Error) -> PsfRefusal
+pub(crate) fn refusal_of(e: &Error) -> PsfRefusal
     ensures { result ≡ the_refusal e.now }
 {
     match e {
-        Error::Glyph(glyph, cause) => of(*glyph, status(cause)),
+        Error::Glyph(glyph, cause) => refusal_with(*glyph, status(cause)),
         Error::MissingGlyph(glyph)
         | Error::MissingPart(glyph)
         | Error::MissingName(glyph)
-        | Error::LongGlyph(glyph) => of(*glyph, 0),
-        _ => of(0, 0),
+        | Error::LongGlyph(glyph) => refusal_with(*glyph, 0),
+        _ => refusal_with(0, 0),
     }
 }
 
@@ -67,7 +67,7 @@ fn refusal_of(e: &Error) -> PsfRefusal
 pub(crate) fn tell_unasked(refusal: &mut PsfRefusal)
     ensures { refusal.new ≡ no_refusal 0 (pos 0) }
 {
-    *refusal = of(0, 0);
+    *refusal = refusal_with(0, 0);
 }
 
 /// Stores a font. Returns 0, `NO_ROOM`, or the status of the error.

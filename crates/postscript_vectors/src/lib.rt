@@ -16,6 +16,8 @@ mod errors;
 #[cfg(test)]
 mod examples;
 #[cfg(test)]
+mod files;
+#[cfg(test)]
 mod flat;
 #[cfg(test)]
 mod fonts;

@@ -1,0 +1,111 @@
+//! New font files.
+ghost use Rattle.std.specs.Prelude.{◌≡◌, ◌≢◌, IfOk, pos};
+ghost use Rattle.postscript_c.specs.Texts.{lent};
+ghost use Rattle.postscript_c.specs.WholeFiles.{IsBeyond, IsFlatFile, IsSubsetFile, RunsEnd, TellsFile, whole_code, whole_refusal};
+
+use crate::files::file_status;
+use crate::limit::tell_fits_at_once;
+use crate::status::{
+    CUT_TABLE, MEMORY, NO_ADVANCES, NO_CHARACTER, NO_MAP, NO_TABLE, OVERLAP, SAME_TAG, TOO_LARGE,
+};
+use crate::texts::hand_over;
+use crate::written::{PsfRefusal, refusal_of, refusal_with, written_status};
+use postscript_files::{Choice, Error, Result, flat_file, subset_file};
+use postscript_sfnt::FontFile;
+use std::alloc::Global;
+
+/// The status of an error.
+fn whole_status(e: &Error) -> i32
+    ensures { result ≡ pos (whole_code e.now) }
+{
+    match e {
+        Error::Memory => MEMORY,
+        Error::File(fault) => file_status(*fault),
+        Error::MissingTable(_) => NO_TABLE,
+        Error::NoMap => NO_MAP,
+        Error::NoAdvances => NO_ADVANCES,
+        Error::MissingCharacter(_) => NO_CHARACTER,
+        Error::Font(fault) => written_status(fault),
+        Error::Overlap => OVERLAP,
+        Error::SameTag(_) => SAME_TAG,
+        Error::Cut => CUT_TABLE,
+        Error::TooLarge => TOO_LARGE,
+    }
+}
+
+/// The glyph, the character or the tag of an error, and the status of its cause.
+fn whole_refusal_of(e: &Error) -> PsfRefusal
+    ensures { result ≡ whole_refusal e.now }
+{
+    match e {
+        Error::Font(fault) => refusal_of(fault),
+        Error::MissingCharacter(number) | Error::MissingTable(number) | Error::SameTag(number) => {
+            refusal_with(*number as usize, 0)
+        }
+        _ => refusal_with(0, 0),
+    }
+}
+
+/// Stores a file. Returns 0, `NO_ROOM`, or the status of the error.
+pub(crate) fn tell_file(
+    answer: &Result<Vec<u8>>,
+    room: &mut [u8],
+    count: &mut usize,
+    refusal: &mut PsfRefusal,
+) -> i32
+    ensures { TellsFile answer.now result (lent room.old count.old) (lent room.new count.new) refusal.old refusal.new }
+{
+    match answer {
+        Ok(file) => hand_over(file, room, count),
+        Err(e) => {
+            *refusal = whole_refusal_of(e);
+            whole_status(e)
+        }
+    }
+}
+
+/// Returns 0 if the runs of all glyphs of a face end within a limit, otherwise the status of the reason. A file without
+/// the face or its `CFF ` table gives 0.
+pub(crate) fn asked_of(alloc: Global, bytes: &[u8], face: usize, limit: u64) -> i32
+    ensures end { result ≡ pos 0 → RunsEnd bytes.now face limit }
+    ensures beyond { result ≢ pos 0 → IsBeyond bytes.now face limit result }
+{
+    match FontFile::read(bytes, face) {
+        Ok(file) => match file.table(*b"CFF ") {
+            Some(cff) => tell_fits_at_once(alloc, cff, limit),
+            None => 0,
+        },
+        Err(_) => 0,
+    }
+}
+
+/// The file of a face without subroutines.
+pub(crate) fn flat_of(alloc: Global, bytes: &[u8], face: usize) -> Result<Vec<u8>>
+    ensures { IsFlatFile bytes.now face result }
+{
+    flat_file(alloc, bytes, face)
+}
+
+/// The file of a face with these characters and glyphs.
+pub(crate) fn subset_of(
+    alloc: Global,
+    bytes: &[u8],
+    face: usize,
+    chars: &[u32],
+    glyphs: &[usize],
+    copied: &[u32],
+    lenient: u32,
+    keeps: u32,
+) -> Result<Vec<u8>>
+    ensures { IsSubsetFile chars.now glyphs.now copied.now lenient keeps bytes.now face result }
+{
+    let choice = Choice {
+        chars,
+        glyphs,
+        lenient: lenient != 0,
+        retain_gids: keeps != 0,
+        copied,
+        given: &[],
+    };
+    subset_file(alloc, bytes, face, &choice)
+}

@@ -1,0 +1,16 @@
+pub mod OneGlyph
+pub mod Opening
+pub mod Marking
+pub mod Keeping
+pub mod Numbering
+pub mod Filing
+pub mod Others
+pub mod Same
+pub mod Twice
+pub mod Listing
+pub mod Origins
+pub mod Charting
+pub mod Measuring
+pub mod Counting
+pub mod Subsetting
+pub mod Refusing

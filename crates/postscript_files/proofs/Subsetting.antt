@@ -1,0 +1,411 @@
+-- The file of a subset: its parts put together.
+use Rattle.std.proofs.Common.{◌≡◌, ◌≢◌, refl, sym, ap, ◌∙◌, subst, inl, inr, ℕ, ◌+◌, ◌*◌, ◌/◌, ◌<◌, ◌≤◌, List, [], ◌∷◌, Bool, true, false, length, get_or, arith}
+use Rattle.std.specs.Prelude.{◌⊎◌, Result, Ok, Err, IfOk, IfErr, OnOk, Vec, drop, map}
+use Rattle.std.specs.List.{Contains}
+use Rattle.std.specs.declared.alloc.Global.{Global}
+use Rattle.std.proofs.lemmas.List.{get_or-drop}
+use Rattle.std.proofs.lemmas.List.Elements.{Contains-append_left, Contains-get_or}
+use Rattle.postscript_base.proofs.NumbersAt.{of_four, of_two}
+use Rattle.postscript_base.specs.Index.{number_at}
+use Rattle.postscript_sfnt.specs.Choice.{place_at}
+use Rattle.postscript_sfnt.specs.Lent.{AreAdvancesOf, IsFaceOf, IsTableOf}
+use Rattle.postscript_sfnt.specs.Maps.{IsMapAt, IsWhole, Maps}
+use Rattle.postscript_sfnt.specs.Metrics.{HasAdvances, IsGlyphs, IsWord}
+use Rattle.postscript_sfnt.specs.declared.character_map.CharacterMap.{CharacterMap}
+use Rattle.postscript_sfnt.specs.declared.character_map.CharacterMap.TheVariants.{Segments, Groups, Trimmed}
+use Rattle.postscript_sfnt.specs.declared.file.FontFile.{FontFile}
+use Rattle.postscript_sfnt_write.specs.Files.{Opens}
+use Rattle.postscript_sfnt_write.specs.Mappings.{IsGlyphIn}
+use Rattle.postscript_sfnt_write.specs.Metrics.{KeepsBut}
+use Rattle.postscript_sfnt_write.specs.declared.mapping.Mapping.{Mapping}
+use Rattle.postscript_write.specs.Drawings.{DrawsTheSame}
+use Rattle.postscript_write.specs.Refusals.{IsSubsetRefusedBy}
+use Rattle.postscript_write.specs.SameGlyphs.{IsSameGlyph}
+use Rattle.postscript_write.specs.Sources.{choice_by}
+use Rattle.postscript_write.specs.declared.error.Error.{Error as Refusal}
+use Rattle.postscript_files.specs.Choices.{AreKeptPairs, IsFirstMissing, IsKept, NoneIsMissing, glyph_of, named_of}
+use Rattle.postscript_files.specs.Faces.{IsBestMap, IsFaceIn, cff_tag, cmap_tag, hhea_tag, hmtx_tag, maxp_tag, post_tag}
+use Rattle.postscript_files.specs.Listed.{HasParts, IsFileOfParts, IsUnmade, NoFileOfParts}
+use Rattle.postscript_files.specs.Made.{AreBytes, AreOrigins, HasNoOrigins, IsHmtxOf, IsMade, IsMapOf, IsSubsetFile}
+use Rattle.postscript_files.specs.Renumbered.{IsOrigin}
+use Rattle.postscript_files.specs.Subsets.{AreCharacters, HasSame, IsSubsetFace, IsSubsetFont, IsSubsetOf, KeepsNumber, NoSubsetFrom, NoSubsetOf}
+use Rattle.postscript_files.specs.declared.choice.Choice.{Choice}
+use Rattle.postscript_files.specs.declared.error.Error.{Error}
+use Rattle.postscript_files.specs.declared.error.Error.TheVariants.{Cut, File, Font, Memory, MissingCharacter, MissingTable, NoAdvances, NoMap, Overlap, SameTag, TooLarge}
+use Rattle.postscript_files.specs.declared.error.Error.TheVariants as errors
+use Rattle.postscript_files.specs.declared.face.Face.{Face}
+use Rattle.postscript_files.specs.declared.subset.Made.{Made}
+use Rattle.postscript_files.proofs.Charting.{find-char, glyph-named, mapping-from, mapping-there, named-for, numbered}
+use Rattle.postscript_files.proofs.Counting.{many-glyphs}
+use Rattle.postscript_files.proofs.Measuring.{many-metrics, same-advance, same-bearing}
+use Rattle.postscript_files.proofs.OneGlyph.{some-glyph}
+use Rattle.postscript_files.proofs.Origins.{above-zero, has-origin, origin-like, own-number}
+use Rattle.postscript_files.proofs.Others.{one-table}
+
+-- what is known of a new face
+pub record Known (choice : Choice) (old new : Face) : Type 0 where
+  pub pairs : List Mapping
+  pub origins : List ℕ
+  pub kept : AreKeptPairs choice old.map pairs
+  pub font : IsSubsetFont choice.retain_gids (named_of choice.glyphs.now pairs) old.cff.now new.cff.now
+  pub are : AreOrigins choice.retain_gids (named_of choice.glyphs.now pairs) old.cff.now origins
+  pub cmap : IsMapOf pairs origins new.cmap.now
+  pub hhea : IsWord new.hhea.now 34 (length origins)
+  pub hmtx : IsHmtxOf old origins new.hmtx.now
+  pub maxp : IsGlyphs new.maxp.now (length origins)
+  pub map : IsBestMap new.cmap.now new.map
+  pub advances : AreAdvancesOf new.hhea.now new.hmtx.now new.advances
+
+keeps-number : (retain : Bool) (named cff origins : List ℕ) (i glyph : ℕ) → AreOrigins retain named cff origins → IsOrigin origins i glyph →
+    KeepsNumber retain glyph i
+keeps-number true named cff origins i glyph are h = own-number named cff origins i glyph are h
+keeps-number false named cff origins i glyph are h = tt
+
+has-same : (choice : Choice) (old new : Face) (w : Known choice old new) (glyph i : ℕ) →
+    Contains (named_of choice.glyphs.now w.pairs) glyph → IsOrigin w.origins i glyph → HasSame choice old new glyph i
+has-same choice old new w glyph i asked h = (
+  record {
+    drawn = λ was is opened made.
+        origin-like DrawsTheSame choice.retain_gids (named_of choice.glyphs.now w.pairs) old.cff.now new.cff.now w.origins w.are w.font.drawn
+        glyph i asked h was is opened made;
+    told = λ was is opened made.
+        origin-like IsSameGlyph choice.retain_gids (named_of choice.glyphs.now w.pairs) old.cff.now new.cff.now w.origins w.are w.font.same
+        glyph i asked h was is opened made;
+    advance = same-advance old new w.origins i glyph w.hmtx w.hhea w.advances h;
+    bearing = same-bearing old new w.origins i glyph w.hmtx w.hhea h;
+  },
+  keeps-number choice.retain_gids (named_of choice.glyphs.now w.pairs) old.cff.now w.origins i glyph w.are h,
+)
+
+origin-there : (choice : Choice) (old new : Face) (w : Known choice old new) (glyph : ℕ) →
+    Contains (named_of choice.glyphs.now w.pairs) glyph → (i : ℕ) × IsOrigin w.origins i glyph
+origin-there choice old new w glyph asked =
+    has-origin choice.retain_gids (named_of choice.glyphs.now w.pairs) old.cff.now new.cff.now w.origins w.font w.are glyph asked
+
+glyphs-there : (choice : Choice) (old new : Face) (w : Known choice old new) (glyph : ℕ) → Contains choice.glyphs.now glyph →
+    (i : ℕ) × HasSame choice old new glyph i
+glyphs-there choice old new w glyph chosen =
+    let asked : Contains (named_of choice.glyphs.now w.pairs) glyph =
+    Contains-append_left choice.glyphs.now (map glyph_of w.pairs) glyph chosen in
+    let h = origin-there choice old new w glyph asked in
+    (h.0, has-same choice old new w glyph h.0 asked h.1)
+
+-- what the new map says of a character
+char-in : (choice : Choice) (old new : Face) (w : Known choice old new) (char i : ℕ) → Maps new.map char i →
+    IsGlyphIn w.cmap.mappings char i
+char-in choice old new w char i maps = w.cmap.told w.map.0 new.map w.map.1 w.map.2 char i maps
+
+char-kept : (choice : Choice) (old new : Face) (w : Known choice old new) (char glyph : ℕ) → IsKept choice old.map char glyph →
+    (i : ℕ) × (0 < i) × Maps new.map char i × HasSame choice old new glyph i
+char-kept choice old new w char glyph kept =
+    let at = w.kept.all char glyph kept in
+    let some = some-glyph new.map char in
+    let told = char-in choice old new w char some.0 some.1 in
+    let here = mapping-there w.pairs w.cmap.mappings w.cmap.numbers w.cmap.are at.0 at.1 at.2 in
+    let is : some.0 ≡ get_or w.cmap.numbers at.1.glyph 0 = told.given at.0 _ here at.3 in
+    let asked : Contains (named_of choice.glyphs.now w.pairs) glyph =
+    subst (λ g. Contains (named_of choice.glyphs.now w.pairs) g) at.4 (glyph-named choice.glyphs.now w.pairs at.0 at.1 at.2) in
+    let number : some.0 ≡ get_or w.cmap.numbers glyph 0 = is ∙ ap (λ g. get_or w.cmap.numbers g 0) at.4 in
+    let origin : IsOrigin w.origins some.0 glyph =
+    subst (λ n. IsOrigin w.origins n glyph) (sym number)
+    (numbered w.origins w.cmap.numbers glyph w.cmap.numbered (origin-there choice old new w glyph asked)) in (
+      some.0,
+      above-zero choice.retain_gids (named_of choice.glyphs.now w.pairs) old.cff.now w.origins some.0 glyph w.are origin kept.has.some,
+      some.1,
+      has-same choice old new w glyph some.0 asked origin,
+    )
+
+char-only : (choice : Choice) (old new : Face) (w : Known choice old new) (char i : ℕ) → 0 < i → Maps new.map char i →
+    (glyph : ℕ) × IsKept choice old.map char glyph
+char-only choice old new w char i some maps =
+    let told = char-in choice old new w char i maps in
+    elim (find-char w.cmap.mappings char) [
+      | inl h ↦
+          let from = mapping-from w.pairs w.cmap.mappings w.cmap.numbers w.cmap.are h.0 h.1 h.2 in
+          (from.0.glyph, subst (λ c. IsKept choice old.map c from.0.glyph) (from.2 ∙ h.3) (w.kept.each h.0 from.0 from.1))
+      | inr none ↦ absurd (let e = told.lost none in omega (arith, e, some))
+    ]
+
+-- a new face whose tables these are
+pub known : (choice : Choice) (old new : Face) (pairs : List Mapping) (origins font : List ℕ) (made : Made) →
+    AreKeptPairs choice old.map pairs → IsSubsetFont choice.retain_gids (named_of choice.glyphs.now pairs) old.cff.now font →
+    AreOrigins choice.retain_gids (named_of choice.glyphs.now pairs) old.cff.now origins → IsMade old pairs origins made →
+    HasParts choice old.file font made new.file → (file : List ℕ) → IsFaceIn file 0 new → Known choice old new
+known choice old new pairs origins font made kept is are m has file read = record {
+  pairs = pairs;
+  origins = origins;
+  kept = kept;
+  font = subst (λ (xs : List ℕ). IsSubsetFont choice.retain_gids (named_of choice.glyphs.now pairs) old.cff.now xs)
+      (one-table new.file cff_tag font new.cff.now has.cff read.cff) is;
+  are = are;
+  cmap = subst (λ (xs : List ℕ). IsMapOf pairs origins xs) (one-table new.file cmap_tag made.cmap.items new.cmap.now has.cmap read.cmap) m.cmap;
+  hhea = subst (λ (xs : List ℕ). IsWord xs 34 (length origins))
+      (one-table new.file hhea_tag made.hhea.items new.hhea.now has.hhea read.hhea) m.hhea;
+  hmtx = subst (λ (xs : List ℕ). IsHmtxOf old origins xs) (one-table new.file hmtx_tag made.hmtx.items new.hmtx.now has.hmtx read.hmtx) m.hmtx;
+  maxp = subst (λ (xs : List ℕ). IsGlyphs xs (length origins))
+      (one-table new.file maxp_tag made.maxp.items new.maxp.now has.maxp read.maxp) m.maxp;
+  map = read.map;
+  advances = read.advances;
+}
+
+pub subset-face : (choice : Choice) (old new : Face) (pairs : List Mapping) (origins font : List ℕ) (made : Made) →
+    AreKeptPairs choice old.map pairs → IsSubsetFont choice.retain_gids (named_of choice.glyphs.now pairs) old.cff.now font →
+    AreOrigins choice.retain_gids (named_of choice.glyphs.now pairs) old.cff.now origins → IsMade old pairs origins made →
+    HasParts choice old.file font made new.file → (file : List ℕ) → IsFaceIn file 0 new → IsSubsetFace choice old new
+unfolding known
+subset-face choice old new pairs origins font made kept is are m has file read =
+    let w = known choice old new pairs origins font made kept is are m has file read in
+    record {
+      named = named_of choice.glyphs.now pairs;
+      are = λ glyph h. named-for choice old.map pairs kept glyph h;
+      font = w.font;
+      glyphs = λ glyph h. glyphs-there choice old new w glyph h;
+      characters = record {
+        kept = λ char glyph h. char-kept choice old new w char glyph h;
+        only = λ char i some maps. char-only choice old new w char i some maps;
+      };
+      counted = (
+        length origins,
+        record {
+          font = λ view laid. many-glyphs choice.retain_gids (named_of choice.glyphs.now pairs) old.cff.now new.cff.now origins w.font are view laid;
+          maxp = w.maxp;
+          hhea = w.hhea;
+          hmtx = w.hmtx.size ∙ ap (λ n. n * 4) (many-metrics old origins new.hmtx.now w.hmtx);
+        },
+      );
+      hhea = subst (λ (xs : List ℕ). KeepsBut 34 old.hhea.now xs)
+          (one-table new.file hhea_tag made.hhea.items new.hhea.now has.hhea read.hhea) m.hhea_kept;
+      maxp = subst (λ (xs : List ℕ). KeepsBut 4 old.maxp.now xs)
+          (one-table new.file maxp_tag made.maxp.items new.maxp.now has.maxp read.maxp) m.maxp_kept;
+      post = (made.post.items, record { is = has.post; version = m.post.version; kept = m.post.kept });
+      copied = has.copied;
+      given = has.given;
+      only = has.only;
+    }
+
+two-small : (bytes : List ℕ) (place : ℕ) → AreBytes bytes → place + 2 ≤ length bytes → number_at bytes place 2 < 65536
+two-small bytes place are room =
+    let e = of_two bytes place room in
+    let a = are place in
+    let b = are (place + 1) in
+    omega (arith, e, a, b)
+
+four-small : (bytes : List ℕ) (place : ℕ) → AreBytes bytes → place + 4 ≤ length bytes → number_at bytes place 4 < 4294967296
+four-small bytes place are room =
+    let e = of_four bytes place room in
+    let a = are place in
+    let b = are (place + 1) in
+    let c = are (place + 2) in
+    let d = are (place + 3) in
+    omega (arith, e, a, b, c, d)
+
+bytes-after : (bytes : List ℕ) (n : ℕ) → AreBytes bytes → AreBytes (drop n bytes)
+bytes-after bytes n are i = let e = get_or-drop n bytes i 0 in let p = are (n + i) in omega (arith, e, p)
+
+-- a map that lies within a table
+some-map : (cmap : List ℕ) (place : ℕ) → AreBytes (drop place cmap) → IsWhole (drop place cmap) → (it : CharacterMap) × IsMapAt cmap place it
+some-map cmap place are whole = elim whole [
+  | inl four ↦ (
+    Segments (record {
+      table = record { ref_ptr = (0, 0); now = drop place cmap };
+      count = number_at (drop place cmap) 6 2 / 2;
+      rises = false;
+      room = four.1;
+      counted = let room = four.1 in let p = two-small (drop place cmap) 6 are (omega (arith, room)) in omega (arith, p);
+      risen = λ e. absurd (cc);
+    }),
+    record { format = four.0; bytes = refl; counted = refl },
+  )
+  | inr more ↦ elim more [
+    | inl twelve ↦ (
+      Groups (record {
+        table = record { ref_ptr = (0, 0); now = drop place cmap };
+        count = number_at (drop place cmap) 12 4;
+        rises = false;
+        room = twelve.1;
+        counted = let room = twelve.1 in four-small (drop place cmap) 12 are (omega (arith, room));
+        risen = λ e. absurd (cc);
+      }),
+      record { format = twelve.0; bytes = refl; counted = refl },
+    )
+    | inr six ↦ (
+      Trimmed (record {
+        table = record { ref_ptr = (0, 0); now = drop place cmap };
+        first = number_at (drop place cmap) 6 2;
+        count = number_at (drop place cmap) 8 2;
+        room = six.1;
+      }),
+      record { format = six.0; bytes = refl; begins = refl; counted = refl },
+    )
+  ]
+]
+
+-- a face of a file that opens
+a-face : (bytes : List ℕ) (count : ℕ) → Opens bytes count → (file : FontFile) × IsFaceOf bytes 0 file
+a-face bytes count opens = (
+  record { bytes = record { ref_ptr = (0, 0); now = bytes }; start = 0; count = count; room = opens.directory.room },
+  record { lent = refl; begins = opens.face; directory = opens.directory },
+)
+
+-- the new font has a glyph
+some-origin : (retain : Bool) (named cff flat origins : List ℕ) → IsSubsetFont retain named cff flat → AreOrigins retain named cff origins →
+    0 < length origins
+some-origin retain named cff flat origins is are =
+    let h = has-origin retain named cff flat origins is are (get_or named 0 0) (Contains-get_or named 0 0 is.some) in
+    let there = h.1.there in omega (arith, there)
+
+-- the file is opened
+opened : (choice : Choice) (old : Face) (pairs : List Mapping) (origins font : List ℕ) (made : Made) (file : List ℕ) → 0 < length origins →
+    IsMade old pairs origins made → IsFileOfParts choice old.file font made file → (new : Face) × IsFaceIn file 0 new
+opened choice old pairs origins font made file some m it =
+    let face = a-face file it.opens.0 it.opens.1 in
+    let has = it.is face.0 face.1 in
+    let readable = m.cmap.readable in
+    let map = some-map made.cmap.items (place_at made.cmap.items readable.i)
+    (bytes-after made.cmap.items (place_at made.cmap.items readable.i) m.cmap_bytes) readable.whole in
+    let many : length m.hmtx.metrics ≡ length origins = many-metrics old origins made.hmtx.items m.hmtx in
+    let told : HasAdvances made.hhea.items made.hmtx.items (length origins) =
+    m.hmtx.read made.hhea.items (length origins) m.hhea some (omega (arith, many)) in (
+      record {
+        file = face.0;
+        cff = record { ref_ptr = (0, 0); now = font };
+        cmap = record { ref_ptr = (0, 0); now = made.cmap.items };
+        map = map.0;
+        hhea = record { ref_ptr = (0, 0); now = made.hhea.items };
+        hmtx = record { ref_ptr = (0, 0); now = made.hmtx.items };
+        advances = record {
+          hmtx = record { ref_ptr = (0, 0); now = made.hmtx.items };
+          count = length origins;
+          some = told.some;
+          room = told.room;
+        };
+        maxp = record { ref_ptr = (0, 0); now = made.maxp.items };
+      },
+      record {
+        read = face.1;
+        cff = has.cff;
+        cmap = has.cmap;
+        map = (readable.i, readable.chosen, map.1);
+        hhea = has.hhea;
+        hmtx = has.hmtx;
+        advances = record {
+          lent = refl;
+          told = told;
+        };
+        maxp = has.maxp;
+      },
+    )
+
+pub if-subset : (r : Result (Vec ℕ Global) Error) (choice : Choice) (old : Face) (pairs : List Mapping) (named origins font : List ℕ)
+    (made : Made) → AreKeptPairs choice old.map pairs → named ≡ named_of choice.glyphs.now pairs →
+    IsSubsetFont choice.retain_gids named old.cff.now font → AreOrigins choice.retain_gids named old.cff.now origins →
+    IsMade old pairs origins made → IfOk r (λ file. IsFileOfParts choice old.file font made file.items) →
+    IfOk r (λ file. IsSubsetFile choice old file.items)
+if-subset (Ok file) choice old pairs named origins font made kept same is are m it =
+    let font-is : IsSubsetFont choice.retain_gids (named_of choice.glyphs.now pairs) old.cff.now font =
+    subst (λ (xs : List ℕ). IsSubsetFont choice.retain_gids xs old.cff.now font) same is in
+    let origins-are : AreOrigins choice.retain_gids (named_of choice.glyphs.now pairs) old.cff.now origins =
+    subst (λ (xs : List ℕ). AreOrigins choice.retain_gids xs old.cff.now origins) same are in
+    record {
+      opens = it.opens;
+      there = opened choice old pairs origins font made file.items
+          (some-origin choice.retain_gids named old.cff.now font origins is are) m it;
+      is = λ new read.
+          subset-face choice old new pairs origins font made kept font-is origins-are m (it.is new.file read.read) file.items read;
+    }
+if-subset (Err e) choice old pairs named origins font made kept same is are m it = tt
+
+pub subset-so : (r : Result (Vec ℕ Global) Error) (choice : Choice) (bytes : List ℕ) (number : ℕ) (old : Face) →
+    IsFaceIn bytes number old → (choice.lenient ≡ false → NoneIsMissing old.map choice.chars.now) →
+    IfOk r (λ file. IsSubsetFile choice old file.items) → IfOk r (λ file. IsSubsetOf choice bytes number file.items)
+subset-so (Ok file) choice bytes number old was all it = record {
+  old = old;
+  was = was;
+  opens = it.opens;
+  all = all;
+  there = it.there;
+  is = it.is;
+}
+subset-so (Err e) choice bytes number old was all it = tt
+
+-- a list that is not empty has an item
+pub some-named : (named : List ℕ) → (named ≡ [] → ⊥) → 0 < length named
+some-named [] h = absurd (h refl)
+some-named (one ∷ named) h = omega arith
+
+missing-so : (e : Error) (choice : Choice) (old : Face) → choice.lenient ≡ false → IsFirstMissing old.map choice.chars.now e →
+    NoSubsetFrom choice old e
+missing-so (MissingCharacter char) choice old strict h = (strict, h)
+missing-so Memory choice old strict h = absurd h
+missing-so TooLarge choice old strict h = absurd h
+missing-so (SameTag tag) choice old strict h = absurd h
+missing-so (File e) choice old strict h = absurd h
+missing-so (MissingTable tag) choice old strict h = absurd h
+missing-so NoMap choice old strict h = absurd h
+missing-so NoAdvances choice old strict h = absurd h
+missing-so (Font e) choice old strict h = absurd h
+missing-so Overlap choice old strict h = absurd h
+missing-so Cut choice old strict h = absurd h
+
+pub no-character-so : (e : Error) (choice : Choice) (bytes : List ℕ) (number : ℕ) (old : Face) → IsFaceIn bytes number old →
+    choice.lenient ≡ false → IsFirstMissing old.map choice.chars.now e → NoSubsetOf choice bytes number e
+no-character-so e choice bytes number old was strict h = inr (old, was, missing-so e choice old strict h)
+
+pub no-subset-so : (r : Result (Vec ℕ Global) Error) (choice : Choice) (bytes : List ℕ) (number : ℕ) (old : Face) →
+    IsFaceIn bytes number old → IfErr r (λ e. NoSubsetFrom choice old e) → IfErr r (λ e. NoSubsetOf choice bytes number e)
+no-subset-so (Ok file) choice bytes number old was h = tt
+no-subset-so (Err e) choice bytes number old was h = inr (old, was, h)
+
+unmade-so : (e : Error) (choice : Choice) (old : Face) → IsUnmade old e → NoSubsetFrom choice old e
+unmade-so Memory choice old h = tt
+unmade-so TooLarge choice old h = tt
+unmade-so Cut choice old h = h
+unmade-so (SameTag tag) choice old h = absurd h
+unmade-so (File e) choice old h = absurd h
+unmade-so (MissingTable tag) choice old h = absurd h
+unmade-so NoMap choice old h = absurd h
+unmade-so NoAdvances choice old h = absurd h
+unmade-so (Font e) choice old h = absurd h
+unmade-so Overlap choice old h = absurd h
+unmade-so (MissingCharacter char) choice old h = absurd h
+
+pub no-made-so : (e : Error) (choice : Choice) (old : Face) → IsUnmade old e → NoSubsetFrom choice old e
+no-made-so e choice old h = unmade-so e choice old h
+
+unwritten-so : (e : Error) (choice : Choice) (old : Face) → NoFileOfParts choice old.file e → NoSubsetFrom choice old e
+unwritten-so Memory choice old h = tt
+unwritten-so TooLarge choice old h = tt
+unwritten-so (SameTag tag) choice old h = h
+unwritten-so Cut choice old h = absurd h
+unwritten-so (File e) choice old h = absurd h
+unwritten-so (MissingTable tag) choice old h = absurd h
+unwritten-so NoMap choice old h = absurd h
+unwritten-so NoAdvances choice old h = absurd h
+unwritten-so (Font e) choice old h = absurd h
+unwritten-so Overlap choice old h = absurd h
+unwritten-so (MissingCharacter char) choice old h = absurd h
+
+pub no-written-so : (r : Result (Vec ℕ Global) Error) (choice : Choice) (old : Face) → IfErr r (λ e. NoFileOfParts choice old.file e) →
+    IfErr r (λ e. NoSubsetFrom choice old e)
+no-written-so (Ok file) choice old h = tt
+no-written-so (Err e) choice old h = unwritten-so e choice old h
+
+-- the font of the named glyphs is refused
+pub no-font-so : (e : Error) (choice : Choice) (old : Face) (pairs : List Mapping) (named all : List ℕ) → AreKeptPairs choice old.map pairs →
+    named ≡ named_of choice.glyphs.now pairs → all ≡ named →
+    (fault : Refusal) × (e ≡ errors.Font fault) × IsSubsetRefusedBy all (choice_by choice.retain_gids) old.cff.now fault →
+    NoSubsetFrom choice old e
+no-font-so e choice old pairs named all kept is same h =
+    subst (λ (x : Error). NoSubsetFrom choice old x) (sym h.1) (
+      pairs,
+      kept,
+      subst (λ (xs : List ℕ). IsSubsetRefusedBy xs (choice_by choice.retain_gids) old.cff.now h.0) (same ∙ is) h.2,
+    )
+
+pub no-origins-so : (e : Error) (choice : Choice) (old : Face) (pairs : List Mapping) (named all : List ℕ) →
+    AreKeptPairs choice old.map pairs → named ≡ named_of choice.glyphs.now pairs → all ≡ named →
+    HasNoOrigins choice.retain_gids all old.cff.now e → NoSubsetFrom choice old e
+no-origins-so e choice old pairs named all kept is same h = elim h [
+  | inl memory ↦ subst (λ (x : Error). NoSubsetFrom choice old x) (sym memory) tt
+  | inr font ↦ no-font-so e choice old pairs named all kept is same font
+]

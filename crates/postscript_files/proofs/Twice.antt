@@ -1,0 +1,151 @@
+-- How many tables have a tag.
+use Rattle.std.proofs.Common.{◌≡◌, ◌≢◌, refl, sym, ap, ◌∙◌, subst, inl, inr, ℕ, zero, suc, ◌+◌, ◌<◌, ◌≤◌, List, [], ◌∷◌, ◌++◌, Bool, true, false, length, drop, get_or, arith}
+use Rattle.std.specs.Prelude.{◌⊎◌, ◌==◌, Some, slice_get, map, if◌then◌else◌, Result, Ok, Err, IfErr, Vec}
+use Rattle.std.specs.List.{sum_by}
+use Rattle.std.specs.List.Sorted.{IsPermutation}
+use Rattle.std.specs.declared.alloc.Global.{Global}
+use Rattle.std.proofs.lemmas.Bool.{cases_lt, eq-eqb, eqb-true}
+use Rattle.std.proofs.lemmas.List.{at_drop_all, at_drop_more}
+use Rattle.std.proofs.lemmas.List.Sorted.{sum_by-IsPermutation}
+use Rattle.std.proofs.lemmas.List.Sums.{sum_by-append, sum_by-cons}
+use Rattle.postscript_sfnt.specs.Lent.{HasNoTable}
+use Rattle.postscript_sfnt.specs.declared.file.FontFile.{FontFile}
+use Rattle.postscript_sfnt_write.specs.Tables.{IsGiven}
+use Rattle.postscript_sfnt_write.specs.declared.file.Table.{Table}
+use Rattle.postscript_files.specs.Copies.{HasNeighbours, HasTwice, NoFileOf}
+use Rattle.postscript_files.specs.Listed.{CountsCopied, CountsGiven, NoFileOfParts, made_tags, tagged}
+use Rattle.postscript_files.specs.Subsets.{IsTwice, given_tag, times, times_put}
+use Rattle.postscript_files.specs.declared.choice.Choice.{Choice}
+use Rattle.postscript_files.specs.declared.choice.Given.{Given}
+use Rattle.postscript_files.specs.declared.error.Error.{Error}
+use Rattle.postscript_files.specs.declared.error.Error.TheVariants.{Cut, File, Font, Memory, MissingCharacter, MissingTable, NoAdvances, NoMap, Overlap, SameTag, TooLarge}
+
+-- 1 if a number is this one
+abbrev one_if : (x n : ℕ) → ℕ
+one_if x n = if x == n then 1 else 0
+
+abbrev has_tag : ℕ → Table → ℕ
+has_tag tag t = if t.tag == tag then 1 else 0
+
+pub tagged-more : (tables : List Table) (u : Table) (tag : ℕ) →
+    tagged (tables ++ u ∷ []) tag ≡ tagged tables tag + (if u.tag == tag then 1 else 0)
+tagged-more tables u tag =
+    let all = sum_by-append (has_tag tag) tables (u ∷ []) in
+    let one = sum_by-cons (has_tag tag) u [] in omega (arith, all, one)
+
+-- a table with the tag counts
+counted : (tag : ℕ) (u : Table) → u.tag ≡ tag → has_tag tag u ≡ 1
+counted tag u same = ap (λ b. if b then 1 else 0) (eq-eqb u.tag tag same)
+
+-- one table, and then two, with the tag
+some-tagged : (tables : List Table) (i : ℕ) (u : Table) (tag : ℕ) → IsGiven tables i u → u.tag ≡ tag → 1 ≤ tagged tables tag
+some-tagged [] i u tag h same = absurd (cc)
+some-tagged (v ∷ vs) zero u tag h same =
+    let e : v ≡ u = cc in
+    let is = counted tag v (ap (λ (t : Table). t.tag) e ∙ same) in
+    let all = sum_by-cons (has_tag tag) v vs in omega (arith, is, all)
+some-tagged (v ∷ vs) (suc i) u tag h same =
+    let rest = some-tagged vs i u tag h same in
+    let all = sum_by-cons (has_tag tag) v vs in omega (arith, rest, all)
+
+two-tagged : (tables : List Table) (i : ℕ) (a b : Table) (tag : ℕ) → IsGiven tables i a → IsGiven tables (suc i) b → a.tag ≡ tag →
+    b.tag ≡ tag → 2 ≤ tagged tables tag
+two-tagged [] i a b tag h k x y = absurd (cc)
+two-tagged (v ∷ vs) zero a b tag h k x y =
+    let e : v ≡ a = cc in
+    let is = counted tag v (ap (λ (t : Table). t.tag) e ∙ x) in
+    let rest = some-tagged vs zero b tag k y in
+    let all = sum_by-cons (has_tag tag) v vs in omega (arith, is, rest, all)
+two-tagged (v ∷ vs) (suc i) a b tag h k x y =
+    let rest = two-tagged vs i a b tag h k x y in
+    let all = sum_by-cons (has_tag tag) v vs in omega (arith, rest, all)
+
+twice-tagged : (tables : List Table) (tag : ℕ) → HasTwice tables tag → 2 ≤ tagged tables tag
+twice-tagged tables tag h =
+    let next : h.2.i + 1 ≡ suc h.2.i = omega arith in
+    let second : IsGiven h.0 (suc h.2.i) h.2.b = subst (λ k. IsGiven h.0 k h.2.b) next h.2.second in
+    let two = two-tagged h.0 h.2.i h.2.a h.2.b tag h.2.first second h.2.of_first h.2.of_second in
+    let same = sum_by-IsPermutation (has_tag tag) tables h.0 h.1 in omega (arith, two, same)
+
+-- the given tables, one after the other
+pub given-counts : (given : List Given) (i : ℕ) (d : Given) (first old new : List Table) → i < length given →
+    ((tag : ℕ) → tagged new tag ≡ tagged old tag + (if (get_or given i d).tag == tag then 1 else 0)) →
+    ((tag : ℕ) → tagged old tag + times (map given_tag (drop i given)) tag ≡ tagged first tag + times (map given_tag given) tag) →
+    (tag : ℕ) → tagged new tag + times (map given_tag (drop (i + 1) given)) tag ≡ tagged first tag + times (map given_tag given) tag
+given-counts given i d first old new there put before tag =
+    let step = at_drop_more (λ gs. times (map given_tag gs) tag) given i d there in
+    let p = put tag in
+    let b = before tag in omega (arith, step, p, b)
+
+pub given-end : (given : List Given) (i : ℕ) (first last : List Table) → length given ≤ i →
+    ((tag : ℕ) → tagged last tag + times (map given_tag (drop i given)) tag ≡ tagged first tag + times (map given_tag given) tag) →
+    CountsGiven given first last
+given-end given i first last past all tag =
+    let end = at_drop_all (λ gs. times (map given_tag gs) tag) given i past in
+    let a = all tag in omega (arith, end, a)
+
+-- the copied tables, one after the other
+pub copied-counts : (file : FontFile) (tags : List ℕ) (i : ℕ) (first old new : List Table) → i < length tags →
+    CountsCopied file (get_or tags i 0 ∷ []) old new →
+    ((tag : ℕ) → tagged old tag + times (drop i tags) tag ≤ tagged first tag + times tags tag) →
+    (tag : ℕ) → tagged new tag + times (drop (i + 1) tags) tag ≤ tagged first tag + times tags tag
+copied-counts file tags i first old new there put before tag =
+    let step = at_drop_more (λ xs. times xs tag) tags i 0 there in
+    let p = put.most tag in
+    let b = before tag in omega (arith, step, p, b)
+
+pub copied-end : (tags : List ℕ) (i : ℕ) (first last : List Table) → length tags ≤ i →
+    ((tag : ℕ) → tagged last tag + times (drop i tags) tag ≤ tagged first tag + times tags tag) →
+    (tag : ℕ) → tagged last tag ≤ tagged first tag + times tags tag
+copied-end tags i first last past all tag =
+    let end = at_drop_all (λ xs. times xs tag) tags i past in
+    let a = all tag in omega (arith, end, a)
+
+pub copy-counts : (file : FontFile) (tag : ℕ) (old new : List Table) → (HasNoTable file tag → ⊥) →
+    ((t : ℕ) → tagged new t ≡ tagged old t + (if tag == t then 1 else 0)) → CountsCopied file (tag ∷ []) old new
+copy-counts file tag old new has put = record {
+  none = λ t none. by (tag == t) t none refl;
+  most = λ t. let p = put t in omega (arith, p);
+}
+  where
+    by : (b : Bool) (t : ℕ) → HasNoTable file t → (tag == t) ≡ b → tagged new t ≡ tagged old t
+    by true t none e = absurd (has (subst (HasNoTable file) (sym (eqb-true tag t e)) none))
+    by false t none e = let p = put t in let q : one_if tag t ≡ 0 = ap (λ b. if b then 1 else 0) e in omega (arith, p, q)
+
+pub no-copy : (file : FontFile) (tag : ℕ) (tables : List Table) → CountsCopied file (tag ∷ []) tables tables
+no-copy file tag tables = record { none = λ t none. refl; most = λ t. omega arith }
+
+is-twice : (choice : Choice) (old : FontFile) (first second third : List Table) (tag : ℕ) →
+    ((t : ℕ) → tagged first t ≡ times made_tags t) → CountsGiven choice.given.now first second →
+    CountsCopied old choice.copied.now second third → 2 ≤ tagged third tag → IsTwice choice old tag
+is-twice choice old first second third tag made given copied two =
+    let a = made tag in
+    let b = given tag in
+    let c = copied.most tag in
+    elim (cases_lt (tagged second tag) (tagged third tag)) [
+      | inl more ↦ inr (λ none. let e = copied.none tag none in omega (arith, e, more), omega (arith, a, b, c, two))
+      | inr same ↦ inl (omega (arith, a, b, same, two))
+    ]
+
+not-parts : (e : Error) (choice : Choice) (old : FontFile) (first second third : List Table) →
+    ((t : ℕ) → tagged first t ≡ times made_tags t) → CountsGiven choice.given.now first second →
+    CountsCopied old choice.copied.now second third → NoFileOf e third → NoFileOfParts choice old e
+not-parts Memory choice old first second third made given copied h = tt
+not-parts TooLarge choice old first second third made given copied h = tt
+not-parts (SameTag tag) choice old first second third made given copied h =
+    is-twice choice old first second third tag made given copied (twice-tagged third tag h)
+not-parts (File e) choice old first second third made given copied h = absurd h
+not-parts (MissingTable tag) choice old first second third made given copied h = absurd h
+not-parts NoMap choice old first second third made given copied h = absurd h
+not-parts NoAdvances choice old first second third made given copied h = absurd h
+not-parts (MissingCharacter char) choice old first second third made given copied h = absurd h
+not-parts (Font e) choice old first second third made given copied h = absurd h
+not-parts Overlap choice old first second third made given copied h = absurd h
+not-parts Cut choice old first second third made given copied h = absurd h
+
+pub if-not-parts : (r : Result (Vec ℕ Global) Error) (choice : Choice) (old : FontFile) (first second third all : List Table) →
+    all ≡ third → ((t : ℕ) → tagged first t ≡ times made_tags t) → CountsGiven choice.given.now first second →
+    CountsCopied old choice.copied.now second third → IfErr r (λ e. NoFileOf e all) → IfErr r (λ e. NoFileOfParts choice old e)
+if-not-parts (Ok file) choice old first second third all same made given copied h = tt
+if-not-parts (Err e) choice old first second third all same made given copied h =
+    not-parts e choice old first second third made given copied (subst (NoFileOf e) same h)

@@ -1,0 +1,60 @@
+-- A file of a face without subroutines.
+use Rattle.std.specs.Prelude.{◌≡◌, ◌≢◌, ◌⊎◌, ℕ, ◌<◌, List}
+use Rattle.postscript_sfnt.specs.Lent.{HasNoTable, IsFaceOf, IsTableOf, tables_of, tag_of}
+use Rattle.postscript_sfnt.specs.Refusals.{NoFace}
+use Rattle.postscript_sfnt.specs.declared.file.FontFile.{FontFile}
+use Rattle.postscript_sfnt_write.specs.Files.{Opens}
+use Rattle.postscript_write.specs.Drawings.{KeepsDrawings}
+use Rattle.postscript_write.specs.Making.{IsKeptFont}
+use Rattle.postscript_write.specs.Refusals.{IsRefusedBy}
+use Rattle.postscript_write.specs.SameGlyphs.{KeepsGlyphs}
+use Rattle.postscript_write.specs.Sources.{IsWritten, every}
+use Rattle.postscript_write.specs.Whole.{IsWholeFont}
+use Rattle.postscript_files.specs.Copies.{HasCopy}
+use Rattle.postscript_files.specs.Faces.{OfFile, cff_tag}
+use Rattle.postscript_files.specs.declared.error.Error.{Error}
+use Rattle.postscript_files.specs.declared.error.Error.TheVariants.{File, Font, Memory, MissingTable, Overlap, SameTag, TooLarge}
+
+-- The new `CFF ` table is one that `flat_font` writes.
+pub record IsFlatFont (cff new : List ℕ) : Type 0 where
+  pub drawn : KeepsDrawings every cff new
+  pub same : KeepsGlyphs every cff new
+  pub written : IsWritten IsKeptFont every cff new
+  pub whole : IsWholeFont new
+
+-- the tag of the digital signature, which would not be valid for the new file: "DSIG"
+abbrev pub dsig_tag : ℕ
+dsig_tag = 0x44534947
+
+-- a table that is copied
+abbrev pub Stays : (tag : ℕ) → Type 0
+Stays tag = (tag ≢ cff_tag) × (tag ≢ dsig_tag)
+
+-- The new face has another `CFF ` table, copies of all other tables of the old one but its signature, and no others. So it has the
+-- characters, metrics and layout of the old one.
+pub record IsFlatFace (old new : FontFile) : Type 0 where
+  pub was : List ℕ
+  pub is : List ℕ
+  pub had : IsTableOf old cff_tag was
+  pub has : IsTableOf new cff_tag is
+  pub font : IsFlatFont was is
+  pub others : (tag : ℕ) (table : List ℕ) → Stays tag → IsTableOf old tag table → HasCopy new tag table
+  pub only : (i : ℕ) → i < tables_of new → (tag_of new i ≡ cff_tag) ⊎ (Stays (tag_of new i) × (HasNoTable old (tag_of new i) → ⊥))
+
+-- The old file has the face. The new file has one face, of version "OTTO", and it is such a face however it is read.
+pub record IsFlatOf (bytes : List ℕ) (number : ℕ) (file : List ℕ) : Type 0 where
+  pub old : FontFile
+  pub was : IsFaceOf bytes number old
+  pub opens : (count : ℕ) × Opens file count
+  pub is : (new : FontFile) → IsFaceOf file 0 new → IsFlatFace old new
+
+-- why no such file is written
+abbrev pub NoFlatOf : (bytes : List ℕ) → (number : ℕ) → Error → Type 0
+NoFlatOf bytes number (File e) = NoFace e bytes number
+NoFlatOf bytes number (MissingTable tag) = (tag ≡ cff_tag) × OfFile bytes number (λ old. HasNoTable old cff_tag)
+NoFlatOf bytes number (Font e) = OfFile bytes number (λ old. (cff : List ℕ) × IsTableOf old cff_tag cff × IsRefusedBy every cff e)
+NoFlatOf bytes number Memory = Unit {0}
+NoFlatOf bytes number Overlap = Unit {0}
+NoFlatOf bytes number TooLarge = Unit {0}
+NoFlatOf bytes number (SameTag tag) = Unit {0}
+NoFlatOf bytes number _ = ⊥

@@ -1,0 +1,11 @@
+pub mod Faces
+pub mod Choices
+pub mod Renumbered
+pub mod Measures
+pub mod Copies
+pub mod Refused
+pub mod Subsets
+pub mod Flats
+pub mod Others
+pub mod Made
+pub mod Listed

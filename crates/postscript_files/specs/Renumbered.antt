@@ -1,0 +1,34 @@
+-- The new numbers of glyphs. The origin of a new glyph is the old glyph that it is made of. Only private contracts use this file.
+use Rattle.std.specs.Prelude.{◌≡◌, ◌⊎◌, ℕ, ◌+◌, ◌<◌, ◌≤◌, List, length, map, slice_index_or}
+use Rattle.postscript_sfnt_write.specs.declared.mapping.Mapping.{Mapping}
+use Rattle.postscript_files.specs.declared.error.Error.{Error}
+use Rattle.postscript_files.specs.declared.error.Error.TheVariants.{Memory, TooLarge}
+
+-- a new glyph of this number has this origin
+pub record IsOrigin (origins : List ℕ) (i glyph : ℕ) : Type 0 where
+  pub there : i < length origins
+  pub is : slice_index_or origins i 0 ≡ glyph
+
+-- the number that is listed for an old glyph is that of a new glyph with this origin
+abbrev pub IsNumbered : (origins numbers : List ℕ) → (glyph : ℕ) → Type 0
+IsNumbered origins numbers glyph = IsOrigin origins (slice_index_or numbers glyph 0) glyph
+
+abbrev pub AreNumbersOf : (origins numbers : List ℕ) → Type 0
+AreNumbersOf origins numbers = (k : ℕ) → k < length origins → IsNumbered origins numbers (slice_index_or origins k 0)
+
+-- there are more glyphs than numbers of two bytes
+abbrev pub IsTooLarge : (origins : List ℕ) → Error → Type 0
+IsTooLarge origins Memory = Unit {0}
+IsTooLarge origins TooLarge = (65536 < length origins) ⊎ ((k : ℕ) × (k < length origins) × (65536 ≤ slice_index_or origins k 0))
+IsTooLarge origins _ = ⊥
+
+-- a character with the new number of its glyph
+abbrev pub renumber : (numbers : List ℕ) → Mapping → Mapping
+renumber numbers pair = record { char = pair.char; glyph = slice_index_or numbers pair.glyph 0 }
+
+abbrev pub AreRenumbered : List Mapping → (numbers : List ℕ) → List Mapping → Type 0
+AreRenumbered pairs numbers all = all ≡ map (renumber numbers) pairs
+
+-- all origins have numbers of two bytes
+abbrev pub AreSmall : (origins : List ℕ) → Type 0
+AreSmall origins = (k : ℕ) → k < length origins → slice_index_or origins k 0 < 65536

@@ -1,0 +1,9 @@
+//! Laws of subsets. The functions do nothing: their clauses are the laws.
+ghost use Rattle.postscript_files.specs.Made.{KeptAreTheSame};
+
+/// States that each glyph that `kept_glyphs` returns is drawn like the glyph at its index in the font that `subset`
+/// writes, and has the same name and advance width.
+pub fn kept_are_the_same()
+    // Glyph `i` of the new font is drawn and named as kept glyph `i`, and has its advance width.
+    ensures law { KeptAreTheSame }
+{}

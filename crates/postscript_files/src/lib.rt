@@ -1,0 +1,43 @@
+//! Writes whole OpenType files (ISO/IEC 14496-22): desubroutinized, or with only some characters and glyphs.
+//!
+//! [`Face::open`] opens a face with its `CFF ` table, its best character map and its advance widths. [`flat_file`] writes
+//! the face again without subroutines. [`subset_file`] writes only the characters, glyphs and tables of a [`Choice`].
+//!
+//! # What is proved
+//!
+//! Each call is safe and ends, on all bytes. A file that is written has one face, which opens.
+//!
+//! - `flat_file`: the `CFF ` table is one that `postscript_write::flat_font` writes, so each glyph is drawn as before and
+//!   keeps its name or CID. All other tables but `DSIG` are copied byte for byte, apart from `checkSumAdjustment` in
+//!   `head`. There are no other tables.
+//! - `subset_file`: the best map has a glyph for each kept character, and no glyph for other characters. This glyph is
+//!   drawn as the old one. It has the same name or CID, the same advance width and the same left side bearing. `CFF `,
+//!   `maxp`, `hhea` and `hmtx` have the same number of glyphs. Tables of the choice are copied byte for byte, apart from
+//!   `checkSumAdjustment`. There are no other tables.
+//! - Errors of `subset_file`: `MissingCharacter`, `Font`, `Cut` and `SameTag`, and the errors of `Face::open`, come only
+//!   if the old file or the choice has that fault. The same is true of `File`, `MissingTable` and `Font` of `flat_file`.
+//!
+//! # What is not proved
+//!
+//! - That there is enough memory.
+//! - That `TooLarge`, and `Overlap` and `SameTag` of `flat_file`, come only if the tables are too large, overlap or have
+//!   the same tag. These errors are tested.
+//! - That text is shaped as before: `GSUB`, `GPOS` and `kern` are not written unless the choice has them, and a copied
+//!   `GSUB` or `GPOS` has the old glyph numbers.
+#![tactic(auto)]
+
+mod choice;
+mod error;
+mod face;
+mod flat;
+pub mod laws;
+mod metrics;
+mod numbers;
+mod subset;
+mod tables;
+
+pub use choice::{Choice, Given};
+pub use error::{Error, Result};
+pub use face::Face;
+pub use flat::flat_file;
+pub use subset::subset_file;

@@ -1,0 +1,56 @@
+//! The new numbers of glyphs.
+ghost use Rattle.std.specs.Prelude.{◌≡◌, ℕ, ◌<◌, ◌≤◌, ◌^◌, length, slice_index_or, IfOk, IfErr, OnOk};
+ghost use Rattle.postscript_files.specs.Renumbered.{AreNumbersOf, AreRenumbered, AreSmall, IsTooLarge};
+ghost use Rattle.postscript_files.specs.declared.error.Error.TheVariants as errors;
+
+use crate::error::{Error, Result};
+use postscript_sfnt_write::Mapping;
+use std::alloc::Global;
+
+/// One more than the last glyph number.
+const GLYPHS: usize = 0x10000;
+
+/// Returns the new number of each old glyph that is in the new font.
+pub(crate) fn numbers_of(alloc: Global, origins: &[usize]) -> Result<Vec<u16>>
+    ensures numbers { IfOk result (λ numbers. AreNumbersOf origins.now numbers.items) }
+    ensures small { OnOk result (AreSmall origins.now) }
+    ensures few { OnOk result (length origins.now ≤ 65536) }
+    ensures refused { IfErr result (λ e. IsTooLarge origins.now e) }
+{
+    let mut numbers = vec![in alloc; 0u16; GLYPHS]?;
+    for i in 0..origins.len() {
+        let glyph = origins[i];
+        if glyph >= GLYPHS || i >= GLYPHS {
+            return Err(Error::TooLarge);
+        }
+        numbers[glyph] = i as u16;
+    }
+    Ok(numbers)
+}
+
+/// Returns the new number of a glyph.
+fn number_of(numbers: &[u16], glyph: u16) -> u16
+    ensures { result ≡ slice_index_or numbers.now glyph 0 }
+{
+    let glyph = usize::from(glyph);
+    if glyph < numbers.len() {
+        numbers[glyph]
+    } else {
+        0
+    }
+}
+
+/// Returns characters with the new numbers of their glyphs.
+pub(crate) fn renumbered(alloc: Global, pairs: &[Mapping], numbers: &[u16]) -> Result<Vec<Mapping>>
+    ensures renumbered { IfOk result (λ all. AreRenumbered pairs.now numbers.now all.items) }
+    ensures memory { IfErr result (λ e. e ≡ errors.Memory) }
+{
+    let mut all = Vec::new(alloc);
+    for pair in pairs {
+        all.push(Mapping {
+            char: pair.char,
+            glyph: number_of(numbers, pair.glyph),
+        })?;
+    }
+    Ok(all)
+}

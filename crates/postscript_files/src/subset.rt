@@ -1,0 +1,364 @@
+//! Files with only some glyphs of a face.
+ghost use Rattle.std.specs.Prelude.{◌≡◌, ℕ, ◌<◌, ◌≤◌, List, [], true, false, length, IfOk, IfErr, OnOk, ◌∷◌, ◌⊎◌};
+ghost use Rattle.std.specs.List.{range_with_len};
+ghost use Rattle.postscript_sfnt.specs.Lent.{HasNoTable, IsTableOf};
+ghost use Rattle.postscript_sfnt.specs.Metrics.{IsGlyphs, IsWord};
+ghost use Rattle.postscript_sfnt_write.specs.Metrics.{KeepsBut};
+ghost use Rattle.postscript_write.specs.Refusals.{IsChoiceRefusedBy, IsSubsetRefusedBy};
+ghost use Rattle.postscript_write.specs.Sources.{choice_by};
+ghost use Rattle.postscript_write.specs.declared.error.Error.{Error as Refusal};
+ghost use Rattle.postscript_files.specs.Listed.{Adds, AreCopiedTo, AreGivenTo, AreMade, CountsCopied, CountsGiven, IsFileOfParts, IsListed, IsUnmade, NoFileOfParts, Puts};
+ghost use Rattle.postscript_files.specs.Made.{AreBytes, AreOrigins, HasNoOrigins, IsHmtxOf, IsMade, IsMapOf, IsPostOf, IsSubsetFile, IsUnopened};
+ghost use Rattle.postscript_files.specs.Renumbered.{AreSmall};
+ghost use Rattle.postscript_files.specs.Subsets.{IsCopied, IsGivenTag, IsSubsetFont, IsSubsetOf, NoSubsetFrom, NoSubsetOf};
+ghost use Rattle.postscript_files.specs.declared.error.Error.TheVariants as errors;
+
+use crate::choice::{Choice, Given, kept_pairs, named, refuse_missing};
+use crate::error::{Error, Result};
+use crate::face::Face;
+use crate::metrics::metrics;
+use crate::numbers::{numbers_of, renumbered};
+use crate::tables::{file_with, table_of};
+use postscript_sfnt::FontFile;
+use postscript_sfnt_write::{
+    Mapping, Table, cmap, hmtx, with_number_of_glyphs, with_number_of_metrics, without_names,
+};
+use postscript_view::FontView;
+use postscript_write::{kept_glyphs, subset, subset_keeping};
+use std::alloc::Global;
+
+/// A `post` table without information.
+const NO_POST: [u8; 32] = [0; 32];
+
+/// Writes a font with only these glyphs, which keep their numbers.
+fn font_keeping(alloc: Global, cff: &[u8], named: &[usize]) -> Result<Vec<u8>>
+    ensures font { IfOk result (λ font. IsSubsetFont true named.now cff.now font.items) }
+    ensures refused { IfErr result (λ e. (fault : Refusal) × (e ≡ errors.Font fault) × IsSubsetRefusedBy named.now (choice_by true) cff.now fault) }
+{
+    match subset_keeping(alloc, cff, named) {
+        Ok(font) => Ok(font),
+        Err(error) => Err(Error::Font(error)),
+    }
+}
+
+/// Writes a font with only these glyphs, which get new numbers.
+fn font_anew(alloc: Global, cff: &[u8], named: &[usize]) -> Result<Vec<u8>>
+    ensures font { IfOk result (λ font. IsSubsetFont false named.now cff.now font.items) }
+    ensures refused { IfErr result (λ e. (fault : Refusal) × (e ≡ errors.Font fault) × IsSubsetRefusedBy named.now (choice_by false) cff.now fault) }
+{
+    match subset(alloc, cff, named) {
+        Ok(font) => Ok(font),
+        Err(error) => Err(Error::Font(error)),
+    }
+}
+
+/// Writes a font with only these glyphs. `retain_gids` is set if they keep their numbers.
+fn font_of(alloc: Global, cff: &[u8], named: &[usize], retain_gids: bool) -> Result<Vec<u8>>
+    ensures font { IfOk result (λ font. IsSubsetFont retain_gids named.now cff.now font.items) }
+    ensures refused { IfErr result (λ e. (fault : Refusal) × (e ≡ errors.Font fault) × IsSubsetRefusedBy named.now (choice_by retain_gids) cff.now fault) }
+{
+    if retain_gids {
+        font_keeping(alloc, cff, named)
+    } else {
+        font_anew(alloc, cff, named)
+    }
+}
+
+/// Returns all glyphs of a font, in their order.
+fn every(alloc: Global, cff: &[u8]) -> Result<Vec<usize>>
+    ensures all { IfOk result (λ origins. AreOrigins true [] cff.now origins.items) }
+    ensures refused { IfErr result (λ e. IsUnopened cff.now e) }
+{
+    match FontView::read(alloc, cff) {
+        Ok(font) => up_to(alloc, font.char_strings.len()),
+        Err(error) => Err(Error::Font(postscript_write::Error::Refused(error))),
+    }
+}
+
+/// Returns the numbers below a limit.
+fn up_to(alloc: Global, count: usize) -> Result<Vec<usize>>
+    ensures all { IfOk result (λ all. all.items ≡ range_with_len 0 count) }
+    ensures memory { IfErr result (λ e. e ≡ errors.Memory) }
+{
+    let mut all = Vec::new(alloc);
+    for glyph in 0..count {
+        all.push(glyph)?;
+    }
+    Ok(all)
+}
+
+/// Returns the origin of each new glyph: the old glyph that it is made of.
+fn origins_of(alloc: Global, cff: &[u8], named: &[usize], retain_gids: bool) -> Result<Vec<usize>>
+    ensures are { IfOk result (λ origins. AreOrigins retain_gids named.now cff.now origins.items) }
+    ensures refused { IfErr result (λ e. HasNoOrigins retain_gids named.now cff.now e) }
+{
+    if retain_gids {
+        every(alloc, cff)
+    } else {
+        kept(alloc, cff, named)
+    }
+}
+
+/// Returns the glyphs that are kept.
+fn kept(alloc: Global, cff: &[u8], named: &[usize]) -> Result<Vec<usize>>
+    ensures are { IfOk result (λ origins. AreOrigins false named.now cff.now origins.items) }
+    ensures refused { IfErr result (λ e. (fault : Refusal) × (e ≡ errors.Font fault) × IsChoiceRefusedBy named.now cff.now fault) }
+{
+    match kept_glyphs(alloc, cff, named) {
+        Ok(kept) => Ok(kept),
+        Err(error) => Err(Error::Font(error)),
+    }
+}
+
+/// The tables that are made, apart from `CFF `.
+#[derive(Drop)]
+struct Made {
+    cmap: Vec<u8>,
+    hhea: Vec<u8>,
+    hmtx: Vec<u8>,
+    maxp: Vec<u8>,
+    post: Vec<u8>,
+}
+
+/// States that the items of a slice of bytes are below 256. It does nothing.
+fn are_bytes(_bytes: &[u8])
+    ensures { AreBytes _bytes.now }
+{}
+
+/// Writes the `cmap` table of characters, with the new numbers of their glyphs.
+fn map_of(alloc: Global, pairs: &[Mapping], origins: &[usize]) -> Result<Vec<u8>>
+    ensures map { IfOk result (λ cmap. IsMapOf pairs.now origins.now cmap.items) }
+    ensures bytes { IfOk result (λ cmap. AreBytes cmap.items) }
+    ensures small { OnOk result (AreSmall origins.now) }
+    ensures refused { IfErr result (λ e. (e ≡ errors.Memory) ⊎ (e ≡ errors.TooLarge)) }
+{
+    let numbers = numbers_of(alloc, origins)?;
+    let all = renumbered(alloc, pairs, &numbers)?;
+    match cmap(alloc, &all) {
+        Ok(cmap) => {
+            are_bytes(cmap.as_slice());
+            Ok(cmap)
+        }
+        Err(postscript_sfnt_write::Error::TooLarge) => Err(Error::TooLarge),
+        // The characters are in ascending order.
+        Err(_) => Err(Error::Memory),
+    }
+}
+
+/// Writes the `hmtx` table, with the metrics of the origins.
+fn hmtx_of(alloc: Global, face: &Face<'_>, origins: &[usize]) -> Result<Vec<u8>>
+    requires room { 36 ≤ length face.now.hhea.now }
+    requires small { AreSmall origins.now }
+    ensures hmtx { IfOk result (λ hmtx. IsHmtxOf face.now origins.now hmtx.items) }
+    ensures memory { IfErr result (λ e. e ≡ errors.Memory) }
+{
+    let metrics = metrics(alloc, face.hhea, face.hmtx, &face.advances, origins)?;
+    Ok(hmtx(alloc, &metrics)?)
+}
+
+/// Writes the `hhea` table with this number of metrics.
+fn hhea_of(alloc: Global, hhea: &[u8], count: u16) -> Result<Vec<u8>>
+    requires { 36 ≤ length hhea.now }
+    ensures told { IfOk result (λ new. IsWord new.items 34 count) }
+    ensures kept { IfOk result (λ new. KeepsBut 34 hhea.now new.items) }
+    ensures memory { IfErr result (λ e. e ≡ errors.Memory) }
+{
+    match with_number_of_metrics(alloc, hhea, count) {
+        Ok(hhea) => Ok(hhea),
+        // The table has 36 bytes, so `Cut` is impossible.
+        Err(_) => Err(Error::Memory),
+    }
+}
+
+/// Writes the `maxp` table with this number of glyphs.
+fn maxp_of(alloc: Global, maxp: &[u8], count: u16) -> Result<Vec<u8>>
+    ensures told { IfOk result (λ new. IsGlyphs new.items count) }
+    ensures kept { IfOk result (λ new. KeepsBut 4 maxp.now new.items) }
+    ensures refused { IfErr result (λ e. (e ≡ errors.Memory) ⊎ ((e ≡ errors.Cut) × (length maxp.now < 6))) }
+{
+    match with_number_of_glyphs(alloc, maxp, count) {
+        Ok(maxp) => Ok(maxp),
+        Err(postscript_sfnt_write::Error::Cut) => Err(Error::Cut),
+        Err(_) => Err(Error::Memory),
+    }
+}
+
+/// Writes a `post` table without names. Its other values are those of the face, or 0.
+fn post_of(alloc: Global, file: &FontFile<'_>) -> Result<Vec<u8>>
+    ensures post { IfOk result (λ post. IsPostOf file.now post.items) }
+    ensures memory { IfErr result (λ e. e ≡ errors.Memory) }
+{
+    let post = match file.table(*b"post") {
+        Some(post) if post.len() >= 32 => post,
+        _ => &NO_POST,
+    };
+    match without_names(alloc, post) {
+        Ok(post) => Ok(post),
+        // The table has 32 bytes, so `Cut` is impossible.
+        Err(_) => Err(Error::Memory),
+    }
+}
+
+/// Makes the tables for characters and origins.
+fn made_of(alloc: Global, face: &Face<'_>, pairs: &[Mapping], origins: &[usize]) -> Result<Made>
+    requires { 36 ≤ length face.now.hhea.now }
+    ensures made { IfOk result (λ made. IsMade face.now pairs.now origins.now made) }
+    ensures refused { IfErr result (λ e. IsUnmade face.now e) }
+{
+    let cmap = map_of(alloc, pairs, origins)?;
+    let hmtx = hmtx_of(alloc, face, origins)?;
+    let Ok(count) = u16::try_from(origins.len()) else {
+        return Err(Error::TooLarge);
+    };
+    Ok(Made {
+        cmap,
+        hhea: hhea_of(alloc, face.hhea, count)?,
+        hmtx,
+        maxp: maxp_of(alloc, face.maxp, count)?,
+        post: post_of(alloc, &face.file)?,
+    })
+}
+
+/// Adds a table.
+fn put<'t>(tables: &mut Vec<Table<'t>>, tag: u32, bytes: &'t [u8]) -> Result<()>
+    ensures put { OnOk result (Puts tables.old.items tag bytes.now tables.new.items) }
+    ensures memory { IfErr result (λ e. e ≡ errors.Memory) }
+{
+    tables.push(Table { tag, bytes })?;
+    Ok(())
+}
+
+/// Adds the table with a tag, if a face has it.
+fn put_copy<'t>(tables: &mut Vec<Table<'t>>, file: &FontFile<'t>, tag: u32) -> Result<()>
+    ensures adds { OnOk result (Adds tables.old.items (λ t. (t ≡ tag) × (HasNoTable file.now t → ⊥)) tables.new.items) }
+    ensures there { OnOk result ((table : List ℕ) → IsTableOf file.now tag table → IsListed tables.new.items tag table) }
+    ensures counts { OnOk result (CountsCopied file.now (tag ∷ []) tables.old.items tables.new.items) }
+    ensures memory { IfErr result (λ e. e ≡ errors.Memory) }
+{
+    if let Some(bytes) = table_of(file, tag) {
+        put(tables, tag, bytes)?;
+    }
+    Ok(())
+}
+
+/// Adds the tables with these tags, as far as a face has them.
+fn put_copied<'t>(tables: &mut Vec<Table<'t>>, file: &FontFile<'t>, tags: &[u32]) -> Result<()>
+    ensures adds { OnOk result (Adds tables.old.items (IsCopied file.now tags.now) tables.new.items) }
+    ensures there { OnOk result (AreCopiedTo file.now tags.now (length tags.now) tables.new.items) }
+    ensures counts { OnOk result (CountsCopied file.now tags.now tables.old.items tables.new.items) }
+    ensures memory { IfErr result (λ e. e ≡ errors.Memory) }
+{
+    for tag in tags {
+        put_copy(tables, file, *tag)?;
+    }
+    Ok(())
+}
+
+/// Adds tables of the caller's own.
+fn put_given<'t>(tables: &mut Vec<Table<'t>>, given: &'t [Given]) -> Result<()>
+    ensures adds { OnOk result (Adds tables.old.items (IsGivenTag given.now) tables.new.items) }
+    ensures there { OnOk result (AreGivenTo given.now (length given.now) tables.new.items) }
+    ensures counts { OnOk result (CountsGiven given.now tables.old.items tables.new.items) }
+    ensures memory { IfErr result (λ e. e ≡ errors.Memory) }
+{
+    for table in given {
+        put(tables, table.tag, table.bytes.as_slice())?;
+    }
+    Ok(())
+}
+
+/// Returns the tables that are made.
+fn made_tables<'t>(alloc: Global, cff: &'t [u8], made: &'t Made) -> Result<Vec<Table<'t>>>
+    ensures made { IfOk result (λ tables. AreMade cff.now made.now tables.items) }
+    ensures memory { IfErr result (λ e. e ≡ errors.Memory) }
+{
+    let mut tables = Vec::new(alloc);
+    put(&mut tables, CFF, cff)?;
+    put(&mut tables, CMAP, made.cmap.as_slice())?;
+    put(&mut tables, HHEA, made.hhea.as_slice())?;
+    put(&mut tables, HMTX, made.hmtx.as_slice())?;
+    put(&mut tables, MAXP, made.maxp.as_slice())?;
+    put(&mut tables, POST, made.post.as_slice())?;
+    Ok(tables)
+}
+
+/// Writes the file of the tables that are made, given and copied.
+fn written(
+    alloc: Global,
+    face: &Face<'_>,
+    choice: &Choice<'_>,
+    cff: &[u8],
+    made: &Made,
+) -> Result<Vec<u8>>
+    ensures file { IfOk result (λ file. IsFileOfParts choice.now face.now.file cff.now made.now file.items) }
+    ensures refused { IfErr result (λ e. NoFileOfParts choice.now face.now.file e) }
+{
+    let mut tables = made_tables(alloc, cff, made)?;
+    put_given(&mut tables, choice.given)?;
+    put_copied(&mut tables, &face.file, choice.copied)?;
+    file_with(alloc, &tables)
+}
+
+/// The tags of the tables that are made.
+const CFF: u32 = 0x43464620;
+
+const CMAP: u32 = 0x636d6170;
+
+const HHEA: u32 = 0x68686561;
+
+const HMTX: u32 = 0x686d7478;
+
+const MAXP: u32 = 0x6d617870;
+
+const POST: u32 = 0x706f7374;
+
+/// Writes the subset of a face.
+fn subset_of(alloc: Global, face: &Face<'_>, choice: &Choice<'_>) -> Result<Vec<u8>>
+    requires { 36 ≤ length face.now.hhea.now }
+    ensures subset { IfOk result (λ file. IsSubsetFile choice.now face.now file.items) }
+    ensures refused { IfErr result (λ e. NoSubsetFrom choice.now face.now e) }
+{
+    let pairs = kept_pairs(alloc, &face.map, choice)?;
+    let named = named(alloc, choice.glyphs, &pairs)?;
+    let cff = font_of(alloc, face.cff, &named, choice.retain_gids)?;
+    let origins = origins_of(alloc, face.cff, &named, choice.retain_gids)?;
+    let made = made_of(alloc, face, &pairs, &origins)?;
+    written(alloc, face, choice, &cff, &made)
+}
+
+/// Writes a file with only some characters and glyphs of a face, desubroutinized.
+///
+/// A character is kept if it is in `choice.chars` or if its glyph is in `choice.glyphs`, and if the face has a glyph for it.
+/// The glyphs of the new file are `.notdef`, the glyphs of all kept characters, the glyphs in `choice.glyphs`, and the
+/// components of `seac` glyphs among them. Each is drawn, named and measured as before. The glyphs are in their old order.
+///
+/// The new file has the tables `CFF `, `cmap`, `hhea`, `hmtx`, `maxp` and `post` (without glyph names), copies of the tables
+/// in `choice.copied`, and the tables in `choice.given`. There are no other tables, and so no kerning and no ligatures
+/// unless they are given.
+///
+/// # Errors
+///
+/// - `File`, `MissingTable`, `NoMap`, `NoAdvances`: as for [`Face::open`].
+/// - `MissingCharacter`: the face has no glyph for a character, and `choice.lenient` is not set. The error has the first one.
+/// - `Font`: the `CFF ` table is malformed, or one of the kept glyphs is, or no glyph is kept.
+/// - `Cut`: the `maxp` table is truncated.
+/// - `SameTag`: two tables of the new file have this tag.
+/// - `TooLarge`: the new file would have 4,096 tables or more, or 2^32 bytes or more.
+/// - `Memory`: out of memory.
+pub fn subset_file(
+    alloc: Global,
+    file: &[u8],
+    number: usize,
+    choice: &Choice<'_>,
+) -> Result<Vec<u8>>
+    // The new file opens, and has exactly the kept characters, glyphs and tables.
+    ensures subset { IfOk result (λ new. IsSubsetOf choice.now file.now number new.items) }
+    // An error is justified by the file, the face, a missing character, the font, or a repeated tag.
+    ensures refused { IfErr result (λ e. NoSubsetOf choice.now file.now number e) }
+{
+    let face = Face::open(file, number)?;
+    if !choice.lenient {
+        refuse_missing(&face.map, choice.chars)?;
+    }
+    subset_of(alloc, &face, choice)
+}

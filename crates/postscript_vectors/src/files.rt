@@ -1,0 +1,239 @@
+//! Whole files written: desubroutinized, and with only some characters.
+use crate::checks::{bytes_of, holds, holds_at, is_text};
+use crate::writing::ACCENTED;
+use postscript_files::{Choice, Face, Given, flat_file, subset_file};
+use postscript_sfnt::{FontFile, glyphs};
+use postscript_sfnt_write::{Mapping, Table, cmap, file_of};
+use postscript_view::FontView;
+use std::alloc::Global;
+use std::process::Abort;
+
+/// Tags, as numbers of four bytes.
+const CFF: u32 = 0x43464620;
+
+const CMAP: u32 = 0x636d6170;
+
+const HHEA: u32 = 0x68686561;
+
+const HMTX: u32 = 0x686d7478;
+
+const MAXP: u32 = 0x6d617870;
+
+const NAME: u32 = 0x6e616d65;
+
+/// A, grave and Agrave.
+const CHARS: [(u32, u16); 3] = [(0x41, 1), (0x60, 2), (0xc0, 3)];
+
+/// The advances 500, 600, 300 and 610, and the bearings 0, 10, -20 and 30.
+const METRICS: &str = "01f40000 0258000a 012cffec 0262001e";
+
+/// Tables in the order of their tags, after `CFF ` and `cmap`. `hhea` and `maxp` end with the number of glyphs.
+const TABLES: [(u32, &str); 4] = [
+    (
+        HHEA,
+        "00010000 0000000000000000 0000000000000000 0000000000000000 000000000000 0004",
+    ),
+    (HMTX, METRICS),
+    (MAXP, "00005000 0004"),
+    (NAME, "0a0b0c0d0e"),
+];
+
+/// The tables of a font of four glyphs. The table with the tag `changed` has other bytes.
+fn tables_of<R: Abort>(rt: &R, alloc: Global, changed: u32, digits: &str) -> Vec<Given> {
+    let mut pairs = Vec::new(alloc);
+    for (char, glyph) in CHARS {
+        pairs.push(Mapping { char, glyph }).expect(rt, "memory");
+    }
+    let mut map = cmap(alloc, pairs.as_slice()).expect(rt, "a map");
+    if changed == CMAP {
+        map = bytes_of(rt, alloc, digits);
+    }
+    let mut tables = Vec::new(alloc);
+    let font = bytes_of(rt, alloc, ACCENTED);
+    tables
+        .push(Given {
+            tag: CFF,
+            bytes: font,
+        })
+        .expect(rt, "memory");
+    tables
+        .push(Given {
+            tag: CMAP,
+            bytes: map,
+        })
+        .expect(rt, "memory");
+    for (tag, text) in TABLES {
+        let bytes = bytes_of(rt, alloc, if tag == changed { digits } else { text });
+        tables.push(Given { tag, bytes }).expect(rt, "memory");
+    }
+    tables
+}
+
+/// A file of the font, without the table of a tag.
+fn file<R: Abort>(rt: &R, alloc: Global, changed: u32, digits: &str, without: u32) -> Vec<u8> {
+    let given = tables_of(rt, alloc, changed, digits);
+    let mut tables = Vec::new(alloc);
+    for table in &given {
+        if table.tag != without {
+            tables
+                .push(Table {
+                    tag: table.tag,
+                    bytes: table.bytes.as_slice(),
+                })
+                .expect(rt, "memory");
+        }
+    }
+    file_of(alloc, tables.as_slice()).expect(rt, "a file")
+}
+
+/// The choice of characters, with copies of tables.
+fn choice<'t>(chars: &'t [u32], retain_gids: bool, copied: &'t [u32]) -> Choice<'t> {
+    Choice {
+        chars,
+        glyphs: &[],
+        lenient: false,
+        retain_gids,
+        copied,
+        given: &[],
+    }
+}
+
+/// Characters, whether glyphs keep their numbers, and of the new file: the glyphs of A, grave and Agrave, the `hmtx`
+/// table, and the number of glyphs. By hand: Agrave has the components A and grave, and `.notdef` is always kept.
+const ROWS: &[(&[u32], bool, [u16; 3], &str, u16)] = &[
+    (&[0x60], false, [0, 1, 0], "01f40000 012cffec", 2),
+    (&[0x60], true, [0, 2, 0], METRICS, 4),
+    (&[0xc0, 0x41], false, [1, 0, 3], METRICS, 4),
+];
+
+#[test]
+fn files_of_some_characters(rt: HostRuntime) {
+    let alloc = rt.alloc();
+    let bytes = file(&rt, alloc, 0, "", 0);
+    for (row, (chars, retain_gids, numbers, metrics, count)) in ROWS.iter().enumerate() {
+        let asked = choice(chars, *retain_gids, &[NAME]);
+        let new = subset_file(alloc, bytes.as_slice(), 0, &asked).expect(&rt, "a file");
+        let face = Face::open(new.as_slice(), 0).expect(&rt, "a face");
+        for (k, (char, _)) in CHARS.iter().enumerate() {
+            let is = numbers.get(k) == Some(&face.map.glyph_of(*char));
+            holds_at(&rt, is, "character in row", row);
+        }
+        let wanted = bytes_of(&rt, alloc, metrics);
+        holds_at(&rt, face.hmtx == wanted.as_slice(), "hmtx in row", row);
+        holds_at(&rt, glyphs(face.maxp) == Some(*count), "maxp in row", row);
+        let font = FontView::read(alloc, face.cff).expect(&rt, "a font");
+        holds_at(
+            &rt,
+            font.char_strings.len() == usize::from(*count),
+            "glyphs in row",
+            row,
+        );
+        let name = face.file.table(*b"name").unwrap_or(&[]);
+        holds_at(
+            &rt,
+            name == [10, 11, 12, 13, 14].as_slice(),
+            "name in row",
+            row,
+        );
+        holds_at(&rt, face.file.tables() == 7, "tables in row", row);
+    }
+}
+
+#[test]
+fn a_file_without_subroutines(rt: HostRuntime) {
+    let alloc = rt.alloc();
+    let bytes = file(&rt, alloc, 0, "", 0);
+    let new = flat_file(alloc, bytes.as_slice(), 0).expect(&rt, "a file");
+    let face = Face::open(new.as_slice(), 0).expect(&rt, "a face");
+    holds(&rt, face.file.tables() == 6, "six tables");
+    let wanted = bytes_of(&rt, alloc, METRICS);
+    holds(&rt, face.hmtx == wanted.as_slice(), "the metrics");
+    let font = FontView::read(alloc, face.cff).expect(&rt, "a font");
+    holds(&rt, font.char_strings.len() == 4, "four glyphs");
+}
+
+/// Why there is no subset: the text of the error.
+fn refusal<R: Abort>(rt: &R, alloc: Global, bytes: &[u8], choice: &Choice<'_>) -> String {
+    match subset_file(alloc, bytes, 0, choice) {
+        Ok(_) => String::new(alloc),
+        Err(e) => e.to_string(alloc).expect(rt, "memory"),
+    }
+}
+
+/// Tables with other bytes, tables that are left out, and the error.
+const REFUSED: &[(u32, &str, u32, &str)] = &[
+    (0, "", CFF, "a required table is missing"),
+    (
+        CMAP,
+        "0000 0000",
+        0,
+        "the cmap table has no supported subtable",
+    ),
+    (
+        HHEA,
+        "0001",
+        0,
+        "the hhea and hmtx tables have no advance widths",
+    ),
+    (MAXP, "00005000", 0, "the maxp table is truncated"),
+];
+
+#[test]
+fn files_that_are_not_written(rt: HostRuntime) {
+    let alloc = rt.alloc();
+    let asked = choice(&[0x60], false, &[]);
+    for (changed, digits, without, wanted) in REFUSED {
+        let bytes = file(&rt, alloc, *changed, digits, *without);
+        let found = refusal(&rt, alloc, bytes.as_slice(), &asked);
+        is_text(&rt, found.as_str(), wanted, digits);
+    }
+    let bytes = file(&rt, alloc, 0, "", 0);
+    let found = refusal(&rt, alloc, &bytes.as_slice()[..3], &asked);
+    is_text(&rt, found.as_str(), "the file ends early", "a cut file");
+}
+
+/// Characters, tables to copy, and the error.
+const UNFIT: &[(&[u32], &[u32], &str)] = &[
+    (&[], &[], "the list of glyphs is empty"),
+    (
+        &[0x41, 0x42],
+        &[],
+        "the font has no glyph for the character 66",
+    ),
+    (&[0x41], &[NAME, NAME], "two tables have the same tag"),
+    (&[0x41], &[MAXP], "two tables have the same tag"),
+];
+
+#[test]
+fn choices_that_do_not_fit(rt: HostRuntime) {
+    let alloc = rt.alloc();
+    let bytes = file(&rt, alloc, 0, "", 0);
+    for (chars, copied, wanted) in UNFIT {
+        let found = refusal(&rt, alloc, bytes.as_slice(), &choice(chars, false, copied));
+        is_text(&rt, found.as_str(), wanted, "a choice");
+    }
+}
+
+/// Two records of the directory that name the whole file.
+#[test]
+fn tables_that_overlap(rt: HostRuntime) {
+    let alloc = rt.alloc();
+    let mut bytes = file(&rt, alloc, 0, "", 0);
+    let size = bytes.len();
+    for place in [38usize, 54] {
+        for (k, byte) in [0, 0, 0, 0, (size / 256) as u8, (size % 256) as u8]
+            .iter()
+            .enumerate()
+        {
+            if let Some(at) = bytes.get_mut(place + k) {
+                *at = *byte;
+            }
+        }
+    }
+    let refused = flat_file(alloc, bytes.as_slice(), 0);
+    holds(
+        &rt,
+        matches!(refused, Err(postscript_files::Error::Overlap)),
+        "overlap",
+    );
+}
