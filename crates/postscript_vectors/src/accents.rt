@@ -25,11 +25,11 @@ const ROWS: [&str; 13] = [
     // Its own width and contour.
     "M5 0L13 8ZM10 20L110 20L110 70ZM201 302C204 306 209 312 216 320Z width 9",
     // The base is a `seac` glyph itself.
-    "the glyph of the code 67 is accented itself",
+    "the glyph for code 67 is itself a seac glyph",
     // No glyph is called `B`.
-    "there is no glyph of the code 66",
+    "no glyph has the name of code 66 in the standard encoding",
     // 65.5 is no code.
-    "an accented glyph names no codes",
+    "the base and the accent of a seac glyph are not character codes",
     // The accent is moved out of the range.
     "found an overflow",
     // The operands are in a subroutine, with a width beneath them.
@@ -37,7 +37,7 @@ const ROWS: [&str; 13] = [
     // Three operands name nothing, and the one on top is the width.
     " width 3",
     // The accent is missing.
-    "there is no glyph of the code 66",
+    "no glyph has the name of code 66 in the standard encoding",
     // No `endchar` ends it: `neg` has its byte at the end.
     "M5 0L13 8Z",
 ];

@@ -1,6 +1,6 @@
 -- The glyphs that are told are those that are written.
 use Rattle.std.proofs.Common.{◌≡◌, refl, sym, ap, subst, ◌∙◌, ℕ, List, [], ◌∷◌, ◌++◌, length, Bool, true, false}
-use Rattle.std.specs.Prelude.{IfOk, Result, Ok, Err, Some, Vec, map, if◌then◌else◌}
+use Rattle.std.specs.Prelude.{◌<◌, IfOk, Result, Ok, Err, Some, None, Vec, map, if◌then◌else◌}
 use Rattle.std.specs.declared.alloc.Global.{Global}
 use Rattle.postscript_drawing.specs.Components.{glyphs_of}
 use Rattle.postscript_view.specs.Value.{view_shown}
@@ -8,13 +8,14 @@ use Rattle.postscript_view.specs.declared.font.FontView.{FontView}
 use Rattle.postscript_write.specs.Components.{AreClosed, AreKept, IsOpened, IsReached, IsSubset, is_named, is_drawn_with}
 use Rattle.postscript_write.specs.Drawings.{AreLike, AreLikeKept, DrawsKept, DrawsTheSame, IsSourceAt, Likeness}
 use Rattle.postscript_write.specs.Glyphs.{Sources}
-use Rattle.postscript_write.specs.Kept.{HasAllKept, KeptAreWritten}
+use Rattle.postscript_write.specs.Kept.{AreInPlace, HasAllInPlace, HasAllKept, KeptAreWritten}
 use Rattle.postscript_write.specs.Making.{IsCutFont}
 use Rattle.postscript_write.specs.SameGlyphs.{GlyphsKept, IsSameGlyph}
-use Rattle.postscript_write.specs.Sources.{chosen, is_kept, kept_of}
+use Rattle.postscript_write.specs.Sources.{chosen, is_kept, keeping, kept_of}
 use Rattle.postscript_write.specs.declared.error.Error.{Error}
 use Rattle.postscript_write.proofs.Drawings.{component-moved, many-of}
 use Rattle.postscript_write.proofs.Marks.{kept_more}
+use Rattle.postscript_write.proofs.Places.{chosen-rises, keeping-at, keeping-many}
 use Rattle.std.proofs.Common.{add-one, zero, suc}
 
 reached-moved : (bytes named : List ℕ) (a b : FontView) → IsOpened bytes a → IsOpened bytes b → (glyph : ℕ) → IsReached a named glyph →
@@ -74,3 +75,28 @@ has-kept (Ok flat) named bytes written drawn same = λ kept k. record {
   same = kept-alike IsSameGlyph named bytes flat.items kept k same;
 }
 has-kept (Err e) named bytes written drawn same = tt
+
+-- glyphs that keep their numbers
+kept-in-place : (IsLike : Likeness) (named bytes flat kept : List ℕ) → AreKept named bytes kept → AreLikeKept IsLike keeping named bytes flat →
+    AreInPlace IsLike bytes flat kept
+kept-in-place IsLike named bytes flat kept k s old new i glyph was is source =
+    let n : ℕ = glyphs_of old in
+    let many : glyphs_of k.are.font ≡ n = many-of bytes k.are.font (view_shown old) k.are.opened was.laid in
+    let listed : IsSourceAt (chosen k.closed n) i glyph =
+    subst (λ (xs : List ℕ). IsSourceAt (map Some xs) i glyph) (k.all ∙ ap (kept_of k.closed) many) source in
+    let rises = chosen-rises k.closed n in
+    let less = rises.below i glyph listed in
+    let own : is_kept s.0 glyph ≡ true = sym (one-closed bytes named k.closed s.0 k.are s.1 glyph) ∙ rises.own i glyph listed in
+    s.2 old new glyph glyph was is
+    (record {
+      there = subst (λ m. glyph < m) (sym (keeping-many s.0 n)) less;
+      is = keeping-at s.0 n glyph less ∙ ap (λ b. if b then Some glyph else None) own;
+    })
+
+pub has-in-place : (r : Result (Vec ℕ Global) Error) (named bytes : List ℕ) → IfOk r (λ flat. DrawsKept keeping named bytes flat.items) →
+    IfOk r (λ flat. GlyphsKept keeping named bytes flat.items) → IfOk r (λ flat. HasAllInPlace named bytes flat.items)
+has-in-place (Ok flat) named bytes drawn same = λ kept k. record {
+  drawn = kept-in-place DrawsTheSame named bytes flat.items kept k drawn;
+  same = kept-in-place IsSameGlyph named bytes flat.items kept k same;
+}
+has-in-place (Err e) named bytes drawn same = tt

@@ -1,9 +1,10 @@
 -- The glyphs of `kept_glyphs` are the glyphs of a subset.
 use Rattle.std.specs.Prelude.{List, ℕ, Some, map}
-use Rattle.postscript_write.specs.Components.{AreKept, IsSubset}
-use Rattle.postscript_write.specs.Drawings.{KeepsDrawings}
+use Rattle.postscript_view.specs.declared.font.FontView.{FontView}
+use Rattle.postscript_write.specs.Components.{AreKept, IsOpened, IsSubset}
+use Rattle.postscript_write.specs.Drawings.{DrawsTheSame, IsSourceAt, KeepsDrawings, Likeness}
 use Rattle.postscript_write.specs.Making.{IsCutFont}
-use Rattle.postscript_write.specs.SameGlyphs.{KeepsGlyphs}
+use Rattle.postscript_write.specs.SameGlyphs.{IsSameGlyph, KeepsGlyphs}
 use Rattle.postscript_write.specs.Sources.{IsWritten, chosen}
 
 -- a subset is made of the listed glyphs, in this order
@@ -21,3 +22,15 @@ pub record HasKept (bytes flat kept : List ℕ) : Type 0 where
 -- this holds for each list of the kept glyphs
 abbrev pub HasAllKept : (named bytes flat : List ℕ) → Type 0
 HasAllKept named bytes flat = (kept : List ℕ) → AreKept named bytes kept → HasKept bytes flat kept
+
+-- Each glyph in the list has its number in the new font, and is related to the old glyph, however the two fonts are opened.
+abbrev pub AreInPlace : Likeness → (bytes flat kept : List ℕ) → Type 0
+AreInPlace IsLike bytes flat kept = (old new : FontView) (i glyph : ℕ) → IsOpened bytes old → IsOpened flat new →
+    IsSourceAt (map Some kept) i glyph → IsLike old new glyph glyph
+
+pub record HasKeptInPlace (bytes flat kept : List ℕ) : Type 0 where
+  pub drawn : AreInPlace DrawsTheSame bytes flat kept
+  pub same : AreInPlace IsSameGlyph bytes flat kept
+
+abbrev pub HasAllInPlace : (named bytes flat : List ℕ) → Type 0
+HasAllInPlace named bytes flat = (kept : List ℕ) → AreKept named bytes kept → HasKeptInPlace bytes flat kept

@@ -8,7 +8,7 @@ ghost use Rattle.postscript_view.specs.Contents.{View};
 ghost use Rattle.postscript_view.specs.Value.{view_shown};
 ghost use Rattle.postscript_write.specs.Components.{AreKept, IsSubset};
 ghost use Rattle.postscript_write.specs.Drawings.{DrawsKept, KeepsDrawings};
-ghost use Rattle.postscript_write.specs.Kept.{HasAllKept};
+ghost use Rattle.postscript_write.specs.Kept.{HasAllInPlace, HasAllKept};
 ghost use Rattle.postscript_write.specs.Making.{IsCutFont, IsFontBy, IsKeptFont};
 ghost use Rattle.postscript_write.specs.Once.{BeginsWithRos, TellsOnce};
 ghost use Rattle.postscript_write.specs.Readings.{HasLenientFont};
@@ -221,6 +221,8 @@ pub fn subset_keeping(alloc: Global, bytes: &[u8], named: &[usize]) -> Result<Ve
     ensures same { IfOk result (λ flat. GlyphsKept the_keeping named.now bytes.now flat.items) }
     // The new font is well formed and has all glyph numbers: kept glyphs, and empty ones.
     ensures written { IfOk result (λ flat. IsSubset IsKeptFont the_keeping named.now bytes.now flat.items) }
+    // Each glyph in the list of `kept_glyphs` is the same as before, with its old number.
+    ensures kept { IfOk result (λ flat. HasAllInPlace named.now bytes.now flat.items) }
     // No bytes are outside the parts of the font, and a Private DICT has no operator twice.
     ensures whole { IfOk result (λ flat. IsWholeFont flat.items) }
     // No operator occurs twice in the Top DICT or in a Font DICT.
