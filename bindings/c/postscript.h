@@ -21,8 +21,8 @@
  * Time and memory: a call with a psf_font runs a glyph, with the components of a seac glyph, for at most font->limit units. An
  * operator with the numbers before it costs one unit per byte, a roll 4,096 more, a sqrt 8 more. psf_font_open sets the limit
  * to PSF_LIMIT; you may change it. Memory grows with the result, the numbers on the stack and the DICTs, so it grows with
- * the limit. psf_font_flat, psf_font_subset, psf_file_flat and psf_file_subset take a limit for the whole font. docs/limits.md lists what else takes time, and
- * what was measured.
+ * the limit. The calls that write a font take a limit for the whole font. docs/limits.md lists what else takes time, and what was
+ * measured.
  *
  * The library is built for 64-bit machines only.
  *
