@@ -1,6 +1,6 @@
 -- Files of tables that were sorted.
-use Rattle.std.proofs.Common.{◌≡◌, ◌≢◌, refl, sym, ap, ◌∙◌, subst, inl, inr, ℕ, ◌+◌, ◌*◌, ◌^◌, ◌<◌, ◌≤◌, List, [], ◌∷◌, ◌++◌, Bool, true, false, length, take, drop, get_or, arith, length-append, append_assoc}
-use Rattle.std.specs.Prelude.{◌⊎◌, ◌==◌, ◌&&◌, nat_lt, Result, Ok, Err, IfOk, IfErr, Vec}
+use Rattle.std.proofs.Common.{◌≡◌, ◌≢◌, refl, sym, ap, ◌∙◌, subst, inl, inr, ℕ, ◌+◌, ◌^◌, ◌<◌, ◌≤◌, List, [], ◌∷◌, ◌++◌, Bool, true, false, length, take, drop, get_or, arith, length-append, append_assoc}
+use Rattle.std.specs.Prelude.{◌==◌, ◌&&◌, nat_lt, Result, Ok, Err, IfOk, IfErr, Vec}
 use Rattle.std.specs.declared.alloc.Global.{Global}
 use Rattle.std.specs.List.{Contains, sum_by}
 use Rattle.std.specs.List.Sorted.{IsNonDecreasingBy, IsPermutation}
@@ -12,7 +12,6 @@ use Rattle.std.proofs.lemmas.List.Sums.{sum_by-cons}
 use Rattle.std.proofs.lemmas.Option.{get_or_from_slice_get, slice_get-get_or, slice_get_read, slice_get_within}
 use Rattle.std.specs.Int.{to_be_bytes, w32}
 use Rattle.postscript_base.specs.Numbers.{big_endian}
-use Rattle.postscript_sfnt.specs.Lent.{IsFaceOf, IsTableOf, tables_of, tag_of}
 use Rattle.postscript_sfnt.specs.declared.file.FontFile.{FontFile}
 use Rattle.postscript_sfnt_write.specs.Files.{AreLent, HasTables, Opens}
 use Rattle.postscript_sfnt_write.specs.Numbers.{uint32}
@@ -20,7 +19,7 @@ use Rattle.postscript_sfnt_write.specs.Tables.{IsGiven, TagsRise, adjusts, in_fi
 use Rattle.postscript_sfnt_write.specs.declared.file.Table.{Table}
 use Rattle.postscript_sfnt_write.proofs.Placing.{length-in_file}
 use Rattle.postscript_sfnt_write.proofs.Sums.{adjusts-long, length-uint32, value-uint32, with_none, with_number}
-use Rattle.postscript_files.specs.Copies.{HasAll, HasCopy, IsCopy, IsFileOf, NoFileOf, NoNeighbours}
+use Rattle.postscript_files.specs.Copies.{HasAll, IsCopy, IsFileOf, NoFileOf, NoNeighbours}
 use Rattle.postscript_files.specs.Refused.{IsTooMuch}
 use Rattle.postscript_files.specs.declared.error.Error.{Error}
 use Rattle.postscript_files.specs.declared.error.Error.TheVariants.{Cut, File, Font, Memory, MissingCharacter, MissingTable, NoAdvances, NoMap, Overlap, SameTag, TooLarge}

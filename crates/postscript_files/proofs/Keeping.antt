@@ -1,16 +1,16 @@
 -- The characters that are kept, of all that a map has.
 use Rattle.std.proofs.Common.{◌≡◌, refl, sym, ap, subst, ◌∙◌, inl, inr, ℕ, zero, suc, ◌+◌, ◌<◌, ◌≤◌, List, [], ◌∷◌, ◌++◌, length, drop, get_or, append_assoc, append-nil, arith, Bool, true, false}
-use Rattle.std.specs.Prelude.{◌⊎◌, ◌||◌, Some, slice_get, Result, Ok, Err, IfOk, OnOk, Vec}
-use Rattle.std.specs.List.{All, Contains}
+use Rattle.std.specs.Prelude.{◌⊎◌, ◌||◌, Result, Ok, Err, IfOk, OnOk, Vec}
+use Rattle.std.specs.List.{All}
 use Rattle.std.proofs.lemmas.List.Elements.{All-head, All-tail}
 use Rattle.std.specs.declared.alloc.Global.{Global}
 use Rattle.std.proofs.lemmas.Bool.{cases_eq, cases_lt}
 use Rattle.std.proofs.lemmas.List.{at_drop_all, at_drop_more, get_or_default}
-use Rattle.postscript_sfnt.specs.Maps.{AreAll, IsNext, LacksAll, Maps}
+use Rattle.postscript_sfnt.specs.Maps.{AreAll, IsNext, Maps}
 use Rattle.postscript_sfnt.specs.declared.character_map.CharacterMap.{CharacterMap}
 use Rattle.postscript_sfnt_write.specs.Mappings.{CharsRise, IsMapping}
 use Rattle.postscript_sfnt_write.specs.declared.mapping.Mapping.{Mapping}
-use Rattle.postscript_files.specs.Choices.{AreKeptPairs, AreMarks, HasGlyph, IsKept, filtered, keeps, kept_if}
+use Rattle.postscript_files.specs.Choices.{AreKeptPairs, AreMarks, HasGlyph, filtered, keeps, kept_if}
 use Rattle.postscript_files.specs.declared.choice.Choice.{Choice}
 use Rattle.postscript_files.specs.declared.error.Error.{Error}
 use Rattle.postscript_files.proofs.OneGlyph.{one-glyph}

@@ -1,21 +1,17 @@
 -- Tables that are put into a list.
-use Rattle.std.proofs.Common.{◌≡◌, ◌≢◌, refl, sym, ap, ◌∙◌, subst, inl, inr, ℕ, ◌+◌, ◌<◌, ◌≤◌, List, [], ◌∷◌, ◌++◌, length, get_or, arith}
-use Rattle.std.specs.Prelude.{◌⊎◌, Some, slice_get, Result, Ok, Err, IfOk, Vec}
-use Rattle.std.specs.List.{Contains}
+use Rattle.std.proofs.Common.{◌≡◌, ◌≢◌, refl, sym, ap, ◌∙◌, subst, inl, inr, ℕ, ◌+◌, List, [], ◌∷◌, ◌++◌, length, get_or, arith}
+use Rattle.std.specs.Prelude.{Some, slice_get, Result, Ok, Err, IfOk, Vec}
 use Rattle.std.specs.declared.alloc.Global.{Global}
 use Rattle.std.proofs.lemmas.Bool.{cases_eq}
 use Rattle.std.proofs.lemmas.List.{get_or_default}
-use Rattle.std.proofs.lemmas.List.Elements.{Contains-get_or}
-use Rattle.std.proofs.lemmas.Option.{get_or_from_slice_get, slice_get-get_or, slice_get_within}
-use Rattle.postscript_sfnt.specs.Lent.{HasNoTable, IsFaceOf, IsTableOf, tables_of, tag_of}
+use Rattle.std.proofs.lemmas.Option.{slice_get_within}
+use Rattle.postscript_sfnt.specs.Lent.{HasNoTable, IsTableOf, tag_of}
 use Rattle.postscript_sfnt.specs.declared.file.FontFile.{FontFile}
-use Rattle.postscript_sfnt_write.specs.Tables.{IsGiven}
 use Rattle.postscript_sfnt_write.specs.declared.file.Table.{Table}
-use Rattle.postscript_files.specs.Copies.{HasAll, HasCopy, IsCopy, IsFileOf}
-use Rattle.postscript_files.specs.Faces.{IsNeeded, cff_tag, cmap_tag, hhea_tag, hmtx_tag, maxp_tag, post_tag}
+use Rattle.postscript_files.specs.Copies.{HasAll, HasCopy, IsFileOf}
+use Rattle.postscript_files.specs.Faces.{cff_tag, cmap_tag, hhea_tag, hmtx_tag, maxp_tag, post_tag}
 use Rattle.postscript_files.specs.Listed.{Adds, AreCopiedTo, AreGivenTo, AreMade, HasParts, IsFileOfParts, IsListed, Puts, tagged}
-use Rattle.postscript_files.specs.Others.{Has}
-use Rattle.postscript_files.specs.Subsets.{IsCopied, IsExpected, IsGivenTag}
+use Rattle.postscript_files.specs.Subsets.{IsCopied, IsGivenTag}
 use Rattle.postscript_files.specs.declared.choice.Choice.{Choice}
 use Rattle.postscript_files.specs.declared.choice.Given.{Given}
 use Rattle.postscript_files.specs.declared.error.Error.{Error}

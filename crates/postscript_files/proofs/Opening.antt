@@ -1,14 +1,11 @@
 -- The reason why a face is not opened.
-use Rattle.std.proofs.Common.{◌≡◌, sym, subst, inl, inr, ℕ, List}
-use Rattle.std.specs.Prelude.{Result, Ok, Err, IfErr}
-use Rattle.std.specs.Result.{IsErrAnd}
+use Rattle.std.proofs.Common.{◌≡◌, sym, subst, ℕ, List}
 use Rattle.postscript_sfnt.specs.Lent.{HasNoTable, IsFaceOf, IsTableOf}
 use Rattle.postscript_sfnt.specs.Metrics.{HasAdvances}
 use Rattle.postscript_sfnt.specs.declared.file.FontFile.{FontFile}
 use Rattle.postscript_files.specs.Faces.{HasNoMap, IsNeeded, NoFaceIn, cmap_tag, hhea_tag, hmtx_tag}
 use Rattle.postscript_files.specs.declared.error.Error.{Error}
 use Rattle.postscript_files.specs.declared.error.Error.TheVariants.{MissingTable, NoAdvances, NoMap}
-use Rattle.postscript_files.specs.declared.face.Face.{Face}
 
 pub missing-so : (bytes : List ℕ) (number : ℕ) (file : FontFile) (tag : ℕ) (e : Error) → IsFaceOf bytes number file → IsNeeded tag →
     (e ≡ MissingTable tag) × HasNoTable file tag → NoFaceIn e bytes number

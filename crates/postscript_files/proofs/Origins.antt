@@ -1,18 +1,15 @@
 -- The glyph of the old font that each new one is made of.
-use Rattle.std.proofs.Common.{◌≡◌, ◌≢◌, refl, sym, ap, ◌∙◌, subst, inl, inr, ℕ, zero, suc, ◌+◌, ◌<◌, ◌≤◌, List, [], ◌∷◌, ◌++◌, Bool, true, false, length, get_or, arith, add-one, zero-add}
-use Rattle.std.specs.Prelude.{◌⊎◌, ◌==◌, ◌||◌, Some, None, if◌then◌else◌, slice_get, Result, Ok, Err, IfOk, Vec}
+use Rattle.std.proofs.Common.{◌≡◌, refl, sym, ap, ◌∙◌, subst, inl, inr, ℕ, zero, suc, ◌<◌, List, [], ◌∷◌, Bool, true, false, length, get_or, arith, add-one, zero-add}
+use Rattle.std.specs.Prelude.{◌==◌, Some, None, if◌then◌else◌}
 use Rattle.std.specs.List.{Contains, filter, range_with_len}
-use Rattle.std.specs.declared.alloc.Global.{Global}
 use Rattle.std.proofs.lemmas.Bool.{cases_eq, eq-eqb}
-use Rattle.std.proofs.lemmas.List.{get_or_default, length-map}
+use Rattle.std.proofs.lemmas.List.{get_or_default}
 use Rattle.std.proofs.lemmas.List.Elements.{Contains-append_left, Contains-append_right}
 use Rattle.std.proofs.lemmas.List.FromFn.{get_or-range_with_len, length-range_with_len}
 use Rattle.postscript_drawing.specs.Components.{glyphs_of}
-use Rattle.postscript_view.specs.Contents.{View}
-use Rattle.postscript_view.specs.Layout.{IsLaidOut}
 use Rattle.postscript_view.specs.Value.{view_shown}
 use Rattle.postscript_view.specs.declared.font.FontView.{FontView}
-use Rattle.postscript_write.specs.Components.{AreKept, IsOpened, is_named}
+use Rattle.postscript_write.specs.Components.{IsOpened, is_named}
 use Rattle.postscript_write.specs.Drawings.{AreLikeKept, IsSourceAt, Likeness}
 use Rattle.postscript_write.specs.Sources.{AreThere, choice_by, is_kept, keeping, kept_of}
 use Rattle.postscript_write.proofs.Drawings.{many-of}

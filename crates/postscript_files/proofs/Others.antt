@@ -1,15 +1,15 @@
 -- Tables of a face that are copied.
-use Rattle.std.proofs.Common.{◌≡◌, ◌≢◌, refl, sym, ap, ◌∙◌, subst, inl, inr, ℕ, zero, suc, ◌+◌, ◌<◌, ◌≤◌, List, [], ◌∷◌, ◌++◌, length, get_or, arith, length-append}
-use Rattle.std.specs.Prelude.{◌⊎◌, Some, Result, Ok, Err, IfOk, IfErr, Vec}
+use Rattle.std.proofs.Common.{◌≡◌, ◌≢◌, refl, sym, ap, ◌∙◌, subst, inl, inr, ℕ, zero, suc, ◌+◌, List, [], ◌∷◌, ◌++◌, length, get_or, arith, length-append}
+use Rattle.std.specs.Prelude.{◌⊎◌, Result, Ok, Err, IfOk, IfErr, Vec}
 use Rattle.std.specs.declared.alloc.Global.{Global}
 use Rattle.std.proofs.lemmas.Bool.{cases_eq, cases_lt}
-use Rattle.std.proofs.lemmas.Option.{get_or_from_slice_get, slice_get-get_or, slice_get_within}
-use Rattle.postscript_sfnt.specs.Directory.{IsFirstOf, IsTable}
+use Rattle.std.proofs.lemmas.Option.{slice_get-get_or, slice_get_within}
+use Rattle.postscript_sfnt.specs.Directory.{IsFirstOf}
 use Rattle.postscript_sfnt.specs.Lent.{HasNoTable, IsFaceOf, IsTableOf, tables_of, tag_of}
 use Rattle.postscript_sfnt.specs.declared.file.FontFile.{FontFile}
 use Rattle.postscript_sfnt_write.specs.Tables.{IsGiven}
 use Rattle.postscript_sfnt_write.specs.declared.file.Table.{Table}
-use Rattle.postscript_files.specs.Copies.{HasAll, HasCopy, IsCopy, IsFileOf, NoFileOf}
+use Rattle.postscript_files.specs.Copies.{HasAll, HasCopy, IsFileOf, NoFileOf}
 use Rattle.postscript_files.specs.Faces.{cff_tag}
 use Rattle.postscript_files.specs.Flats.{IsFlatFont, IsFlatOf, NoFlatOf, Stays, dsig_tag}
 use Rattle.postscript_files.specs.Others.{AreListedTo, AreOthers, Has, HasOthers, IsFileWith, IsUnwritten}

@@ -1,6 +1,6 @@
 -- Why no subset of a font is written.
-use Rattle.std.proofs.Common.{◌≡◌, ◌≢◌, refl, sym, ap, ◌∙◌, subst, inl, inr, ℕ, List, Bool, true, false}
-use Rattle.std.specs.Prelude.{◌⊎◌, Result, Ok, Err, IfErr, Vec}
+use Rattle.std.proofs.Common.{◌≡◌, inl, inr, ℕ, List, Bool}
+use Rattle.std.specs.Prelude.{Result, Ok, Err, IfErr, Vec}
 use Rattle.std.specs.declared.alloc.Global.{Global}
 use Rattle.postscript_write.specs.Refusals.{IsChoiceRefusedBy, IsSubsetRefusedBy}
 use Rattle.postscript_write.specs.Sources.{choice_by}

@@ -1,9 +1,8 @@
 -- The glyphs of a subset, and those that they are made of.
-use Rattle.std.proofs.Common.{◌≡◌, refl, sym, ap, subst, ◌∙◌, ℕ, ◌+◌, ◌<◌, List, [], ◌∷◌, ◌++◌, length, get_or, Bool, true, false, arith, add-one, zero, suc}
-use Rattle.std.specs.Prelude.{◌||◌, ◌==◌, Option, Some, None, map, if◌then◌else◌, Result, Ok, Err, IfOk, Vec}
+use Rattle.std.proofs.Common.{◌≡◌, refl, sym, ap, subst, ◌∙◌, ℕ, ◌+◌, List, [], ◌∷◌, ◌++◌, Bool, true, false, arith, add-one, zero, suc}
+use Rattle.std.specs.Prelude.{Some, None, map, if◌then◌else◌, Result, Ok, Err, IfOk, Vec}
 use Rattle.std.specs.declared.alloc.Global.{Global}
-use Rattle.std.specs.List.{Contains, range_with_len}
-use Rattle.std.proofs.lemmas.Bool.{eq-eqb}
+use Rattle.std.specs.List.{range_with_len}
 use Rattle.std.proofs.Math.ListN.{get_or-map}
 use Rattle.std.proofs.lemmas.List.{get_or_default, length-map, map-id}
 use Rattle.std.proofs.lemmas.List.FromFn.{map-range_with_len_more}
@@ -11,10 +10,9 @@ use Rattle.postscript_drawing.specs.Components.{glyphs_of}
 use Rattle.postscript_view.specs.Value.{view_shown}
 use Rattle.postscript_view.specs.declared.font.FontView.{FontView}
 use Rattle.postscript_write.specs.Components.{AreClosed, AreKept, IsOpened, IsReached, is_drawn_with, is_named}
-use Rattle.postscript_write.specs.Drawings.{AreLikeKept, DrawsKept, DrawsTheSame, IsSourceAt, Likeness}
-use Rattle.postscript_write.specs.SameGlyphs.{GlyphsKept, IsSameGlyph}
-use Rattle.postscript_write.specs.Glyphs.{Sources}
-use Rattle.postscript_write.specs.Sources.{choice_by, chosen, is_kept, keeping, kept_of}
+use Rattle.postscript_write.specs.Drawings.{AreLikeKept, DrawsTheSame, IsSourceAt, Likeness}
+use Rattle.postscript_write.specs.SameGlyphs.{IsSameGlyph}
+use Rattle.postscript_write.specs.Sources.{chosen, is_kept, kept_of}
 use Rattle.postscript_write.proofs.Drawings.{component-moved, many-of}
 use Rattle.postscript_write.proofs.Marks.{kept_more}
 use Rattle.postscript_files.specs.Made.{AreOrigins, KeptAreTheSame}

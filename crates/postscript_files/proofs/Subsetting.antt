@@ -1,6 +1,6 @@
 -- The file of a subset: its parts put together.
-use Rattle.std.proofs.Common.{◌≡◌, ◌≢◌, refl, sym, ap, ◌∙◌, subst, inl, inr, ℕ, ◌+◌, ◌*◌, ◌/◌, ◌<◌, ◌≤◌, List, [], ◌∷◌, Bool, true, false, length, get_or, arith}
-use Rattle.std.specs.Prelude.{◌⊎◌, Result, Ok, Err, IfOk, IfErr, OnOk, Vec, drop, map}
+use Rattle.std.proofs.Common.{◌≡◌, refl, sym, ap, ◌∙◌, subst, inl, inr, ℕ, ◌+◌, ◌*◌, ◌/◌, ◌<◌, ◌≤◌, List, [], ◌∷◌, Bool, true, false, length, get_or, arith}
+use Rattle.std.specs.Prelude.{Result, Ok, Err, IfOk, IfErr, Vec, drop, map}
 use Rattle.std.specs.List.{Contains}
 use Rattle.std.specs.declared.alloc.Global.{Global}
 use Rattle.std.proofs.lemmas.List.{get_or-drop}
@@ -8,7 +8,7 @@ use Rattle.std.proofs.lemmas.List.Elements.{Contains-append_left, Contains-get_o
 use Rattle.postscript_base.proofs.NumbersAt.{of_four, of_two}
 use Rattle.postscript_base.specs.Index.{number_at}
 use Rattle.postscript_sfnt.specs.Choice.{place_at}
-use Rattle.postscript_sfnt.specs.Lent.{AreAdvancesOf, IsFaceOf, IsTableOf}
+use Rattle.postscript_sfnt.specs.Lent.{AreAdvancesOf, IsFaceOf}
 use Rattle.postscript_sfnt.specs.Maps.{IsMapAt, IsWhole, Maps}
 use Rattle.postscript_sfnt.specs.Metrics.{HasAdvances, IsGlyphs, IsWord}
 use Rattle.postscript_sfnt.specs.declared.character_map.CharacterMap.{CharacterMap}
@@ -24,11 +24,11 @@ use Rattle.postscript_write.specs.SameGlyphs.{IsSameGlyph}
 use Rattle.postscript_write.specs.Sources.{choice_by}
 use Rattle.postscript_write.specs.declared.error.Error.{Error as Refusal}
 use Rattle.postscript_files.specs.Choices.{AreKeptPairs, IsFirstMissing, IsKept, NoneIsMissing, glyph_of, named_of}
-use Rattle.postscript_files.specs.Faces.{IsBestMap, IsFaceIn, cff_tag, cmap_tag, hhea_tag, hmtx_tag, maxp_tag, post_tag}
+use Rattle.postscript_files.specs.Faces.{IsBestMap, IsFaceIn, cff_tag, cmap_tag, hhea_tag, hmtx_tag, maxp_tag}
 use Rattle.postscript_files.specs.Listed.{HasParts, IsFileOfParts, IsUnmade, NoFileOfParts}
 use Rattle.postscript_files.specs.Made.{AreBytes, AreOrigins, HasNoOrigins, IsHmtxOf, IsMade, IsMapOf, IsSubsetFile}
 use Rattle.postscript_files.specs.Renumbered.{IsOrigin}
-use Rattle.postscript_files.specs.Subsets.{AreCharacters, HasSame, IsSubsetFace, IsSubsetFont, IsSubsetOf, KeepsNumber, NoSubsetFrom, NoSubsetOf}
+use Rattle.postscript_files.specs.Subsets.{HasSame, IsSubsetFace, IsSubsetFont, IsSubsetOf, KeepsNumber, NoSubsetFrom, NoSubsetOf}
 use Rattle.postscript_files.specs.declared.choice.Choice.{Choice}
 use Rattle.postscript_files.specs.declared.error.Error.{Error}
 use Rattle.postscript_files.specs.declared.error.Error.TheVariants.{Cut, File, Font, Memory, MissingCharacter, MissingTable, NoAdvances, NoMap, Overlap, SameTag, TooLarge}

@@ -1,8 +1,6 @@
 -- How many tables have a tag.
-use Rattle.std.proofs.Common.{◌≡◌, ◌≢◌, refl, sym, ap, ◌∙◌, subst, inl, inr, ℕ, zero, suc, ◌+◌, ◌<◌, ◌≤◌, List, [], ◌∷◌, ◌++◌, Bool, true, false, length, drop, get_or, arith}
-use Rattle.std.specs.Prelude.{◌⊎◌, ◌==◌, Some, slice_get, map, if◌then◌else◌, Result, Ok, Err, IfErr, Vec}
-use Rattle.std.specs.List.{sum_by}
-use Rattle.std.specs.List.Sorted.{IsPermutation}
+use Rattle.std.proofs.Common.{◌≡◌, refl, sym, ap, ◌∙◌, subst, inl, inr, ℕ, zero, suc, ◌+◌, ◌<◌, ◌≤◌, List, [], ◌∷◌, ◌++◌, Bool, true, false, length, drop, get_or, arith}
+use Rattle.std.specs.Prelude.{◌==◌, map, if◌then◌else◌, Result, Ok, Err, IfErr, Vec}
 use Rattle.std.specs.declared.alloc.Global.{Global}
 use Rattle.std.proofs.lemmas.Bool.{cases_lt, eq-eqb, eqb-true}
 use Rattle.std.proofs.lemmas.List.{at_drop_all, at_drop_more}
@@ -12,9 +10,9 @@ use Rattle.postscript_sfnt.specs.Lent.{HasNoTable}
 use Rattle.postscript_sfnt.specs.declared.file.FontFile.{FontFile}
 use Rattle.postscript_sfnt_write.specs.Tables.{IsGiven}
 use Rattle.postscript_sfnt_write.specs.declared.file.Table.{Table}
-use Rattle.postscript_files.specs.Copies.{HasNeighbours, HasTwice, NoFileOf}
+use Rattle.postscript_files.specs.Copies.{HasTwice, NoFileOf}
 use Rattle.postscript_files.specs.Listed.{CountsCopied, CountsGiven, NoFileOfParts, made_tags, tagged}
-use Rattle.postscript_files.specs.Subsets.{IsTwice, given_tag, times, times_put}
+use Rattle.postscript_files.specs.Subsets.{IsTwice, given_tag, times}
 use Rattle.postscript_files.specs.declared.choice.Choice.{Choice}
 use Rattle.postscript_files.specs.declared.choice.Given.{Given}
 use Rattle.postscript_files.specs.declared.error.Error.{Error}

@@ -9,7 +9,7 @@ use Rattle.postscript_sfnt_write.specs.declared.file.Table.{Table}
 use Rattle.postscript_files.specs.Copies.{HasCopy}
 use Rattle.postscript_files.specs.Faces.{IsNeeded, cff_tag, cmap_tag, hhea_tag, hmtx_tag, maxp_tag, post_tag}
 use Rattle.postscript_files.specs.Others.{Has}
-use Rattle.postscript_files.specs.Subsets.{IsCopied, IsExpected, IsGivenTag, IsTwice, given_tag, times}
+use Rattle.postscript_files.specs.Subsets.{IsExpected, IsTwice, given_tag, times}
 use Rattle.postscript_files.specs.declared.choice.Choice.{Choice}
 use Rattle.postscript_files.specs.declared.choice.Given.{Given}
 use Rattle.postscript_files.specs.declared.error.Error.{Error}

@@ -22,7 +22,7 @@ use Rattle.postscript_write.specs.declared.error.Error.TheVariants as refusals
 use Rattle.postscript_files.specs.Faces.{IsFaceIn, post_tag}
 use Rattle.postscript_files.specs.Measures.{metric_in}
 use Rattle.postscript_files.specs.Renumbered.{AreNumbersOf, AreRenumbered, AreSmall, IsOrigin}
-use Rattle.postscript_files.specs.Subsets.{IsSubsetFace, IsSubsetFont}
+use Rattle.postscript_files.specs.Subsets.{IsSubsetFace}
 use Rattle.postscript_files.specs.declared.choice.Choice.{Choice}
 use Rattle.postscript_base.specs.declared.error.Error as causes
 use Rattle.postscript_base.specs.declared.error.Error.TheVariants.{Memory}

@@ -1,5 +1,5 @@
 -- Why no file is written of tables in ascending order. Only private contracts use this definition.
-use Rattle.std.specs.Prelude.{◌⊎◌, ℕ, ◌^◌, ◌≤◌, List, length}
+use Rattle.std.specs.Prelude.{◌⊎◌, ◌^◌, ◌≤◌, List, length}
 use Rattle.postscript_sfnt_write.specs.Tables.{size_of}
 use Rattle.postscript_sfnt_write.specs.declared.file.Table.{Table}
 use Rattle.postscript_files.specs.declared.error.Error.{Error}

@@ -1,8 +1,8 @@
 -- A file with only some glyphs of a face (ISO/IEC 14496-22, 4.5 and 5.2).
-use Rattle.std.specs.Prelude.{◌≡◌, ◌≢◌, ◌⊎◌, ℕ, ℤ, ◌+◌, ◌*◌, ◌<◌, ◌≤◌, ◌==◌, List, [], ◌∷◌, Bool, true, false, Some, Vec, length, map, take, drop, slice_get, if◌then◌else◌}
+use Rattle.std.specs.Prelude.{◌≡◌, ◌⊎◌, ℕ, ℤ, ◌+◌, ◌*◌, ◌<◌, ◌≤◌, ◌==◌, List, [], ◌∷◌, Bool, true, false, Some, length, map, take, drop, slice_get, if◌then◌else◌}
 use Rattle.std.specs.List.{Contains}
 use Rattle.postscript_base.specs.Index.{number_at}
-use Rattle.postscript_sfnt.specs.Lent.{HasNoTable, IsFaceOf, IsTableOf, advance_in, tables_of, tag_of}
+use Rattle.postscript_sfnt.specs.Lent.{HasNoTable, IsTableOf, advance_in, tables_of, tag_of}
 use Rattle.postscript_sfnt.specs.Maps.{Maps}
 use Rattle.postscript_sfnt.specs.Metrics.{IsGlyphs, IsWord}
 use Rattle.postscript_sfnt.specs.declared.file.FontFile.{FontFile}

@@ -21,7 +21,7 @@
 //!
 //! - That there is enough memory.
 //! - That `TooLarge`, and `Overlap` and `SameTag` of `flat_file`, come only if the tables are too large, overlap or have
-//!   the same tag. These errors are tested.
+//!   the same tag.
 //! - That text is shaped as before: `GSUB`, `GPOS` and `kern` are not written unless the choice has them, and a copied
 //!   `GSUB` or `GPOS` has the old glyph numbers.
 #![tactic(auto)]

@@ -1,4 +1,4 @@
-use Rattle.std.proofs.Common.{◌≡◌, eq-eqb, inl, inr, subst, arith}
+use Rattle.std.proofs.Common.{eq-eqb, inl, inr, subst, arith}
 use Rattle.std.proofs.lemmas.Bool.{eqb-true}
 use Rattle.postscript_sfnt.specs.Maps.{Maps}
 use Rattle.postscript_files.proofs.OneGlyph.{one-glyph}

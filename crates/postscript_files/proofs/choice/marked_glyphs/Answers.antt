@@ -1,4 +1,4 @@
-use Rattle.std.proofs.Common.{◌≡◌, ◌+◌, ℕ, List, Bool, length, subst, sym, arith}
+use Rattle.std.proofs.Common.{◌≡◌, ◌+◌, List, Bool, length, subst, sym, arith}
 use Rattle.postscript_files.proofs.Marking.{AreMarkedTo, marked-all, marked-more, marked-none}
 use Rattle.postscript_files.proofs.choice.marked_glyphs.Goals as goal
 

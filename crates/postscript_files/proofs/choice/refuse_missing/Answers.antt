@@ -1,4 +1,4 @@
-use Rattle.std.proofs.Common.{◌≡◌, refl, arith}
+use Rattle.std.proofs.Common.{refl, arith}
 use Rattle.postscript_files.proofs.choice.refuse_missing.Goals as goal
 
 pub returns-then-is_missing-clause-missing : goal.returns-then-is_missing-clause-missing

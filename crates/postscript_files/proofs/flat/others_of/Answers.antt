@@ -1,4 +1,4 @@
-use Rattle.std.proofs.Common.{◌≡◌, ◌∙◌, refl, sym, ap, subst, ℕ, List, [], ◌∷◌, ◌++◌}
+use Rattle.std.proofs.Common.{◌≡◌, ◌∙◌, refl, sym, ap, subst, List, [], ◌∷◌, ◌++◌}
 use Rattle.postscript_sfnt_write.specs.declared.file.Table.{Table}
 use Rattle.postscript_files.specs.Others.{AreOthers}
 use Rattle.postscript_files.proofs.Others.{others-first}

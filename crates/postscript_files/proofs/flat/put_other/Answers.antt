@@ -1,4 +1,4 @@
-use Rattle.std.proofs.Common.{◌≡◌, sym, subst, ℕ, List}
+use Rattle.std.proofs.Common.{sym, subst, List}
 use Rattle.postscript_sfnt_write.specs.declared.file.Table.{Table}
 use Rattle.postscript_files.specs.Others.{AreOthers, Has}
 use Rattle.postscript_files.proofs.Others.{has-last, has-more, others-more, stays-so}

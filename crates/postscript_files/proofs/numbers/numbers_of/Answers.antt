@@ -1,4 +1,4 @@
-use Rattle.std.proofs.Common.{◌≡◌, ◌∙◌, ◌<◌, ◌≤◌, inl, inr, ℕ, arith, below_more, length, get_or}
+use Rattle.std.proofs.Common.{◌∙◌, inl, inr, arith, below_more, get_or}
 use Rattle.std.proofs.Math.ListN.{length-set}
 use Rattle.postscript_files.proofs.Numbering.{numbered-more}
 use Rattle.postscript_files.proofs.numbers.numbers_of.Goals as goal

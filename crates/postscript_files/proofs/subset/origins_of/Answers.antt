@@ -1,4 +1,4 @@
-use Rattle.std.proofs.Common.{◌≡◌, sym, subst, Bool}
+use Rattle.std.proofs.Common.{sym, subst, Bool}
 use Rattle.std.specs.Prelude.{IfOk}
 use Rattle.postscript_files.specs.Made.{AreOrigins}
 use Rattle.postscript_files.proofs.Refusing.{no-every, no-kept}

@@ -1,6 +1,6 @@
-use Rattle.postscript_files.proofs.Listing.{adds-none, copy-adds, copy-there}
+use Rattle.postscript_files.proofs.Listing.{copy-adds, copy-there}
 use Rattle.postscript_files.proofs.Others.{has-table}
-use Rattle.postscript_files.proofs.Twice.{copy-counts, no-copy}
+use Rattle.postscript_files.proofs.Twice.{copy-counts}
 use Rattle.postscript_files.proofs.subset.put_copy.Goals as goal
 
 pub returns-in_ok-put-clause-adds : goal.returns-in_ok-put-clause-adds

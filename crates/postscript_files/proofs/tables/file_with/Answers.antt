@@ -1,8 +1,8 @@
-use Rattle.std.proofs.Common.{◌≡◌, sym, subst, ℕ, List, arith, rules}
+use Rattle.std.proofs.Common.{sym, subst, List, rules}
 use Rattle.std.specs.List.Sorted.{IsNonDecreasingBy, IsPermutation}
 use Rattle.std.proofs.lemmas.List.Sorted.{IsNonDecreasingBy-from_sort_by_key}
 use Rattle.postscript_sfnt_write.specs.declared.file.Table.{Table}
-use Rattle.postscript_files.specs.Copies.{HasNeighbours, NoNeighbours}
+use Rattle.postscript_files.specs.Copies.{NoNeighbours}
 use Rattle.postscript_files.proofs.Filing.{if-not-written, if-written, tags-rise}
 use Rattle.postscript_files.proofs.tables.file_with.Goals as goal
 

@@ -1,4 +1,4 @@
-use Rattle.std.proofs.Common.{◌≡◌, ◌∙◌, ap, subst, ℕ, List, ◌^◌, arith}
+use Rattle.std.proofs.Common.{◌∙◌, ap, subst, arith}
 use Rattle.std.specs.Prelude.{MatchOption}
 use Rattle.postscript_base.specs.Numbers.{big_endian}
 use Rattle.postscript_sfnt.specs.Lent.{HasNoTable, IsTableOf}

@@ -1,4 +1,4 @@
-use Rattle.std.proofs.Common.{◌≡◌, inl, inr, refl}
+use Rattle.std.proofs.Common.{inl, inr, refl}
 use Rattle.std.proofs.lemmas.Result.{err_from_is_err_and}
 use Rattle.postscript_files.proofs.Opening.{missing-so, no-advances-so, no-map-so}
 use Rattle.postscript_files.proofs.face.Face.open.Goals as goal
