@@ -70,13 +70,13 @@ pub(crate) fn asked_of(alloc: Global, bytes: &[u8], face: usize, limit: u64) -> 
     ensures end { result ≡ pos 0 → RunsEnd bytes.now face limit }
     ensures beyond { result ≢ pos 0 → IsBeyond bytes.now face limit result }
 {
-    match FontFile::read(bytes, face) {
-        Ok(file) => match file.table(*b"CFF ") {
-            Some(cff) => tell_fits_at_once(alloc, cff, limit),
-            None => 0,
-        },
-        Err(_) => 0,
-    }
+    let Ok(file) = FontFile::read(bytes, face) else {
+        return 0;
+    };
+    let Some(cff) = file.table(*b"CFF ") else {
+        return 0;
+    };
+    tell_fits_at_once(alloc, cff, limit)
 }
 
 /// The file of a face without subroutines.
