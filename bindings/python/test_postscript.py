@@ -465,32 +465,6 @@ class Accented(Case):
         self.assertEqual([glyph.name for glyph in subset], [".notdef", "A", "acute", "C"])
         self.assertEqual([glyph.svg_path() for glyph in subset], ACCENTED[:4])
 
-    def test_files(self):
-        font = Font.from_bytes(spelled("whole.hex"))
-        new = Font.from_bytes(font.subset_file("AA", tables=("name", "OS/2")))
-        self.assertEqual((len(new), dict(new.cmap), new[1].segments, new[1].advance), (2, {65: 1}, font[1].segments, font[1].advance))
-        kept = Font.from_bytes(font.subset_file(glyphs=[1], keep_numbers=True))
-        self.assertEqual((len(kept), kept[1].segments), (2, font[1].segments))
-        self.assertEqual(dict(Font.from_bytes(font.subset_file(unicodes=[65, 66], ignore_missing=True)).cmap), {65: 1})
-        flat = Font.from_bytes(font.flat_file())
-        self.assertEqual((dict(flat.cmap), flat[1].segments), (dict(font.cmap), font[1].segments))
-
-    def test_files_that_are_not_written(self):
-        def error(call):
-            with self.assertRaises(WriteError) as caught:
-                call()
-            e = caught.exception
-            return e.status, e.character, e.table, str(e)
-
-        font = Font.from_bytes(spelled("whole.hex"))
-        text = "U+0042: the font has no glyph for a character"
-        self.assertEqual(error(lambda: font.subset_file("AB")), (Status.NO_CHARACTER, 66, None, text))
-        self.assertEqual(error(font.subset_file)[0], Status.NO_GLYPHS)
-        text = "table 'name': two tables have the same tag"
-        self.assertEqual(error(lambda: font.subset_file("A", tables=("name", "name"))), (Status.SAME_TAG, None, "name", text))
-        self.assertEqual(error(lambda: self.font.subset_file("A"))[::2], (Status.NO_TABLE, "hhea"))
-        self.assertRaises(ValueError, Font(font.cff).flat_file)
-
     def test_cid_keyed(self):
         # glyph 2 is 0 0 65 65 endchar
         font = Font(CID.replace(bytes.fromhex("92211d160e"), bytes.fromhex("8b8bcccc0e")) + bytes.fromhex("0000000101"))

@@ -38,42 +38,95 @@ impl<'f> SubsetFile<'f> {
     }
 
     /// Adds the characters of a text.
+    ///
+    /// ```
+    /// # let bytes = std::fs::read("examples/whole.otf")?;
+    /// # let font = postscript::Font::from_file(&bytes, 0)?;
+    /// assert!(font.subset_file().text("A").write().is_ok());
+    /// # Ok::<(), Box<dyn std::error::Error>>(())
+    /// ```
     pub fn text(mut self, text: &str) -> Self {
         self.choice.characters.extend(text.chars().map(u32::from));
         self
     }
 
     /// Adds characters.
+    ///
+    /// ```
+    /// # let bytes = std::fs::read("examples/whole.otf")?;
+    /// # let font = postscript::Font::from_file(&bytes, 0)?;
+    /// assert!(font.subset_file().characters(['A']).write().is_ok());
+    /// # Ok::<(), Box<dyn std::error::Error>>(())
+    /// ```
     pub fn characters(mut self, characters: impl IntoIterator<Item = char>) -> Self {
         self.choice.characters.extend(characters.into_iter().map(u32::from));
         self
     }
 
     /// Adds glyphs, each with all its characters.
+    ///
+    /// ```
+    /// # let bytes = std::fs::read("examples/whole.otf")?;
+    /// # let font = postscript::Font::from_file(&bytes, 0)?;
+    /// let file = font.subset_file().glyphs([1]).write()?;
+    /// assert_eq!(postscript::Font::from_file(&file, 0)?.glyph_index('A'), Some(1));
+    /// # Ok::<(), Box<dyn std::error::Error>>(())
+    /// ```
     pub fn glyphs(mut self, glyphs: impl IntoIterator<Item = usize>) -> Self {
         self.choice.glyphs.extend(glyphs);
         self
     }
 
     /// Whether glyphs keep their numbers, with empty glyphs between them. Otherwise they get new numbers in ascending order.
+    ///
+    /// ```
+    /// # let bytes = std::fs::read("examples/whole.otf")?;
+    /// # let font = postscript::Font::from_file(&bytes, 0)?;
+    /// let file = font.subset_file().text("A").keep_numbers(true).write()?;
+    /// assert_eq!(postscript::Font::from_file(&file, 0)?.glyph_index('A'), font.glyph_index('A'));
+    /// # Ok::<(), Box<dyn std::error::Error>>(())
+    /// ```
     pub fn keep_numbers(mut self, keeps: bool) -> Self {
         self.choice.keeps = keeps;
         self
     }
 
     /// Whether characters without a glyph are left out. Otherwise they are an error.
+    ///
+    /// ```
+    /// # let bytes = std::fs::read("examples/whole.otf")?;
+    /// # let font = postscript::Font::from_file(&bytes, 0)?;
+    /// assert!(font.subset_file().text("AB").ignore_missing(true).write().is_ok());
+    /// # Ok::<(), Box<dyn std::error::Error>>(())
+    /// ```
     pub fn ignore_missing(mut self, lenient: bool) -> Self {
         self.choice.lenient = lenient;
         self
     }
 
     /// Sets which tables are copied. The others are `CFF `, `cmap`, `hhea`, `hmtx`, `maxp` and `post`.
+    ///
+    /// ```
+    /// # let bytes = std::fs::read("examples/whole.otf")?;
+    /// # let font = postscript::Font::from_file(&bytes, 0)?;
+    /// let all = font.subset_file().text("A").write()?;
+    /// assert!(font.subset_file().text("A").tables(&[]).write()?.len() < all.len());
+    /// # Ok::<(), Box<dyn std::error::Error>>(())
+    /// ```
     pub fn tables(mut self, tags: &[[u8; 4]]) -> Self {
         self.choice.copied = tags.iter().map(tag).collect();
         self
     }
 
     /// Writes the file. Each glyph is drawn, named and measured as before. Kerning and ligatures are lost.
+    ///
+    /// ```
+    /// # let bytes = std::fs::read("examples/whole.otf")?;
+    /// # let font = postscript::Font::from_file(&bytes, 0)?;
+    /// let error = font.subset_file().text("AB").write().unwrap_err();
+    /// assert_eq!((error.error, error.character), (postscript::Error::NoCharacter, Some(66)));
+    /// # Ok::<(), Box<dyn std::error::Error>>(())
+    /// ```
     ///
     /// # Errors
     ///

@@ -47,8 +47,7 @@ const NO_ERROR: WriteError = WriteError {
 
 /// The file with metrics that `bindings/whole.hex` spells: `.notdef` and `A`.
 fn whole() -> Vec<u8> {
-    let text: String = include_str!("../../whole.hex").split_whitespace().collect();
-    (0..text.len()).step_by(2).map(|i| u8::from_str_radix(&text[i..i + 2], 16).unwrap()).collect()
+    hex(include_str!("../../whole.hex"))
 }
 
 #[test]
@@ -69,7 +68,7 @@ fn files_are_written() {
 
 #[test]
 fn files_that_are_not_written() {
-    let (bytes, lacking) = (whole(), small());
+    let (bytes, lacking) = (whole(), bytes());
     let font = Font::from_file(&bytes, 0).unwrap();
     let missing = WriteError { error: Error::NoCharacter, character: Some(66), ..NO_ERROR };
     assert_eq!(font.subset_file().text("AB").write(), Err(missing));
