@@ -5,7 +5,7 @@ use alloc::string::String;
 use alloc::vec::Vec;
 use core::fmt;
 
-/// A font file with only some characters and glyphs of a face, from [`Font::subset_file`].
+/// A font file with only some characters and glyphs of a face, from [`Font::subset_file`](crate::Font::subset_file).
 ///
 /// ```
 /// # let bytes = std::fs::read("examples/whole.otf")?;
