@@ -4,7 +4,7 @@ pub mod Wide
 use Rattle.std.specs.Prelude.{◌≡◌, ◌↔◌, ◌⊎◌, ℕ, ◌+◌, ◌-◌, ◌*◌, ◌<◌, ◌≤◌, ◌==◌, ◌||◌, nat_lt, if◌then◌else◌, List, [], length, take, drop, map}
 use Rattle.std.specs.List.{slice_range, range_with_len}
 use Rattle.postscript_base.specs.Numbers.{big_endian}
-use Rattle.postscript_base.specs.Refusal.{malformed_offset}
+use Rattle.postscript_base.specs.Refusal.{Refusal, malformed_offset, unexpected_eof}
 use Rattle.postscript_base.specs.Tape.Outcome.{Reading, Got, Fault, end}
 
 -- the number of so many bytes at a place
@@ -87,6 +87,19 @@ abbrev pub IsOutOfOrder : List ℕ → (place : ℕ) → Type 0
 IsOutOfOrder bytes place = ((next : ℕ) × IsLaidOut bytes place next)
     × (AreInOrder bytes (place + 3) (size_at bytes place) (count_at bytes place) → ⊥)
 
+-- Why no INDEX is opened at an offset: the bytes end within its count, its offset size, its offsets or its data, or the offset size is not
+-- from 1 to 4.
+pub data IsNotOpened (bytes : List ℕ) (place : ℕ) : Refusal → Type 0 where
+  CutCount : length bytes < place + 2 → IsNotOpened bytes place unexpected_eof
+  CutSize : place + 2 ≤ length bytes → 0 < count_at bytes place → length bytes < place + 3 → IsNotOpened bytes place unexpected_eof
+  BadSize : HasBadSize bytes place 2 → IsNotOpened bytes place malformed_offset
+  CutOffsets : place + 3 ≤ length bytes → 0 < count_at bytes place → 1 ≤ size_at bytes place → size_at bytes place ≤ 4 →
+      length bytes < place + 3 + (count_at bytes place + 1) * size_at bytes place → IsNotOpened bytes place unexpected_eof
+  CutData : 0 < count_at bytes place → 1 ≤ size_at bytes place → size_at bytes place ≤ 4 →
+      place + 3 + (count_at bytes place + 1) * size_at bytes place ≤ length bytes →
+      length bytes < place_of bytes (place + 3) (size_at bytes place) (count_at bytes place) (count_at bytes place) →
+      IsNotOpened bytes place unexpected_eof
+
 -- What is answered at a place: the items and the next place, or a refusal. No offset is looked at but the last one.
 unfoldable pub spread : Reading (List (List ℕ))
 spread bytes place =
@@ -107,3 +120,8 @@ opened bytes place =
 abbrev pub OpensIndices : Type 0
 OpensIndices = (bytes : List ℕ) (place : ℕ) (items : List (List ℕ)) (next : ℕ) → (opened bytes place ≡ Got items next)
     ↔ IsOpened bytes place items next
+
+-- and opening fails exactly if there is such a reason
+abbrev pub OpensNoOthers : Type 0
+OpensNoOthers = (bytes : List ℕ) (place : ℕ) (refusal : Refusal) → (opened bytes place ≡ Fault refusal)
+    ↔ IsNotOpened bytes place refusal

@@ -88,6 +88,7 @@ IsSet number false = number ≡ 0
 pub record IsChoice (chars glyphs copied : List ℕ) (lenient keeps : ℕ) (choice : Choice) : Type 0 where
   pub chars_are : choice.chars.now ≡ chars
   pub glyphs_are : choice.glyphs.now ≡ glyphs
+  pub none_unmapped : choice.unmapped.now ≡ []
   pub copied_are : choice.copied.now ≡ copied
   pub leaves_out : IsSet lenient choice.lenient
   pub retains : IsSet keeps choice.retain_gids

@@ -17,6 +17,7 @@ pub mod Within
 pub mod Computed
 pub mod Endings
 pub mod Told
+pub mod CostsAlong
 pub mod OperatorRules
 pub mod Private
 pub mod BlendRules

@@ -211,6 +211,10 @@ const SUBCOMMANDS: &[Subcommand] = &[
                 "With --retain-gids: drop the layout tables (kerning, ligatures, vertical metrics)",
             ),
             Word::Flag(
+                "exact",
+                "With --retain-gids: do not add characters that a shaper may use (see the manual)",
+            ),
+            Word::Flag(
                 "keep-names",
                 "Keep copyright, trademark and licence in the name table too",
             ),
