@@ -2,7 +2,7 @@
 use Rattle.std.specs.Prelude.{ℕ, ℤ, pos, ◌+ℤ◌, ◌-ℤ◌, ◌*ℤ◌, ◌+◌, ◌-◌, ◌*◌, ◌^◌, List, [], ◌∷◌, length, take, drop, ◌++◌, nat_lt, if◌then◌else◌}
 use Rattle.postscript_base.specs.Tape.Outcome.{Reading, Got, end, ◌>>=◌, pure}
 
--- `count` bytes, or the error that the input ends early if fewer are left
+-- `count` bytes; if fewer are left, the error that the input ends early
 unfoldable pub slice : ℕ → Reading (List ℕ)
 slice count bytes place = if nat_lt (length bytes - place) count then end else Got (take count (drop place bytes)) (place + count)
 

@@ -15,7 +15,7 @@ pub record IsShort (mantissa ends n : ℕ) : Type 0 where
   pub short : mantissa < 10 ^ 18
   pub one_form : (mantissa % 10 ≢ 0) ⊎ ((mantissa ≡ 0) × (ends ≡ 0))
 
--- whether n has too many digits; if not, its mantissa and the number of zeros after it
+-- Whether n has too many digits. If not, these are its mantissa and the number of zeros after it.
 abbrev pub Keeps : Bool → ℕ → ℕ → ℕ → Type 0
 Keeps true mantissa ends n = IsLong n
 Keeps false mantissa ends n = IsShort mantissa ends n

@@ -8,6 +8,6 @@ MovesOn place size (Got value next) = (place < next) × (next ≤ size)
 MovesOn place size (Fault refusal) = Unit {0}
 MovesOn place size Past = ⊥
 
--- a reading that succeeds takes at least one byte, and only bytes that are there; it never seeks past the end
+-- A reading that succeeds takes at least one byte, and only bytes that are there. It never seeks past the end.
 abbrev pub TakesBytes : {A : Type 0} → Reading A → Type 0
 TakesBytes reading = (bytes : List ℕ) (place : ℕ) → MovesOn place (length bytes) (reading bytes place)

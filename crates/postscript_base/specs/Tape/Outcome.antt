@@ -42,7 +42,7 @@ fault refusal bytes place = Fault refusal
 abbrev pub position : Reading ℕ
 position bytes place = Got place place
 
--- the outcome is this error; if an offset past the end was sought, the number of the error is at most 2: UnexpectedEof or Io
+-- The outcome is this error. If an offset past the end was sought, the number of the error is at most 2: UnexpectedEof or Io.
 abbrev pub RefusedAs : {A : Type 0} → Error → Outcome A → Type 0
 RefusedAs e (Got value next) = ⊥
 RefusedAs e (Fault refusal) = refusal_of e ≡ refusal
