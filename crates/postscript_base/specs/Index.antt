@@ -7,7 +7,7 @@ use Rattle.postscript_base.specs.Numbers.{big_endian}
 use Rattle.postscript_base.specs.Refusal.{malformed_offset}
 use Rattle.postscript_base.specs.Tape.Outcome.{Reading, Got, Fault, end}
 
--- the number in the `size` bytes at an offset
+-- the number in the `size` bytes at an offset, or in fewer at the end
 unfoldable pub number_at : List ℕ → (place size : ℕ) → ℕ
 number_at bytes place size = big_endian (take size (drop place bytes))
 

@@ -20,7 +20,8 @@ abbrev pub two_sided : ℕ → ℕ → ℤ
 two_sided half n = if nat_lt n half then pos n else pos n -ℤ pos (2 * half)
 
 -- The integers of one and two bytes that dictionaries and charstrings have in common (Technical Note 5176, "DICT Data", Table 3; Technical
--- Note 5177, "Charstring Number Encoding"). One byte is for -107 to 107. Two bytes are for greater (`above`) and smaller ones (`below`).
+-- Note 5177, "Charstring Number Encoding"). One byte is for -107 to 107. Two bytes are for 108 and more (`above`), and for -108 and less
+-- (`below`).
 abbrev pub small : ℕ → ℤ
 small first = pos first -ℤ pos 139
 

@@ -31,7 +31,7 @@ tape_stuck = Numbered 4
 abbrev pub malformed_offset : Refusal
 malformed_offset = Numbered 5
 
--- the offsets of an INDEX do not begin with 1, or do not increase
+-- the offsets of an INDEX do not begin with 1, or are not in order
 abbrev pub malformed_index : Refusal
 malformed_index = Numbered 6
 
@@ -71,15 +71,15 @@ expected_operand = Numbered 17
 abbrev pub expected_integer : Refusal
 expected_integer = Numbered 18
 
--- the stack has fewer operands than an operator needs
+-- the stack has fewer operands than `dup`, `index` or `roll` needs
 abbrev pub expected_more_operands : Refusal
 expected_more_operands = Numbered 19
 
--- the stack has too few operands for the operator
+-- the stack has too few operands for an operator that draws or declares stems
 abbrev pub malformed_operands : Refusal
 malformed_operands = Numbered 20
 
--- the operator does not allow this operand
+-- the count of a `roll` is negative, or the index of a stored number is not from 0 to 31
 abbrev pub invalid_operand : Refusal
 invalid_operand = Numbered 21
 

@@ -1,4 +1,4 @@
--- A charset without a parser: SIDs or ranges, one after the other (Technical Note 5176, "Charsets").
+-- A charset, defined without a parser: SIDs or ranges, one after the other (Technical Note 5176, "Charsets").
 use Rattle.std.specs.Prelude.{◌≡◌, ◌≢◌, ℕ, List}
 use Rattle.postscript_base.specs.Refusal.{Refusal}
 use Rattle.postscript_base.specs.Tape.Outcome.{Got, Fault, Past}

@@ -26,7 +26,7 @@ pub record IsFilled (index : Index) : Type 0 where
 abbrev pub IsWhole : Index → Type 0
 IsWhole index = (index ≡ empty) ⊎ IsFilled index
 
--- the number in the `size` bytes at an offset
+-- the `size` bytes at an offset exist, and are this number
 abbrev pub NumberAt : List ℕ → ℕ → ℕ → ℕ → Type 0
 NumberAt bytes place size n = (place + size ≤ length bytes) × (n ≡ big_endian (take size (drop place bytes)))
 

@@ -1,4 +1,4 @@
--- An INDEX without a parser: slices of one list of bytes (Technical Note 5176, "INDEX Data").
+-- An INDEX, defined without a parser: slices of one list of bytes (Technical Note 5176, "INDEX Data").
 use Rattle.std.specs.Prelude.{◌≡◌, ◌⊎◌, ℕ, List}
 use Rattle.postscript_base.specs.Refusal.{Refusal, unexpected_eof, malformed_offset, malformed_index}
 use Rattle.postscript_base.specs.Tape.At.{NeedsBytes}

@@ -1,4 +1,4 @@
--- Items that are dictionaries, without a parser (Technical Note 5176, "Top DICT INDEX").
+-- Items that are dictionaries, defined without a parser (Technical Note 5176, "Top DICT INDEX").
 use Rattle.std.specs.Prelude.{◌≡◌, ◌≢◌, ◌⊎◌, ℕ, List, [], ◌∷◌}
 use Rattle.postscript_base.specs.Compact1.Dictionary.{Dictionary}
 use Rattle.postscript_base.specs.Compact1.DictionaryLaw.{IsDictionary, IsRefused}

@@ -11,7 +11,7 @@ use Rattle.postscript_compact1.specs.Index.{Index, index}
 unfoldable pub char_strings : ℤ → Reading Index
 char_strings format = if int_eq format (pos 2) then index else fault unknown_char_string_format
 
--- the dictionary of an item, which is not read from the tape itself
+-- the dictionary of an item; reading it takes nothing from the tape
 unfoldable pub map_of : List ℕ → Reading Dictionary
 map_of item bytes place = after (dictionary item 0) (λ map next. Got map place)
 

@@ -25,7 +25,8 @@ pub record DrawsProgram {T : Type 0} (after : T → Segment → T → Type 0) (o
   pub taken : Receives after old segments new
   pub width_is : width ≡ width_by pending.width pending.answers pending.end
 
--- The sink has received a prefix of the segments that these operations draw, if none of their coordinates leaves the range.
+-- The sink has received a prefix of the segments that these operations draw, whatever the end of the run, if none of their coordinates
+-- leaves the range.
 pub record DrawsFront {T : Type 0} (after : T → Segment → T → Type 0) (origin : Point) (old new : T) (answers : List Answer) : Type 0 where
   pub given : List Segment
   pub front : IfOk (outlined_at origin answers UsedUp) (λ segments. IsFront given segments)

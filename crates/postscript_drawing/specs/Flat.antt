@@ -17,7 +17,7 @@ abbrev pub FlatTextDrawsTheSame : Type 0
 FlatTextDrawsTheSame = (lists other : Lists) (code : List ℕ) → fault_of (run_of lists code).end ≡ None →
     SameGlyph (run_of other (flat_text (run_of lists code).trace)) (run_of lists code)
 
--- A law: its inlined text does too.
+-- A law: if a run ends without a fault, its inlined text draws the same over any lists.
 abbrev pub InlinedTextDrawsTheSame : Type 0
 InlinedTextDrawsTheSame = (lists other : Lists) (code : List ℕ) → fault_of (run_of lists code).end ≡ None →
     SameGlyph (run_of other (inlined_text (run_of lists code).trace)) (run_of lists code)

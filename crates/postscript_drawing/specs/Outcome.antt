@@ -26,13 +26,14 @@ Draws wanted (Err e) new = (e ≡ errors.Memory) ⊎ (wanted ≡ Err (refusal_of
 abbrev pub IsFront : {A : Type 0} → List A → List A → Type 0
 IsFront xs ys = take (length xs) ys ≡ xs
 
--- The code gives the expected drawing or the expected error. The sink may be full at any time.
+-- The code gives the expected drawing or the expected error. That the sink is full may be the error at any time.
 abbrev pub DrawsInto : (wanted : Result Drawing Refusal) → Result (Unit {0}) Undrawn → (new : Drawing) → Type 0
 DrawsInto wanted (Ok done) new = wanted ≡ Ok new
 DrawsInto wanted (Err Overflow) new = wanted ≡ Err overflow
 DrawsInto wanted (Err Full) new = Unit {0}
 
--- The result of drawing into a sink: on success it has received all segments, and on an error a prefix of them.
+-- The result of drawing into a sink. On success it has received all segments. On an error it has received a prefix of the expected ones, if
+-- there are any.
 pub record DrawsTo (wanted : Result Drawing Refusal) (answered : Result (Unit {0}) Undrawn) (new : Drawing) : Type 0 where
   pub exact : DrawsInto wanted answered new
   pub front : OnErr answered (IfOk wanted (λ d. IsFront new.segments d.segments))
@@ -51,7 +52,7 @@ pub record AreOfFirst (strokes : List Stroke) (from : Drawing) (given : List Seg
   pub draws : drawing first from ≡ Ok to
   pub front : IsFront given to.segments
 
--- A pen draws strokes from its current point, and a sink has received the segments, one after another.
+-- A pen draws strokes from its current point into a sink, which receives the segments one after another.
 pub record DrawsStrokes {T : Type 0} (after : T → Segment → T → Type 0) (refuses : T → Type 0) (strokes : List Stroke) (pen : Pen) (old : T)
     (answered : Result (Unit {0}) Undrawn) (pen' : Pen) (new : T) : Type 0 where
   pub given : List Segment

@@ -1,4 +1,4 @@
--- The limit, and the runs of glyphs for which it pays.
+-- How a limit is spent on the runs of glyphs.
 use Rattle.std.specs.Prelude.{◌≡◌, ◌⊎◌, ℕ, zero, suc, ◌-◌, ◌<◌, List, [], ◌++◌, Option, Some, None}
 use Rattle.postscript_drawing.specs.Accents.{IsAccentOf, IsTold}
 use Rattle.postscript_drawing.specs.Components.{IsComponent}

@@ -20,8 +20,8 @@ pub record Arc : Type 0 where
 abbrev pub arc : (from first second to : Point) → Arc
 arc from first second to = record { from = from; first = first; second = second; to = to }
 
--- The curves that a segment draws from a point: a point that stays, a line, whose control points are its ends, or a curve. A Close draws
--- nothing new, since it goes back to a point that was drawn before.
+-- The curves that a segment draws from a point: a point that stays, a line, whose control points are its ends, or a curve. A Close gives
+-- none, since it goes back to a point that was drawn before.
 abbrev pub arcs_of : Point → Segment → List Arc
 arcs_of from (MoveTo p) = arc p p p p ∷ []
 arcs_of from (LineTo p) = arc from from p p ∷ []
@@ -44,14 +44,14 @@ arcs from (segment ∷ segments) = arcs_of from segment ++ arcs (after from segm
 abbrev pub place : (axis : Point → ℤ) → Arc → (m n : ℕ) → ℤ
 place axis a m n = bezier (axis a.from) (axis a.first) (axis a.second) (axis a.to) m n
 
--- each point of the curve is on this side of the line, or on it
+-- each point of the curve is at or above this coordinate on the axis, or at or below it
 abbrev pub IsAbove : (axis : Point → ℤ) → ℤ → Arc → Type 0
 IsAbove axis low a = (m n : ℕ) → (low *ℤ cube (m + n)) ≤ℤ place axis a m n
 
 abbrev pub IsBelow : (axis : Point → ℤ) → ℤ → Arc → Type 0
 IsBelow axis high a = (m n : ℕ) → place axis a m n ≤ℤ (high *ℤ cube (m + n))
 
--- some point of the curve is less than two units from the line, and an end or a control point is on it or beyond it
+-- Some point of the curve is less than two units inside this coordinate, or outside it. An end or a control point is at it or outside it.
 pub record DipsTo (axis : Point → ℤ) (low : ℤ) (a : Arc) : Type 0 where
   pub near : (m : ℕ) × (n : ℕ) × (0 < m + n) × (place axis a m n <ℤ ((low +ℤ pos 2) *ℤ cube (m + n)))
   pub within : least (axis a.from) (axis a.first) (axis a.second) (axis a.to) ≤ℤ low

@@ -36,8 +36,8 @@ abbrev pub outcome_of : Option Advance → AdvanceWithin
 outcome_of (Some advance) = Known advance
 outcome_of None = Unknown
 
--- The outcome of a run with this end and this advance. It is the advance if the run ends without a fault. If the limit is used up first,
--- nothing is stated about the advance.
+-- The outcome of a run with this end and this advance. If the run ends without a fault, it is the advance, or `Unknown` if there is none.
+-- If the limit is used up first, nothing is stated about the advance.
 abbrev pub TellsAdvance : Option Advance → End → AdvanceWithin → Type 0
 TellsAdvance advance end (Known found) = (advance ≡ Some found) × (fault_of end ≡ None)
 TellsAdvance advance end Unknown = (advance ≡ None) × (fault_of end ≡ None)

@@ -62,7 +62,8 @@ GivesOwn (Predefined encoding) set code glyph = (identifier : ℕ) × (identifie
 GivesOwn (Listed codes) set code glyph = IsInList codes.now code glyph
 GivesOwn (Ranges ranges) set code glyph = IsInCodeRanges ranges.now code glyph
 
--- An encoding, with a charset, gives a code to a glyph. If a supplement has the code, the first such supplement gives the glyph.
+-- An encoding, with a charset, gives a code to a glyph. If a supplement has the code, the first such supplement gives the glyph. Otherwise
+-- the predefined encoding or the format does.
 abbrev pub Gives : EncodingView → CharSetView → (code glyph : ℕ) → Type 0
 Gives encoding set code glyph =
     ((identifier : ℕ) × IsFirstSupplement encoding.supplements.now code identifier × Names set glyph identifier)

@@ -14,8 +14,8 @@ pub record IsHeld (bytes : List ℕ) (place size : ℕ) (held : List ℕ) : Type
   pub within : place + size ≤ length bytes
   pub bytes_are : held ≡ take size (drop place bytes)
 
--- After the format byte there is a count, and that number of codes, or of ranges of two bytes. The low seven bits of the byte are the
--- format. The predefined encodings are not at any offset.
+-- After the format byte there is a count, and that number of codes, or of ranges of two bytes. `next` is the offset after them. The low
+-- seven bits of the byte are the format. The predefined encodings are not at any offset.
 abbrev pub AreCodesAt : Codes → List ℕ → (place next : ℕ) → Type 0
 AreCodesAt (Predefined encoding) bytes place next = ⊥
 AreCodesAt (Listed codes) bytes place next =

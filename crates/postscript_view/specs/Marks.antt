@@ -36,7 +36,7 @@ HasMarks (Listed identifiers) glyphs marks = Unit {0}
 HasMarks (Ranges1 ranges) glyphs marks = AreSpread ranges.now 1 glyphs marks
 HasMarks (Ranges2 ranges) glyphs marks = AreSpread ranges.now 2 glyphs marks
 
--- only ranges need marks
+-- the marks are before ranges of the charset; a charset without ranges needs none
 abbrev pub AreMarks : Identifiers → Marks → Type 0
 AreMarks ISOAdobe marks = Unit {0}
 AreMarks Expert marks = Unit {0}

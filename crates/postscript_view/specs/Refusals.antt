@@ -1,5 +1,6 @@
--- The numbers of the errors that a call may return. 1: the input ends early. 3: memory. 5 and 6: offsets. 7 to 9: a dictionary. 11: a
--- charset. 12: charstrings. 13 and 14: an operand. 15: an offset out of range. 16: an unsupported part.
+-- The numbers of the errors that a call may return. Number 1 means that the input ends early, and 3 that memory runs out. Numbers 5 and 6
+-- are for offsets, 7 to 9 for dictionaries, 11 for charsets and 12 for charstrings. Numbers 13 and 14 are for operands, 15 for offsets out
+-- of range, and 16 for unsupported parts.
 use Rattle.std.specs.Prelude.{ℕ, List, [], ◌∷◌}
 
 -- for opening a font

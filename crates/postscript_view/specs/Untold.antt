@@ -1,4 +1,4 @@
--- Why a font has no char set, or no encoding (Technical Note 5176, section 12, "Encodings", and section 13, "Charsets").
+-- Why a font has no charset, or no encoding (Technical Note 5176, section 12, "Encodings", and section 13, "Charsets").
 use Rattle.std.specs.Prelude.{◌≡◌, ◌⊎◌, ℕ, ◌+◌, ◌-◌, ◌*◌, ◌%◌, ◌<◌, ◌≤◌, negsuc, List, length, Some}
 use Rattle.postscript_base.specs.Compact1.Dictionary.{Dictionary}
 use Rattle.postscript_base.specs.Refusal.{OfPart, out_of_range_offset, unexpected_eof, unknown_char_set_format}

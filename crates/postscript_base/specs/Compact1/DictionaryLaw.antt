@@ -1,5 +1,5 @@
--- A dictionary without a parser: operations one after the other, and possibly an incomplete one at the end (Technical Note 5176, "DICT
--- Data").
+-- A dictionary, defined without a parser: operations one after the other, and possibly an incomplete one at the end (Technical Note 5176,
+-- "DICT Data").
 use Rattle.std.specs.Prelude.{◌≡◌, ◌≢◌, ◌⊎◌, ℕ, Bool, true, false, ◌&&◌, ◌||◌, List, [], ◌∷◌, length, drop, Option, Some, None, ◌==◌, nat_lt, if◌then◌else◌}
 use Rattle.std.specs.Option.{option_or}
 use Rattle.std.specs.List.{prefix_len}

@@ -1,4 +1,4 @@
--- An operation of a dictionary without a parser: operands, and then an operator (Technical Note 5176, "DICT Data").
+-- An operation of a dictionary, defined without a parser: operands, and then an operator (Technical Note 5176, "DICT Data").
 use Rattle.std.specs.Prelude.{◌≡◌, ◌≢◌, ℕ, Bool, true, false, List, [], ◌∷◌, drop}
 use Rattle.postscript_base.specs.Tape.Outcome.{Got, Fault, Past, Reading, ◌>>=◌}
 use Rattle.postscript_base.specs.Refusal.{Refusal}

@@ -36,7 +36,7 @@ tables place = do
 unfoldable pub behind : ℕ → Header → Reading Tables
 behind start header = in_range (start + header.header_size) >>= tables
 
--- the parts of all dictionaries, one after the other
+-- the parts of all Top DICTs, one after the other
 unfoldable pub parts : Manner → ℕ → List Dictionary → Reading Columns
 parts manner start maps = each (part manner start) maps >>= λ ps. pure (columns ps)
 

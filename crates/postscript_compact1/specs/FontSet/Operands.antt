@@ -1,4 +1,4 @@
--- The operands of a dictionary for the layout of a font: integers, and offsets from the start of the font (Technical Note 5176, "Top DICT
+-- The operands of a dictionary that describe a font: integers, and offsets from the start of the font (Technical Note 5176, "Top DICT
 -- Data", "Private DICT Data").
 use Rattle.std.specs.Prelude.{ℕ, ◌+◌, ◌^◌, ℤ, pos, negsuc, ◌+ℤ◌, ◌==◌, nat_lt, Bool, false, Option, Some, None, if◌then◌else◌}
 use Rattle.std.specs.Option.{is_none}

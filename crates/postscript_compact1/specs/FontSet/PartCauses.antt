@@ -22,7 +22,7 @@ use Rattle.postscript_compact1.specs.declared.font_set.manner.Manner.{Manner}
 use Rattle.postscript_compact1.specs.FontSet.Font.{Part}
 use Rattle.postscript_compact1.specs.FontSet.Parts.{HasFirst, HasTwo, IsSlice, IsPlace, HasEncoding, HasCharStrings, HasCharSet, HasPrivate, IsLacking, IsPart}
 
--- the offset is past the end, or reading there fails
+-- the offset is past the end, or reading there fails with this error
 abbrev pub RefusedAt : {A : Type 0} → Error → Reading A → List ℕ → ℕ → Type 0
 RefusedAt e reading bytes place = ((length bytes < place) × (code e ≤ 2)) ⊎ ((place ≤ length bytes) × RefusedAs e (reading bytes place))
 
@@ -31,7 +31,7 @@ pub data NoFirst (e : Error) (map : Dictionary) (op : Operator) : Type 0 where
   Missing : first_of (look map op) ≡ None → refusal_of e ≡ OfMissing op → NoFirst e map op
   Malformed : (x : Decimal) → first_of (look map op) ≡ Some x → to_i32 x ≡ None → refusal_of e ≡ OfMalformed op → NoFirst e map op
 
--- an offset is negative, or the sum does not fit in 64 bits
+-- an offset is negative, or its sum with `start` does not fit in 64 bits
 abbrev pub NoPlace : Error → ℕ → ℤ → Type 0
 NoPlace e start offset = (refusal_of e ≡ out_of_range_offset) × ((n : ℕ) → offset ≡ pos n → IsPlace (start + n) → ⊥)
 

@@ -67,7 +67,7 @@ kind HStemHM = DeclaresStems (groups 2)
 -- x dx {dxa dxb}*
 kind VStem = DeclaresStems (groups 2)
 kind VStemHM = DeclaresStems (groups 2)
--- no operands: operands on the stack are stems that no operator declared
+-- none: operands on the stack are stems that no operator declared
 kind HintMask = Masks (exactly 0)
 kind CntrMask = Masks (exactly 0)
 kind CallSubr = CallsFrom (λ lists. lists.local)
@@ -107,6 +107,6 @@ lengths GoesBack n = false
 lengths EndsGlyph n = false
 lengths (IsRefused part) n = false
 
--- the number of operands, out of n, that an operator takes
+-- the greatest number of operands, out of n, that an operator may take
 abbrev pub taken : Operator → ℕ → Option ℕ
 taken op n = greatest (lengths (kind op)) n

@@ -57,8 +57,7 @@ pub data Stride : Type 0 where
 abbrev pub said : Operator → (more : ℕ) → List ℕ → Phrase
 said op more bytes = record { operator = op; bytes = take (more + 1) bytes }
 
--- the operation of an operator; `bytes` are the bytes of the phrase, whose operator ends after the first byte and `more` others, and of its
--- mask
+-- the operation of an operator; `bytes` are the phrase and its mask, which follows the first byte and `more` others
 abbrev pub answered : Operator → (taken pairs : List ℤ) → (more : ℕ) → List ℕ → (width : Option ℤ) → Answer
 answered op taken pairs more bytes width =
     record { operator = op; operands = taken; hints = record { stems = pairs; mask = drop (more + 1) bytes }; width = width }

@@ -10,7 +10,7 @@ use Rattle.postscript_type2.specs.Number.{whole}
 abbrev pub is_one_below : ℤ → ℤ → Bool
 is_one_below x y = if int_lt x (pos 0) then not (int_lt y (pos 0)) else int_lt y (pos 0)
 
--- the quotient, rounded towards zero: the whole part of |x| / |y|, which is negative if exactly one of the two is
+-- the quotient, rounded towards zero: |x| / |y| rounded down, and negative if exactly one of the two is
 abbrev pub cut : ℤ → ℤ → ℤ
 cut x y =
     let whole_part = pos (nat_abs x / nat_abs y) in

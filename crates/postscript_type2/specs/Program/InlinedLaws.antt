@@ -21,7 +21,7 @@ abbrev pub InlinedTextKeepsMeaning : Type 0
 InlinedTextKeepsMeaning = (lists other : Lists) (code : List ℕ) → fault_of (run_of lists code).end ≡ None →
     KeepsMeaning other (inlined_text (run_of lists code).trace) (run_of lists code)
 
--- A law: the phrases of the run of that text are the inlined ones.
+-- A law: if a run ends without a fault, the run of its inlined text has exactly the inlined phrases, over any lists.
 abbrev pub InlinedRunIsInlined : Type 0
 InlinedRunIsInlined = (lists other : Lists) (code : List ℕ) → fault_of (run_of lists code).end ≡ None →
     (run_of other (inlined_text (run_of lists code).trace)).trace ≡ inlined (run_of lists code).trace

@@ -52,7 +52,7 @@ pub data Means (lists : Lists) : (depth : ℕ) → (rest : List ℕ) → State �
       Moves lists st phrase numbers op behind (Keeps stack stored) →
       Means lists depth behind (holding stack stored st) answers trace end →
       Means lists depth (phrase ++ behind) st answers (by op phrase ∷ trace) end
-  -- the operator clears the stack and is an operation, the bytes of a mask belong to it, and the run continues after them
+  -- the operator clears the stack and is an operation of the run, the bytes of a mask belong to it, and the run continues after them
   clears : (depth : ℕ) (phrase mask behind : List ℕ) (numbers : List ℤ) (op : Operator) (st : State)
       (taken pairs : List ℤ) (stems : ℕ) (width : Option ℤ) (answers : List Answer) (trace : List Phrase) (end : End) →
       Moves lists st phrase numbers op (mask ++ behind) (Clears taken pairs stems width (length mask)) →

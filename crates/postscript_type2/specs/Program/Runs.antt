@@ -59,8 +59,7 @@ abbrev pub last_width : Option ℤ → List Answer → Option ℤ
 last_width width [] = width
 last_width width (answer ∷ answers) = last_width answer.width answers
 
--- the width at this end, after these operations and with this width before them: `endchar` sets it, otherwise it is the width after the
--- operations
+-- The width at this end. `endchar` sets it. Otherwise it is the width after these operations, or `width` if there are none.
 abbrev pub width_by : Option ℤ → List Answer → End → Option ℤ
 width_by width answers (Finished taken last) = last
 width_by width answers end = last_width width answers

@@ -67,7 +67,7 @@ pops Exch = 2
 pops IfElse = 4
 pops op = 0
 
--- an operator for which the operand on top is a number that selects or counts others
+-- an operator whose top operand is a number that selects or counts others
 pub data NamesByTop : Operator → Type 0 where
   index_names : NamesByTop Index
   roll_names : NamesByTop Roll
