@@ -3,8 +3,8 @@ use Rattle.std.specs.Prelude.{ℕ}
 use Rattle.postscript_base.specs.declared.compact1.operator.Operator.{Operator}
 use Rattle.postscript_base.specs.declared.error.Part.{Part}
 
--- An error in contracts, `Refusal`: only a number; or the unsupported part of the formats, or the operator of a dictionary that has
--- malformed operands or is missing.
+-- An error in contracts. It is only a number (Numbered), or the unsupported part of the formats (OfPart), or the operator of a dictionary
+-- that has malformed operands (OfMalformed) or is missing (OfMissing).
 pub data Refusal : Type 0 where
   Numbered : ℕ → Refusal
   OfPart : Part → Refusal

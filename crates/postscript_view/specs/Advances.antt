@@ -43,8 +43,8 @@ TellsAdvance advance end (Known found) = (advance ≡ Some found) × (fault_of e
 TellsAdvance advance end Unknown = (advance ≡ None) × (fault_of end ≡ None)
 TellsAdvance advance end TooLong = Unit {0}
 
--- How a limit is spent on the phrases of a run: on all of them if the run ends, or on those before the phrase at which it fails, unless
--- memory runs out. If the limit is used up, nothing is left of it.
+-- How a limit is spent on the phrases of a run. If the run ends, it is spent on all of them. If the run fails, it is spent on those before
+-- the phrase at which it fails, unless memory runs out. If the limit is used up, nothing is left of it.
 abbrev pub PaysPhrases : List Phrase → (limit : ℕ) → Result AdvanceWithin Error → (left : ℕ) → Type 0
 PaysPhrases phrases limit (Ok (Known advance)) left = Spends limit phrases left []
 PaysPhrases phrases limit (Ok Unknown) left = Spends limit phrases left []

@@ -45,8 +45,8 @@ after_call inner behind go UsedUp = at_end UsedUp
 after_call inner behind go (Fault e) = at_end (Fault e)
 after_call inner behind go (Finished taken width) = at_end (finish inner behind taken width)
 
--- What a phrase does: the run goes on, goes into a routine, back to the caller, is over, or fails. more: the number of bytes of the phrase
--- after its first one, including the bytes of a mask.
+-- What a phrase does: the run goes on, goes into a routine, back to the caller, is over, or fails.
+-- more: the number of bytes of the phrase after its first one, including the bytes of a mask.
 pub data Stride : Type 0 where
   On : Phrase → Option Answer → State → (more : ℕ) → Stride
   Into : Phrase → (routine : List ℕ) → State → (more : ℕ) → Stride

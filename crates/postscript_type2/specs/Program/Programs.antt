@@ -1,4 +1,4 @@
--- The run that a program has left, as its callers see it.
+-- The remaining run of a program, as its callers see it.
 use Rattle.std.specs.Prelude.{◌≡◌, ◌⊎◌, Bool, true, false, ℤ, List, [], ◌∷◌, Option, Some, None, Result, Ok, Err, Vec, if◌then◌else◌}
 use Rattle.std.specs.declared.alloc.Global.{Global}
 use Rattle.postscript_base.specs.declared.error.Error.{Error}
@@ -7,7 +7,7 @@ use Rattle.postscript_base.specs.RefusalOf.{refusal_of}
 use Rattle.postscript_type2.specs.declared.operation.Operator.{Operator}
 use Rattle.postscript_type2.specs.Program.Runs.{Answer, Hints, Phrase, End, UsedUp, Returned, Finished, Fault, Run, taken_by}
 
--- the operations left, the phrases left, the end after them, the width so far, and whether the end has been returned
+-- the remaining operations and phrases, the end after them, the width so far, and whether the end has been returned
 pub record Pending : Type 0 where
   pub answers : List Answer
   pub trace : List Phrase
@@ -42,9 +42,9 @@ IsLastWidth (Fault e) width new = ⊥
 abbrev pub told_at_end : Pending → List ℤ
 told_at_end pending = if pending.is_told then taken_by pending.end else []
 
--- The first operation left is returned, with its width, and the rest is left. If none is left, None is returned at an end without a fault,
--- and the operands of `endchar` are kept. At a fault the error is returned, and the width is unchanged. Running out of memory may be the
--- error at any time. The hints of a mask are not returned.
+-- The first remaining operation is returned with its width, and the rest remains. If there is none, None is returned at an end without a
+-- fault, and the operands of `endchar` are kept. At a fault the error is returned, and the width is unchanged. Running out of memory may be
+-- the error at any time. The hints of a mask are not returned.
 abbrev pub Next : Pending → Result (Option (Operator × Vec ℤ Global)) Error → Pending → Type 0
 Next old (Ok (Some operation)) new =
     ((hints : Hints) × (old.answers ≡ record { operator = operation.0; operands = operation.1.items; hints = hints; width = new.width }

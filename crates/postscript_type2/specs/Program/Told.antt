@@ -27,7 +27,7 @@ abbrev pub within_of : Result Told Error → Result Within Error
 within_of (Ok answer) = Ok (less answer)
 within_of (Err e) = Err e
 
--- the phrase of an operation is among the phrases left, and those after it remain
+-- the phrase of an operation is one of the remaining phrases, and those after it remain
 abbrev pub TellsPhraseOf : Pending → Result Told Error → Pending → Type 0
 TellsPhraseOf old (Ok (told.Operation operator operands hints phrase)) new = ComesTo old.trace (by operator phrase.now) new.trace
 TellsPhraseOf old answer new = Unit {0}
@@ -41,7 +41,7 @@ LendsTold program limit result left = Rests (the_row (record { mir = named 0; lf
 abbrev pub HeadHas : List Answer → Hints → Type 0
 HeadHas answers hints = (answer : Answer) × (rest : List Answer) × (answers ≡ answer ∷ rest) × (answer.hints ≡ hints)
 
--- the hints of an operation are in the first operation left
+-- the hints of an operation are in the first remaining operation
 abbrev pub TellsHintsOf : Pending → Result Told Error → Type 0
 TellsHintsOf old (Ok (told.Operation operator operands hints phrase)) =
     HeadHas old.answers (record { stems = hints.stems.now; mask = hints.mask.now })
