@@ -15,7 +15,7 @@ use Rattle.postscript_base.specs.Index.{number_at, opened, IsOpened}
 use Rattle.postscript_view.specs.Layout.{NamesIndex, AreTables, AreCharStrings, IsPart}
 use Rattle.postscript_view.specs.Contents.{Tables, PrivateDict}
 
--- opening an INDEX at an offset fails with this error
+-- opening an INDEX at an offset fails with this error, for a reason that `IsNotOpened` of postscript_base names
 abbrev pub NoIndex : Error → List ℕ → (place : ℕ) → Type 0
 NoIndex e bytes place = RefusedAs e (opened bytes place)
 
