@@ -7,7 +7,7 @@ use Rattle.postscript_sfnt_write.specs.declared.error.Error.{Error}
 use Rattle.postscript_sfnt_write.specs.declared.error.Error.TheVariants.{Cut, Memory}
 use Rattle.postscript_sfnt_write.specs.declared.metrics.Metric.{Metric}
 
--- the metric of that glyph
+-- the metric of a glyph
 abbrev pub IsMetric : List Metric → (glyph : ℕ) → Metric → Type 0
 IsMetric metrics glyph metric = slice_get metrics glyph ≡ Some metric
 
@@ -21,16 +21,16 @@ TellsAdvances hmtx metrics = (hhea : List ℕ) (n : ℕ) (advances : Advances) �
     AreAdvancesOf hhea hmtx advances →
     (glyph : ℕ) (metric : Metric) → glyph < n → IsMetric metrics glyph metric → advance_in advances glyph ≡ metric.advance
 
--- the left side bearing of each glyph stands behind its advance
+-- the left side bearing of each glyph is after its advance
 abbrev pub TellsBearings : (hmtx : List ℕ) → List Metric → Type 0
 TellsBearings hmtx metrics = (glyph : ℕ) (metric : Metric) → IsMetric metrics glyph metric → signed hmtx (glyph * 4 + 2) ≡ metric.bearing
 
--- a table as it was but for two bytes at a place
+-- the table is unchanged, except for two bytes at an offset
 pub record KeepsBut (place : ℕ) (old new : List ℕ) : Type 0 where
   pub size : length new ≡ length old
   pub before : take place new ≡ take place old
   pub behind : drop (place + 2) new ≡ drop (place + 2) old
 
--- A table of less than so many bytes is cut; the other refusal is that of memory.
+-- `Cut` means that the table has fewer than `size` bytes. The only other error is `Memory`.
 abbrev pub IsCutBelow : (size : ℕ) → (table : List ℕ) → Error → Type 0
 IsCutBelow size table e = (e ≡ Memory) ⊎ ((e ≡ Cut) × (length table < size))
