@@ -1,4 +1,4 @@
--- DICTs of an opened font that have the offset 0, where the header is.
+-- DICTs of an opened font that give something the offset 0, where the header is.
 use Rattle.std.specs.Prelude.{◌≡◌, ℕ, ℤ, pos, ◌+ℤ◌, List, slice_get, Option, Some, None}
 use Rattle.postscript_base.specs.Compact1.Dictionary.{Dictionary}
 use Rattle.postscript_base.specs.declared.compact1.operator.Operator.TheVariants as operators

@@ -56,8 +56,7 @@ pub record TellsAxisIn (axes : Axes) (i : ℕ) (status : ℤ) (old new : AxisTol
       ((status ≡ pos 0) × (i < axis_count axes) × (new.axis ≡ shown (axis_at (bytes_of axes) (axis_place axes i))))
       ⊎ ((status ≡ pos 51) × (axis_count axes ≤ i) × (new.axis ≡ old.axis))
 
--- An axis of a face is stored. On 36 the face has no `fvar` table, and any other status is an error of this table. In both cases all
--- outputs are unchanged.
+-- The result for an axis of a face. If the face has no `fvar` table (36), or the table is rejected, all outputs are unchanged.
 abbrev pub TellsAxisOf : FontFile → (i : ℕ) (status : ℤ) (old new : AxisTold) → Type 0
 TellsAxisOf file i status old new =
     ((axes : Axes) × HasAxes file (Some axes) × TellsAxisIn axes i status old new)

@@ -14,12 +14,13 @@ row pair = record { character = pair.0; glyph = pair.1 }
 abbrev pub HasRows : CharacterMap → List PsfCharacter → Type 0
 HasRows chosen rows = (all : List (ℕ × ℕ)) × AreAll chosen 0 all × (rows ≡ map row all)
 
--- the characters of the map of the best record are stored
+-- the characters of the map of the best record are copied to the buffer, as `HandsOver` says
 abbrev pub HandsCharacters : (cmap : List ℕ) → (status : ℤ) → (old new : Lent PsfCharacter) → Type 0
 HandsCharacters cmap status old new =
     (chosen : CharacterMap) × HasMap cmap chosen × ((rows : List PsfCharacter) × HasRows chosen rows × HandsOver rows status old new)
 
--- The characters are stored. Otherwise there is no map, or no memory, and all outputs are unchanged.
+-- On 0 the characters are stored, and on 32 only their number. Otherwise there is no map (37), or no memory (3), and all outputs are
+-- unchanged.
 abbrev pub TellsCharacters : (cmap : List ℕ) → (status : ℤ) → (old new : Lent PsfCharacter) → Type 0
 TellsCharacters cmap status old new =
     HandsCharacters cmap status old new ⊎ (((status ≡ pos 37) × LacksMap cmap × (new ≡ old)) ⊎ ((status ≡ pos 3) × (new ≡ old)))

@@ -57,7 +57,7 @@ HasMap cmap map = (i : ℕ) × IsChosen cmap i × IsMapAt cmap (place_at cmap i)
 abbrev pub LacksMap : (cmap : List ℕ) → Type 0
 LacksMap cmap = (i : ℕ) → IsChosen cmap i → IsWhole (drop (place_at cmap i) cmap) → ⊥
 
--- The glyph of a character is stored, or 0 if it has none. Otherwise there is no map, and the output is unchanged.
+-- The glyph of a character is stored, or 0 if it has none. Otherwise there is no map (37), and the output is unchanged.
 abbrev pub TellsGlyph : (cmap : List ℕ) → (character : ℕ) → (status : ℤ) → (old glyph : ℕ) → Type 0
 TellsGlyph cmap character status old glyph =
     ((status ≡ pos 0) × (map : CharacterMap) × HasMap cmap map × Maps map character glyph)

@@ -14,7 +14,8 @@ use Rattle.postscript_c.specs.declared.part.PsfPart.{PsfPart}
 abbrev pub flat_shown : Flat → List ℕ
 flat_shown flat = flat.code.items
 
--- The flat code is stored. Otherwise there is no such glyph, or the status is an error's, and all outputs are unchanged.
+-- On 0 the flat code is stored, and on 32 only its length. Otherwise there is no such glyph (31), or the status is an error's, and all
+-- outputs are unchanged.
 abbrev pub TellsFlat : Result (Option Flat) Error → (status : ℤ) → (old new : Lent ℕ) → Type 0
 TellsFlat (Ok (Some flat)) status old new = HandsOver (flat_shown flat) status old new
 TellsFlat (Ok None) status old new = (status ≡ pos 31) × (new ≡ old)

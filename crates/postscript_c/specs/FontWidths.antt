@@ -15,7 +15,7 @@ use Rattle.postscript_view.specs.Order.{aside, header_size}
 abbrev pub HaveWidths : List ℕ → Dictionary → PsfPart → Type 0
 HaveWidths bytes map part = look map operators.ROS ≡ None → AreWidths bytes map part.default_width part.nominal_width
 
--- the widths of the first font, and whether it is CID-keyed, follow from its Top DICT
+-- the widths of the first font, and whether it is CID-keyed, agree with its Top DICT
 pub record TellsWidths (bytes : List ℕ) (font : PsfFont) : Type 0 where
   pub size : ℕ
   pub map : Dictionary

@@ -22,7 +22,8 @@ AreFrom set glyph (told ∷ rest) = IsIdentifier set glyph told × AreFrom set (
 abbrev pub AreIdentifiers : CharSetView → (glyphs : ℕ) → List ℤ → Type 0
 AreIdentifiers set glyphs all = (length all ≡ glyphs) × AreFrom set 0 all
 
--- The SIDs or CIDs of all glyphs of a font are stored. Otherwise it has no charset, or there is no memory, and all outputs are unchanged.
+-- On 0 the SIDs or CIDs of all glyphs of a font are stored, and on 32 only their number. Otherwise the font has no charset, or there is no
+-- memory (3), and all outputs are unchanged.
 abbrev pub TellsIdentifiersIn : List ℕ → View → (status : ℤ) → (old new : Lent ℤ) → Type 0
 TellsIdentifiersIn bytes view status old new =
     ((set : CharSetView) × (all : List ℤ) × IsSetOf bytes view set × AreIdentifiers set (length view.char_strings) all
@@ -32,7 +33,7 @@ TellsIdentifiersIn bytes view status old new =
 abbrev pub TellsIdentifiers : List ℕ → (status : ℤ) → (old new : Lent ℤ) → Type 0
 TellsIdentifiers bytes status old new = TellsOfFirst bytes (λ view. TellsIdentifiersIn bytes view status old new) status (new ≡ old)
 
--- the string with an SID is stored, or the font has no such string
+-- On 0 the string with an SID is stored, and on 32 only its length. Otherwise the font has no such string (38).
 abbrev pub TellsStringIn : View → (identifier : ℕ) → (status : ℤ) → (old new : Lent ℕ) → Type 0
 TellsStringIn view identifier status old new =
     ((string : List ℕ) × (string_of view.tables.strings identifier ≡ Some string) × HandsOver string status old new)

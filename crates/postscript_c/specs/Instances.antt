@@ -34,7 +34,8 @@ pub record InstanceRoom : Type 0 where
 abbrev pub instance_room : PsfInstance → List ℤ → ℕ → InstanceRoom
 instance_room instance room count = record { instance = instance; room = room; count = count }
 
--- The instance is stored, and its coordinates are copied to the buffer.
+-- The instance and the number of its coordinates are stored. On 0 the coordinates are stored too, and on 32 they do not fit into the
+-- buffer.
 pub record HandsInstance (axes : Axes) (i : ℕ) (status : ℤ) (old new : InstanceRoom) : Type 0 where
   pub instance : Instance
   pub coordinates : List ℤ
@@ -44,14 +45,13 @@ pub record HandsInstance (axes : Axes) (i : ℕ) (status : ℤ) (old new : Insta
   pub are : AreCoordinatesOf axes i (axis_count axes) coordinates
   pub handed : HandsOver coordinates status (lent old.room old.count) (lent new.room new.count)
 
--- The instance is stored. Otherwise there are too few instances (52), or there is no memory, and all outputs are unchanged.
+-- The instance is stored. Otherwise there are too few instances (52), or there is no memory (3), and all outputs are unchanged.
 abbrev pub TellsInstanceIn : Axes → (i : ℕ) (status : ℤ) (old new : InstanceRoom) → Type 0
 TellsInstanceIn axes i status old new =
     HandsInstance axes i status old new
     ⊎ (((status ≡ pos 52) × (instance_count axes ≤ i) × (new ≡ old)) ⊎ ((status ≡ pos 3) × (new ≡ old)))
 
--- An instance of a face is stored. On 36 the face has no `fvar` table, or the status is an error of this table. Then all outputs are
--- unchanged.
+-- The result for an instance of a face. If the face has no `fvar` table (36), or the table is rejected, all outputs are unchanged.
 abbrev pub TellsInstanceOf : FontFile → (i : ℕ) (status : ℤ) (old new : InstanceRoom) → Type 0
 TellsInstanceOf file i status old new =
     ((axes : Axes) × HasAxes file (Some axes) × TellsInstanceIn axes i status old new)

@@ -14,7 +14,7 @@ IsPlaceOrNone map operator place =
     (place_at 0 0 map operator [] 0 ≡ Got place 0) ⊎ (((there next : ℕ) → place_at 0 0 map operator [] 0 ≡ Got there next → ⊥)
     × (place ≡ 0))
 
--- A font is CID-keyed if its Top DICT has ROS. Only then both offsets are set.
+-- A font is CID-keyed if its Top DICT has ROS. Otherwise both offsets are 0.
 abbrev pub IsKeyedBy : Dictionary → PsfFont → Type 0
 IsKeyedBy map font =
     ((look map operators.ROS ≡ None) × (font.is_cid ≡ 0) × (font.font_dictionaries ≡ 0) × (font.fd_select ≡ 0))

@@ -51,7 +51,8 @@ pub record HandsOperations (listed : Listed) (status : ℤ) (old new : Rooms) : 
   pub operands_counted : new.operand_count ≡ length listed.operands.items
   pub handed : Handed listed status old new ⊎ Lacking status old new
 
--- The operations are stored. Otherwise there is no such glyph, or the status is an error's, and all outputs are unchanged.
+-- On 0 the operations are stored, and on 32 only their numbers. Otherwise there is no such glyph (31), or the status is an error's, and all
+-- outputs are unchanged.
 abbrev pub TellsOperations : Result (Option Listed) Error → (status : ℤ) → (old new : Rooms) → Type 0
 TellsOperations (Ok (Some listed)) status old new = HandsOperations listed status old new
 TellsOperations (Ok None) status old new = (status ≡ pos 31) × (new ≡ old)

@@ -16,12 +16,12 @@ use Rattle.postscript_view.specs.declared.char_set.CharSetView.{CharSetView}
 abbrev pub IsSetOf : List ℕ → View → CharSetView → Type 0
 IsSetOf bytes view set = IsCharSetOf set bytes view.tables.dictionary (length view.char_strings)
 
--- the font has no charset, for a cause that holds, and the status is the one of this error
+-- The font has no charset, and the status belongs to an error whose cause holds.
 abbrev pub LacksSet : List ℕ → View → (status : ℤ) → Type 0
 LacksSet bytes view status = (e : Error) × (status ≡ pos (code e)) × NoCharSet e bytes view.tables.dictionary (length view.char_strings)
     × ((set : CharSetView) → IsSetOf bytes view set → ⊥)
 
--- no font is opened in the bytes, and the status is the one of the error, which may be `Memory`
+-- no font is opened in the bytes, and the status belongs to the error, which may be `Memory`
 abbrev pub LacksFont : List ℕ → (status : ℤ) → Type 0
 LacksFont bytes status = (e : Error) × (status ≡ pos (code e)) × (e ≢ Memory → RefusedAs e (view bytes 0))
 
@@ -29,7 +29,8 @@ LacksFont bytes status = (e : Error) × (status ≡ pos (code e)) × (e ≢ Memo
 abbrev pub TellsOfFirst : List ℕ → (View → Type 0) → (status : ℤ) → (same : Type 0) → Type 0
 TellsOfFirst bytes tells status same = ((v : View) × (next : ℕ) × (view bytes 0 ≡ Got v next) × tells v) ⊎ (LacksFont bytes status × same)
 
--- The name of a glyph of a font is stored. Otherwise the glyph has none, as all glyphs of a CID-keyed font, or the font has no charset.
+-- On 0 the name of a glyph is stored, and on 32 only its length. Otherwise the glyph has no name (38), as in every CID-keyed font, or the
+-- font has no charset.
 abbrev pub TellsNameIn : List ℕ → View → (glyph : ℕ) → (status : ℤ) → (old new : Lent ℕ) → Type 0
 TellsNameIn bytes view glyph status old new =
     ((set : CharSetView) × (name : List ℕ) × IsSetOf bytes view set × HasName view set glyph name × HandsOver name status old new)
@@ -40,7 +41,7 @@ TellsNameIn bytes view glyph status old new =
 abbrev pub TellsName : List ℕ → (glyph : ℕ) → (status : ℤ) → (old new : Lent ℕ) → Type 0
 TellsName bytes glyph status old new = TellsOfFirst bytes (λ view. TellsNameIn bytes view glyph status old new) status (new ≡ old)
 
--- The first glyph of a font with this name is stored. Otherwise no glyph has the name, or the font has no charset.
+-- On 0 the first glyph of a font with this name is stored. Otherwise no glyph has the name (31), or the font has no charset.
 abbrev pub TellsNamedIn : List ℕ → View → (name : List ℕ) → (status : ℤ) → (old new : ℕ) → Type 0
 TellsNamedIn bytes view name status old new =
     ((set : CharSetView) × IsSetOf bytes view set × (status ≡ pos 0) × IsFirstWithName view set name new)

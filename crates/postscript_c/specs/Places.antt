@@ -37,7 +37,7 @@ own_part map = do
 unfoldable pub part : Dictionary → Reading ℕ
 part map = if is_none (first_two_of (look map operators.Private)) then pure 0 else own_part map
 
--- a CID-keyed font has none itself
+-- the offset of the local subroutines of a font, or 0 if it is CID-keyed
 unfoldable pub local : Dictionary → Reading ℕ
 local map = if is_none (look map operators.ROS) then part map else pure 0
 
@@ -63,7 +63,7 @@ placed font = record {
   glyphs = font.glyphs;
 }
 
--- the offsets in a Top DICT, with the offset of the global subroutines
+-- the offsets of the parts, by a Top DICT and the offset of the global subroutines
 unfoldable pub places_of : Dictionary → ℕ → Reading Places
 places_of map global = do
   codes ← codes map

@@ -16,7 +16,7 @@ DrawsSame bytes font view glyph =
     (told : PsfPart) (segments : List Segment) (width : Option ℤ) → IsPartIn bytes font glyph told
     → IsDrawnOver bytes font told glyph segments width → IsDrawnAs view glyph segments width
 
--- A law. This holds for each glyph of a font for C, if the same bytes begin with a FontView whose DICTs do not have the offset 0.
+-- A law. This holds for each glyph of a font for C, if the same bytes begin with a FontView whose DICTs give nothing the offset 0.
 abbrev pub DrawsInPlace : Type 0
 DrawsInPlace = (bytes : List ℕ) (font : PsfFont) (view : FontView) (glyph : ℕ) → AreNumbersOf bytes font → IsFirst bytes view
     → NamesNoStart view → DrawsSame bytes font view glyph

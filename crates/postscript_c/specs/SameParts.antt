@@ -98,7 +98,7 @@ abbrev pub TellsParts : Type 0
 TellsParts = (bytes : List ℕ) (font : PsfFont) (view : FontView) (glyph : ℕ) → AreNumbersOf bytes font → IsFirst bytes view
     → TellsPart bytes font view glyph
 
--- A law. If, in addition, nothing has the offset 0, C and the FontView have the same parts.
+-- A law. If, in addition, the DICTs give nothing the offset 0, C and the FontView have the same parts.
 abbrev pub KeepsParts : Type 0
 KeepsParts = (bytes : List ℕ) (font : PsfFont) (view : FontView) (glyph : ℕ) → AreNumbersOf bytes font → IsFirst bytes view
     → NamesNoStart view → SamePart bytes font view glyph

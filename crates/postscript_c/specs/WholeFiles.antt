@@ -45,7 +45,7 @@ whole_refusal Overlap = refusal 0 (pos 0)
 whole_refusal Cut = refusal 0 (pos 0)
 whole_refusal TooLarge = refusal 0 (pos 0)
 
--- The file is written to the buffer, or an error sets the details. The other outputs are unchanged.
+-- On 0 the file is stored, and on 32 only its size. An error sets the details. The other outputs are unchanged.
 abbrev pub TellsFile : Result (Vec ℕ Global) Error → (status : ℤ) → (old new : Lent ℕ) → (was told : PsfRefusal) → Type 0
 TellsFile (Ok file) status old new was told = HandsOver file.items status old new × (told ≡ was)
 TellsFile (Err e) status old new was told = (status ≡ pos (whole_code e)) × (told ≡ whole_refusal e) × (new ≡ old)

@@ -51,8 +51,8 @@ refusal_of SeveralFonts = refusal 0 (pos 0)
 refusal_of NoGlyphs = refusal 0 (pos 0)
 refusal_of TooLarge = refusal 0 (pos 0)
 
--- The font is stored. Otherwise the status is an error's, and the glyph and the cause of the error are stored. The other outputs are
--- unchanged.
+-- On 0 the font is stored, and on 32 only its size. Otherwise the status is an error's, and the glyph and the cause of the error are
+-- stored. The other outputs are unchanged.
 abbrev pub TellsWritten : Result (Vec ℕ Global) Error → (status : ℤ) → (old new : Lent ℕ) → (was told : PsfRefusal) → Type 0
 TellsWritten (Ok flat) status old new was told = HandsOver flat.items status old new × (told ≡ was)
 TellsWritten (Err e) status old new was told = (status ≡ pos (written_code e)) × (told ≡ refusal_of e) × (new ≡ old)
@@ -65,8 +65,9 @@ TellsWithin bytes limit status IsAnswer old new was told =
     (FirstFits bytes limit × ((answer : Result (Vec ℕ Global) Error) × IsAnswer answer × TellsWritten answer status old new was told))
     ⊎ (((left : ℕ) × TellsFits bytes limit status left) × (status ≢ pos 0) × (told ≡ refusal 0 (pos 0)) × (new ≡ old))
 
--- A written font has no bytes outside its parts. No operator occurs twice in its Top DICT or in a Font DICT, and ROS is first. FDSelect and
--- charstrings are within the limits of readers. The font is not too large, and is read leniently if its source is.
+-- A written font has no bytes outside its parts. No operator occurs twice in its Top DICT or in a Font DICT, and ROS is first. FDSelect
+-- gives each glyph one of its Font DICTs, and no charstring has more than 65,535 bytes. The font is not too large, and is read leniently if
+-- its source is. The source has exactly one font.
 pub record IsSound (bytes flat : List ℕ) : Type 0 where
   pub whole : IsWholeFont flat
   pub once : TellsOnce flat

@@ -24,10 +24,10 @@ covers glyphs = number 1
 abbrev pub is_covered : ℕ → Bool
 is_covered glyphs = glyphs == 0
 
--- a text of a given size
+-- a text of a given size, which is at most `longest`
 abbrev pub text_of : ℕ → ℕ → Reading (List ℕ)
 text_of longest size = if nat_lt longest size then fault malformed_offset else slice size
 
--- the size of a Private DICT; it is an error if it is 0
+-- the size of a Private DICT, where 0 is an error
 abbrev pub private_size : Reading ℕ
 private_size = number 2 >>= λ size. if size == 0 then fault (OfMissing Private) else pure size

@@ -42,7 +42,7 @@ HasNoOperand advances glyph (errors.Advance number) = (number ≡ glyph) × (adv
 HasNoOperand advances glyph errors.TooLarge = 65536 ≤ glyph
 HasNoOperand advances glyph e = ⊥
 
--- One of the advances cannot be a width, and it is the first one. Otherwise there are more than 65,536 glyphs, or memory runs out.
+-- Why there are no advances: the first one that cannot be a width, more than 65,536 glyphs, or out of memory.
 abbrev pub LacksRoom : AdvancesAt → (count : ℕ) → Error → Type 0
 LacksRoom advances count (errors.Advance glyph) = (glyph < count) × HasNoOperand advances glyph (errors.Advance glyph)
     × ((before : List ℤ) × AreAdvancesAt advances glyph before)

@@ -64,7 +64,7 @@ pub record IsNearest (bits units : ℤ) : Type 0 where
 abbrev pub NearestIsNearest : Type 0
 NearestIsNearest = (bits : ℤ) → IsNearest bits (nearest bits)
 
--- the segments that a run draws from the origin, and the width at its end
+-- the run draws these segments from the origin, and ends with this width
 pub record Drawn (width : Option ℤ) (wanted : List Segment) (run : Run) : Type 0 where
   pub segments : outlined run.answers run.end ≡ Ok wanted
   pub end : run.end ≡ Finished [] width

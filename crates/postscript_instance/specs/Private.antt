@@ -26,7 +26,7 @@ pub record IsWritten (width : Option ℤ) (says : List Phrase) (old new : List �
   pub text : new ≡ old ++ code_text width written
   pub held : AreHeldIn width written
 
--- an operator that cannot be split has at most as much before it as fits on a stack, and some such operator has more
+-- an operator can be split, or the numbers before it fit on a stack
 abbrev pub IsHeldOrCut : Option ℤ → Phrase → Type 0
 IsHeldOrCut width x = (is_cut x.operator ≡ true) ⊎ (length (numbers_of width x) ≤ stack_limit)
 
@@ -34,6 +34,7 @@ abbrev pub AreHeldOrCut : Option ℤ → List Phrase → Type 0
 AreHeldOrCut width [] = Unit {0}
 AreHeldOrCut width (x ∷ xs) = IsHeldOrCut width x × AreHeldOrCut None xs
 
+-- some operator that cannot be split has more numbers before it than fit on a stack
 pub data HasMoreUncut : Option ℤ → List Phrase → Type 0 where
   here : (width : Option ℤ) (x : Phrase) (xs : List Phrase) → is_cut x.operator ≡ false → stack_limit < length (numbers_of width x) →
       HasMoreUncut width (x ∷ xs)

@@ -15,7 +15,7 @@ name_left left = left.name
 abbrev pub bytes_left : NameChars → ℕ
 bytes_left left = length (bytes_of left.name)
 
--- the least number of bytes of a character
+-- the least size of a character in bytes
 abbrev pub least : Name → ℕ
 least (Utf16 bytes) = 2
 least (MacRoman bytes) = 1

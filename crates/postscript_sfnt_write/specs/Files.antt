@@ -28,8 +28,7 @@ pub record IsRecordOf (bytes : List ℕ) (i : ℕ) (table : Table) : Type 0 wher
 abbrev pub AreListed : (bytes : List ℕ) → List Table → Type 0
 AreListed bytes tables = (i : ℕ) (table : Table) → IsGiven tables i table → IsRecordOf bytes i table
 
--- The face has these tables and no others, in order. Its table with a given tag has the given bytes, apart from the checkSumAdjustment in
--- `head`.
+-- The face has these tables and no others, in order. The table with a tag has the given bytes, apart from the checkSumAdjustment in `head`.
 pub record HasTables (face : FontFile) (tables : List Table) : Type 0 where
   pub counted : tables_of face ≡ length tables
   pub tag : (i : ℕ) (table : Table) → IsGiven tables i table → tag_of face i ≡ table.tag

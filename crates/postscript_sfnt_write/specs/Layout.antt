@@ -63,7 +63,7 @@ pub record IsWritten (tables : List Table) (bytes : List ℕ) : Type 0 where
       ≡ ((0xb1b0afba + 2 ^ 32 - checksum (directory_text selector tables)) % 2 ^ 32 + 2 ^ 32 - checksums tables % 2 ^ 32) % 2 ^ 32
   pub text : bytes ≡ directory_text selector tables ++ tables_text adjustment tables
 
--- metrics
+-- the bytes of metrics
 unfoldable pub metric_text : Metric → List ℕ
 metric_text metric = uint16 metric.advance ++ uint16 (cast_unsigned w16 metric.bearing)
 
@@ -71,7 +71,7 @@ unfoldable pub metrics_text : List Metric → List ℕ
 metrics_text [] = []
 metrics_text (metric ∷ metrics) = metric_text metric ++ metrics_text metrics
 
--- numbers of 16 bits
+-- the numbers of metrics fit into 16 bits
 pub record MetricFits (metric : Metric) : Type 0 where
   pub advance : metric.advance < 2 ^ 16
   pub small : cast_unsigned w16 metric.bearing < 2 ^ 16

@@ -11,11 +11,12 @@ use Rattle.postscript_sfnt_write.specs.declared.metrics.Metric.{Metric}
 abbrev pub IsMetric : List Metric → (glyph : ℕ) → Metric → Type 0
 IsMetric metrics glyph metric = slice_get metrics glyph ≡ Some metric
 
--- An `hhea` table whose number of metrics is not 0 and not greater than the number here reads the table.
+-- The table can be read with each `hhea` table whose number of metrics is not 0 and at most the number here.
 abbrev pub CanBeRead : (hmtx : List ℕ) → List Metric → Type 0
 CanBeRead hmtx metrics = (hhea : List ℕ) (n : ℕ) → IsWord hhea 34 n → 0 < n → n ≤ length metrics → HasAdvances hhea hmtx n
 
--- With such an `hhea` table, the advance of each glyph below that number is the given one. An `hhea` table can count up to 65,535 metrics.
+-- With an `hhea` table that has at most this number of metrics, each glyph below its number has the given advance. An `hhea` table can
+-- count up to 65,535 metrics.
 abbrev pub TellsAdvances : (hmtx : List ℕ) → List Metric → Type 0
 TellsAdvances hmtx metrics = (hhea : List ℕ) (n : ℕ) (advances : Advances) → IsWord hhea 34 n → n ≤ length metrics →
     AreAdvancesOf hhea hmtx advances →

@@ -27,7 +27,7 @@ DrawsGlyphFront after old new font glyph place =
     (((part : parts.PrivateDict) → HasPart font.bytes.now (view_shown font) glyph part → ⊥) × (new ≡ old)) ⊎
     ((charstring : Charstring) × IsCharstringOf font glyph place charstring × DrawsFront after origin old new (run_from charstring).answers)
 
--- Why a glyph is not drawn: its Font DICT has no well-formed part for it, or its charstring is not drawn.
+-- Why a glyph is not drawn: the glyph or its well-formed Font DICT is missing, or its charstring is not drawn.
 abbrev pub IsGlyphUndrawn : fonts.Font → (glyph : ℕ) → Place → (left : ℕ) → Error → Type 0
 IsGlyphUndrawn font glyph place left e =
     ((e ≡ NoSuchGlyph glyph) × ((part : parts.PrivateDict) → HasPart font.bytes.now (view_shown font) glyph part → ⊥)) ⊎

@@ -26,7 +26,7 @@ abbrev pub coordinate_along : Axes → Option Maps → List Setting → (axis : 
 coordinate_along axes maps settings axis =
     if nat_lt axis (axis_count axes) then coordinate_by (axis_at (bytes_of axes) (axis_place axes axis)) axis maps settings else pos 0
 
--- the first `count` coordinates of the list belong to the first axes
+-- the first `count` entries of the list are the coordinates along the first axes
 abbrev pub AreCoordinates : Axes → Option Maps → List Setting → (coordinates : List ℤ) → (count : ℕ) → Type 0
 AreCoordinates axes maps settings coordinates count =
     (axis : ℕ) → axis < count → slice_index_or coordinates axis (pos 0) ≡ coordinate_along axes maps settings axis

@@ -15,7 +15,7 @@ name_of Flat = codes "flat"
 name_of (Font Strict) = codes "font"
 name_of (Font Lenient) = codes "lenient"
 
--- the argument that a command takes: `Run` and `Flat` take none
+-- the argument that a command takes: `Run` and `Flat` take none, and the others take any
 abbrev pub Takes : Command → List ℕ → Type 0
 Takes Run argument = argument ≡ []
 Takes Flat argument = argument ≡ []

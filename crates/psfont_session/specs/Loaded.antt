@@ -18,7 +18,7 @@ pub record Loaded : Type 0 where
 abbrev pub lists_of : Loaded → Lists
 lists_of loaded = record { global = loaded.global; local = loaded.local }
 
--- bytes stored at their destination; new code starts without subroutines
+-- bytes stored at their destination, where new code starts without subroutines
 abbrev pub put : Place → List ℕ → Loaded → Loaded
 put Code bytes loaded = record { code = bytes; global = []; local = [] }
 put Global bytes loaded = record loaded { global = loaded.global ++ bytes ∷ [] }

@@ -28,7 +28,7 @@ abbrev pub RunTold : Loaded → Option (List ℕ) → Option (List ℕ) → Type
 RunTold loaded old new = ((answers : Answers) × Tells answers (run_loaded loaded) × Appends old new (answers_text answers))
     ⊎ Appends old new (fault_line errors.Memory)
 
--- if the run has no fault, its code without calls is written; otherwise the fault of the run, or that memory runs out
+-- If the run has no fault, its code without calls is written. Otherwise the fault of the run is, or that memory runs out.
 abbrev pub FlatTold : Loaded → Option (List ℕ) → Option (List ℕ) → Type 0
 FlatTold loaded old new = ((fault_of (run_loaded loaded).end ≡ None) × Appends old new (flat_line (flat_text (run_loaded loaded).trace)))
     ⊎ ((e : Error) × ((e ≡ errors.Memory) ⊎ (fault_of (run_loaded loaded).end ≡ Some (refusal_of e))) × Appends old new (fault_line e))
@@ -39,7 +39,7 @@ ReadingTold manner bytes old new = (outcome : Result FontSet Error)
     × ((next : ℕ) × Answered font_shown outcome next (reading_of manner bytes 0))
     × Appends old new (font_told outcome)
 
--- the same for the bytes of hex digits, or that the digits are malformed
+-- the same for the font in hex digits, or the reply that the digits are malformed
 abbrev pub FontTold : Manner → List ℕ → Option (List ℕ) → Option (List ℕ) → Type 0
 FontTold manner digits old new = MatchResult (decode_of digits) (λ bytes. ReadingTold manner bytes old new)
     (λ _. Appends old new (codes "bad hex\n"))

@@ -60,7 +60,7 @@ abbrev pub IsText : List ℕ → List ℕ → Type 0
 IsText line text = ((front : List ℕ) → line ≡ front ++ 13 ∷ [] → text ≡ front)
     × (((front : List ℕ) → line ≢ front ++ 13 ∷ []) → text ≡ line)
 
--- a reply to a line; the output may be flushed before it
+-- the reply to a line, before which the output may be flushed
 abbrev pub Answered : (limit : Option ℕ) → Talk → List ℕ → Talk → Type 0
 Answered limit old text new = (flushed : Option (List ℕ)) × Keeps old.written flushed
     × LineToldWithin limit text old.loaded flushed new.loaded new.written

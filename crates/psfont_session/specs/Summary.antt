@@ -47,7 +47,7 @@ sets_text encoding char_set = codes "font " ++ (encoding_name encoding ++ (codes
 abbrev pub counts_text : ℕ → ℕ → List ℕ
 counts_text glyphs locals = codes " glyphs " ++ (decimal glyphs ++ (codes " locals " ++ (decimal locals ++ codes "\n")))
 
--- the line of a dictionary; there is none if one of the four is missing
+-- the line of a dictionary, or none if one of the four is missing
 abbrev pub dictionary_line : Option Encoding → Option CharSet → Option Index → Option Index → List ℕ
 dictionary_line (Some encoding) (Some char_set) (Some codes) (Some local) =
     sets_text encoding char_set ++ counts_text (length codes.items) (length local.items)

@@ -37,7 +37,7 @@ abbrev pub answers_text : Answers → List ℕ
 answers_text answers = flat_map (λ operation. operation_line (operation_of operation)) answers.operations.items
     ++ (end_line answers.fault ++ width_line answers.width)
 
--- the code without calls; there is only the word if the code is empty
+-- the code without calls, or only the word if the code is empty
 abbrev pub flat_line : List ℕ → List ℕ
 flat_line bytes = if length bytes == 0 then codes "flat\n" else codes "flat " ++ (encode_lower bytes ++ codes "\n")
 

@@ -19,7 +19,7 @@ use Rattle.postscript_variable.specs.Private.Remaining.{still, still_number, sti
 use Rattle.postscript_variable.specs.Private.Working.{font_of, state_of}
 use Rattle.postscript_variable.specs.Sayings.{said}
 
--- ten calls may nest, and the open ones are the callers
+-- ten calls may nest: the open ones are the callers, and `left` counts the others
 abbrev pub IsNested : Machine → Type 0
 IsNested machine = machine.left + length machine.callers ≡ 10
 

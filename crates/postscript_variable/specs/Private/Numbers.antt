@@ -9,7 +9,7 @@ IsNumberAt bytes place x next = (first : ℕ) × (behind : List ℕ) × (more : 
     (token first behind ≡ Number x more) × (next ≡ place + suc more)
 
 -- Numbers at the front of bytes are pushed while the stack is not full and the limit is above 0. Each one takes a unit of the limit for
--- each of its bytes.
+-- each of its bytes, or all that is left.
 pub data PutsNumbers (bytes : List ℕ) (stack : List ℤ) (limit : ℕ) : (rest : List ℕ) → (stack' : List ℤ) → (left : ℕ) → Type 0 where
   none : PutsNumbers bytes stack limit bytes stack limit
   one_more : (first : ℕ) (behind : List ℕ) (between : List ℤ) (left : ℕ) (x : ℤ) (more : ℕ) →
