@@ -79,8 +79,8 @@ Tells (Ok (Some found)) status old new = Hands found status old new
 Tells (Ok None) status old new = (status ≡ pos 31) × (new ≡ old)
 Tells (Err e) status old new = (status ≡ pos (undrawn_code e)) × (new ≡ old)
 
--- The result for a glyph with a part. It is the drawn glyph, a `seac` glyph with its components, or that there is no such glyph, or why it
--- is not drawn, which may be `Memory`.
+-- The result for a glyph with a part. It is the drawn glyph, a `seac` glyph with its components, or that there is no such glyph. Otherwise
+-- it is why the glyph is not drawn, which may be `Memory`.
 abbrev pub IsOf : (bytes : List ℕ) (font : PsfFont) (part : PsfPart) (glyph : ℕ) → Result (Option Glyph) Error → Type 0
 IsOf bytes font part glyph (Ok (Some found)) =
     (found.part ≡ part) × IsDrawnOver bytes font part glyph found.drawn.segments found.drawn.width

@@ -21,7 +21,7 @@ TellsFlat (Ok (Some flat)) status old new = HandsOver (flat_shown flat) status o
 TellsFlat (Ok None) status old new = (status ≡ pos 31) × (new ≡ old)
 TellsFlat (Err e) status old new = (status ≡ pos (code e)) × (new ≡ old)
 
--- the status and the outputs for the flat code of a glyph with a part: its run is too long, or this is the code of a run within the limit
+-- The status and the outputs for the flat code of a glyph with a part. Its run is too long, or this is the code of a run within the limit.
 abbrev pub TellsFlatBy : (bytes : List ℕ) (font : PsfFont) (part : PsfPart) (glyph : ℕ) (status : ℤ) (old new : Lent ℕ) → Type 0
 TellsFlatBy bytes font part glyph status old new =
     TellsTooLong bytes font part glyph status (new ≡ old)

@@ -58,8 +58,8 @@ TellsOperations (Ok (Some listed)) status old new = HandsOperations listed statu
 TellsOperations (Ok None) status old new = (status ≡ pos 31) × (new ≡ old)
 TellsOperations (Err e) status old new = (status ≡ pos (code e)) × (new ≡ old)
 
--- the status and the outputs for the operations of a glyph with a part: its run is too long, or these are the operations of a run within
--- the limit
+-- The status and the outputs for the operations of a glyph with a part. Its run is too long, or these are the operations of a run within
+-- the limit.
 abbrev pub TellsOperationsBy : (bytes : List ℕ) (font : PsfFont) (part : PsfPart) (glyph : ℕ) (status : ℤ) (old new : Rooms) → Type 0
 TellsOperationsBy bytes font part glyph status old new =
     TellsTooLong bytes font part glyph status (new ≡ old)

@@ -53,8 +53,8 @@ HasVariations file (Some variations) = (table : List ℕ) × IsTableOf file hvar
 abbrev pub HasBadVariations : FontFile → Error → Type 0
 HasBadVariations file e = (table : List ℕ) × IsTableOf file hvar table × HasNoVariations e table
 
--- The number that is added to the advance of a glyph at normalized coordinates: its variation, rounded to the nearest unit, or 0 if the
--- table has none.
+-- The number that is added to the advance of a glyph at normalized coordinates. It is the variation, rounded to the nearest unit, or 0 if
+-- the table has none.
 abbrev pub IsAdded : Option AdvanceVariations → (glyph : ℕ) → (coordinates : List ℤ) → (added : ℤ) → Type 0
 IsAdded None glyph coordinates added = added ≡ pos 0
 IsAdded (Some variations) glyph coordinates added =

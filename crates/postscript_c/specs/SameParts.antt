@@ -53,8 +53,7 @@ AreBoth bytes font view glyph part told =
 abbrev pub IsNoneIn : FontView → (glyph : ℕ) → Type 0
 IsNoneIn view glyph = (fd : ℕ) → HasPartNumber view glyph fd → ⊥
 
--- The reasons why a glyph has no part for C, by status: there is no such glyph (31), the FontView has no part for it (42), or memory runs
--- out (3).
+-- Why a glyph has no part for C, by status. There is no such glyph (31), the FontView has no part for it (42), or memory runs out (3).
 abbrev pub IsToldNone : PsfFont → FontView → (glyph : ℕ) (status : ℤ) → Type 0
 IsToldNone font view glyph status =
     ((status ≡ pos 31) × (font.glyphs ≤ glyph))
@@ -75,8 +74,8 @@ pub record TellsPart (bytes : List ℕ) (font : PsfFont) (view : FontView) (glyp
       → HasSameSubroutines bytes part told
   pub none : IsNoneIn view glyph → HasNoPart bytes font glyph
 
--- For C a glyph has the same number, part and program as in the FontView, and it has no part exactly if it has none there. It has no
--- program exactly if there is no such glyph.
+-- For C a glyph has the same number, part and program as in the FontView. It has no part exactly if it has none there. It has no program
+-- exactly if there is no such glyph.
 pub record SamePart (bytes : List ℕ) (font : PsfFont) (view : FontView) (glyph : ℕ) : Type 0 where
   pub number : (fd : ℕ) → HasNumberIn bytes font glyph fd ↔ HasPartNumber view glyph fd
   pub has : (fd : ℕ) → HasPartNumber view glyph fd → (told : PsfPart) × IsPartIn bytes font glyph told

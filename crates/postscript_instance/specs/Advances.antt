@@ -8,8 +8,8 @@ use Rattle.postscript_sfnt.specs.Lent.{advance_in}
 use Rattle.postscript_variation.specs.LentAdvances.{AdvanceVariesBy, HasNoAdvance, in_whole}
 use Rattle.postscript_variation.specs.declared.advances.AdvanceVariations.{AdvanceVariations}
 
--- The number that is added to the advance of a glyph at normalized coordinates: its variation, rounded to the nearest unit, or 0 if the
--- table has none.
+-- The number that is added to the advance of a glyph at normalized coordinates. It is the variation, rounded to the nearest unit, or 0 if
+-- the table has none.
 abbrev pub IsAdded : Option AdvanceVariations → (glyph : ℕ) → (coordinates : List ℤ) → (added : ℤ) → Type 0
 IsAdded None glyph coordinates added = added ≡ pos 0
 IsAdded (Some variations) glyph coordinates added =

@@ -46,8 +46,8 @@ OperationsStay = (charstring : Charstring) (width : Option ℤ) (code : List ℕ
     (lists : Lists) (run : Run) → IsRunOf lists code run →
     HavePieces answers run.answers × All (λ answer. answer.width ≡ width) run.answers × (run.end ≡ Finished [] width)
 
--- A law of the definitions. With any subroutines and from any origin, the run of a static code draws what the charstring's run draws: the
--- same segments, or the same error.
+-- A law of the definitions. With any subroutines and from any origin, the run of a static code draws what the charstring's run draws. Both
+-- draw the same segments, or have the same error.
 abbrev pub OutlinesStay : Type 0
 OutlinesStay = (charstring : Charstring) (width : Option ℤ) (code : List ℕ) → IsStaticOf charstring width code →
     (answers : List Answer) (end : End) → IsRunFrom charstring answers end →

@@ -51,7 +51,7 @@ pub record IsTable (does : (glyph : ℕ) → (advance : ℤ) → (code : List �
   pub called : IsCalled naming bytes view
   pub dictionaries : KeepDictionaries font bytes view (length advances)
 
--- The table of a font at the location of its advances: for each glyph, `does` holds of its code there, with its advance there as width.
+-- The table of a font at the location of its advances. For each glyph, `does` holds of its code there, with its advance there as width.
 pub record IsTableAt (does : Font → Place → (glyph : ℕ) → (advance : ℤ) → (code : List ℕ) → Type 0) (font : Font) (naming : Naming)
     (advances : AdvancesAt) (bytes : List ℕ) : Type 0 where
   pub place : Place

@@ -53,8 +53,8 @@ pub record ArePacked (bytes : List ℕ) (count : ℕ) : Type 0 where
   pub last : (i : ℕ) → i + 1 ≡ count → length bytes ≡ end_of bytes i
   pub zeros : (i : ℕ) → i < count → All (λ byte. byte ≡ 0) (slice_range bytes (offset_at bytes 0 i + length_at bytes 0 i) (end_of bytes i))
 
--- The header has the search fields of the number of tables. entrySelector is its logarithm to base 2, rounded down. searchRange is 16 times
--- that power of two, and rangeShift is what is left of 16 times the number.
+-- The header has the search fields of the number of tables. The field entrySelector is its logarithm to base 2, rounded down. The field
+-- searchRange is 16 times that power of two. The field rangeShift is what remains of 16 times the number.
 pub record IsSearched (bytes : List ℕ) (count : ℕ) : Type 0 where
   pub most : 2 ^ number_at bytes 8 2 ≤ count
   pub least : count < 2 * 2 ^ number_at bytes 8 2

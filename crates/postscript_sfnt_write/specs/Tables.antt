@@ -24,7 +24,7 @@ in_file adjustment table =
 abbrev pub room_of : (size : ℕ) → ℕ
 room_of size = (size + 3) / 4 * 4
 
--- The size of all tables with their padding, and the size of a file of them: the header, a record for each table, and the tables.
+-- The size of all tables with their padding, and the size of a file. A file has a header, a record for each table, and the tables.
 unfoldable pub rooms : List Table → ℕ
 rooms [] = 0
 rooms (table ∷ tables) = room_of (length table.bytes.now) + rooms tables

@@ -5,8 +5,8 @@ use Rattle.postscript_type2.specs.declared.operation.Operator.{Operator}
 use Rattle.postscript_type2.specs.Operation.Kinds.{Kind, Masks, kind}
 use Rattle.postscript_type2.specs.Program.Effects.{last_of, implied}
 
--- An operation in full: an operator with its operands, the operands of stems that no operator declared before a mask, and the bytes of the
--- mask.
+-- An operation in full: an operator with its operands and the bytes of its mask. At a mask, `stems` are the operands before it for stems
+-- that no operator declared.
 pub record Phrase : Type 0 where
   pub operator : Operator
   pub stems : List ℤ

@@ -9,7 +9,8 @@ pub record Font : Type 0 where
   pub lists : Lists
   pub tables : List (List ℕ)
 
--- the operands, with the top last, the number of stems, the scalars of the item variation data in use, if any, and whether a blend was run
+-- The operands, with the top last, and the number of stems. There are also the scalars of the item variation data in use, if any, and
+-- whether a blend was run.
 pub record State : Type 0 where
   pub stack : List ℤ
   pub stems : ℕ
