@@ -1,4 +1,4 @@
--- The `name` table (ISO/IEC 14496-22, 5.2.6). It has the number of records at offset 2, the offset of the texts at 4, and the records from
+-- The `name` table (ISO/IEC 14496-22). It has the number of records at offset 2, the offset of the texts at 4, and the records from
 -- 6 on.
 use Rattle.std.specs.Prelude.{◌≡◌, ◌⊎◌, ℕ, ◌+◌, ◌*◌, ◌<◌, ◌≤◌, ◌==◌, ◌&&◌, ◌||◌, if◌then◌else◌, nat_lt, List, length}
 use Rattle.std.specs.List.{slice_range}

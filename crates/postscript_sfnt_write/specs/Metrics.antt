@@ -1,4 +1,4 @@
--- Metrics (ISO/IEC 14496-22, 5.2.3 `hhea`, 5.2.4 `hmtx`, 5.2.6 `maxp` and 5.2.8 `post`).
+-- Metrics (ISO/IEC 14496-22, `hhea`, `hmtx`, `maxp` and `post`).
 use Rattle.std.specs.Prelude.{◌≡◌, ◌⊎◌, ℕ, ◌+◌, ◌*◌, ◌<◌, ◌≤◌, List, Some, length, take, drop, slice_get}
 use Rattle.postscript_sfnt.specs.Lent.{AreAdvancesOf, advance_in}
 use Rattle.postscript_sfnt.specs.Metrics.{HasAdvances, IsWord, signed}
