@@ -1,5 +1,5 @@
 -- The costs along a run are the computed ones.
-use Rattle.std.proofs.Common.{◌≡◌, refl, ap, sym, ◌∙◌, ℕ, zero, suc, ◌+◌, List, ◌∷◌, ◌++◌, length, arith}
+use Rattle.std.proofs.Common.{◌≡◌, refl, ap, ◌∙◌, ℕ, zero, suc, ◌+◌, List, ◌∷◌, ◌++◌, length, arith}
 use Rattle.std.proofs.Math.Seq.{drop-append_seam}
 use Rattle.std.proofs.lemmas.List.{append-nil}
 use Rattle.postscript_type2.specs.Program.Runs.{Answer}
@@ -40,12 +40,12 @@ costs-told font (rules.refused d spelling behind command st e moves) left h =
     ap costs (mean-operator font left spelling behind st command (Refuses e) moves.spelled moves.does)
 costs-told font (rules.keeps d spelling behind command st after xs end moves later) left h =
     ap costs (mean-operator font left spelling behind st command (Keeps after) moves.spelled moves.does)
-    ∙ ap (λ ys. length spelling + cost_beside command st.stack ∷ ys) (costs-told font later left h)
+    ∙ ap (λ ys. (length spelling + cost_beside command st.stack) ∷ ys) (costs-told font later left h)
 costs-told font (rules.clears d spelling mask behind command op st after taken xs end moves later) left h =
     ap costs (mean-operator font left spelling (mask ++ behind) st command (Clears op taken after (length mask)) moves.spelled moves.does)
-    ∙ ap (λ rest. length spelling + cost_beside command st.stack + length mask ∷ (mean font left rest after).costs)
+    ∙ ap (λ rest. (length spelling + cost_beside command st.stack + length mask) ∷ (mean font left rest after).costs)
     (drop-append_seam mask behind)
-    ∙ ap (λ ys. length spelling + cost_beside command st.stack + length mask ∷ ys) (costs-told font later left h)
+    ∙ ap (λ ys. (length spelling + cost_beside command st.stack + length mask) ∷ ys) (costs-told font later left h)
 costs-told font (rules.calls_too_deep d spelling behind command st after routine moves deep) zero h =
     ap costs (mean-operator font zero spelling behind st command (Calls routine after) moves.spelled moves.does)
 costs-told font (rules.calls_too_deep d spelling behind command st after routine moves deep) (suc left) h = absurd (omega arith)
@@ -54,14 +54,14 @@ costs-told font (rules.calls d spelling behind command st after back routine inn
 costs-told font (rules.calls d spelling behind command st after back routine inner xs end moves room within later) (suc left) h =
     let ends = (sound font within left (omega arith)).1 in
     ap costs (mean-operator font (suc left) spelling behind st command (Calls routine after) moves.spelled moves.does)
-    ∙ ap (λ ys. length spelling + cost_beside command st.stack ∷ ys)
+    ∙ ap (λ ys. (length spelling + cost_beside command st.stack) ∷ ys)
     (costs-call (mean font left routine after) (λ st'. mean font (suc left) behind st') back _ _
     (costs-told font within left (omega arith)) ends (costs-told font later (suc left) h))
 costs-told font (rules.calls_to_stop d spelling behind command st after routine inner e moves room within) zero h = absurd (omega arith)
 costs-told font (rules.calls_to_stop d spelling behind command st after routine inner e moves room within) (suc left) h =
     let ends = (sound font within left (omega arith)).1 in
     ap costs (mean-operator font (suc left) spelling behind st command (Calls routine after) moves.spelled moves.does)
-    ∙ ap (λ ys. length spelling + cost_beside command st.stack ∷ ys)
+    ∙ ap (λ ys. (length spelling + cost_beside command st.stack) ∷ ys)
     (costs-stop (mean font left routine after) (λ st'. mean font (suc left) behind st') e _ (costs-told font within left (omega arith)) ends)
 
 pub computed : CostsAreComputed

@@ -17,14 +17,14 @@ costs_along (rules.no_room depth spelling behind x st is full) = []
 costs_along (rules.unread depth rest st e none) = []
 costs_along (rules.refused depth spelling behind command st e moves) = []
 costs_along (rules.keeps depth spelling behind command st after answers end moves later) =
-    length spelling + cost_beside command st.stack ∷ costs_along later
+    (length spelling + cost_beside command st.stack) ∷ costs_along later
 costs_along (rules.clears depth spelling mask behind command op st after taken answers end moves later) =
-    length spelling + cost_beside command st.stack + length mask ∷ costs_along later
+    (length spelling + cost_beside command st.stack + length mask) ∷ costs_along later
 costs_along (rules.calls_too_deep depth spelling behind command st after routine moves deep) = []
 costs_along (rules.calls depth spelling behind command st after back routine inner answers end moves room within later) =
-    length spelling + cost_beside command st.stack ∷ costs_along within ++ costs_along later
+    (length spelling + cost_beside command st.stack) ∷ (costs_along within ++ costs_along later)
 costs_along (rules.calls_to_stop depth spelling behind command st after routine inner e moves room within) =
-    length spelling + cost_beside command st.stack ∷ costs_along within
+    (length spelling + cost_beside command st.stack) ∷ costs_along within
 
 -- A law of the definitions: these are the computed costs.
 abbrev pub CostsAreComputed : Type 0
