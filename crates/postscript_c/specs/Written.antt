@@ -86,13 +86,14 @@ pub record IsFlat (bytes : List ℕ) (answer : Result (Vec ℕ Global) Error) : 
   pub sound : IfOk answer (λ flat. IsSound bytes flat.items)
   pub refused : IfErr answer (λ e. IsRefusedBy every bytes e)
 
--- The font with the named glyphs and their components, or why there is none. If it is written, the old font has the named glyphs. Naming no
--- glyph is an error.
-pub record IsSubset (is_made : Making) (sources : (closed : List ℕ) (glyphs : ℕ) →
+-- The font with the named glyphs and their components, or why there is none. If it is written, the old font has the named glyphs, and each
+-- glyph in the list of `kept_glyphs` has its number by `numbers`. Naming no glyph is an error.
+pub record IsSubset (is_made : Making) (numbers : (named bytes flat : List ℕ) → Type 0) (sources : (closed : List ℕ) (glyphs : ℕ) →
     Sources) (bytes named : List ℕ) (answer : Result (Vec ℕ Global) Error) : Type 0 where
   pub written : IfOk answer (λ flat. IsSubsetFont is_made sources named bytes flat.items)
   pub drawn : IfOk answer (λ flat. DrawsKept sources named bytes flat.items)
   pub same : IfOk answer (λ flat. GlyphsKept sources named bytes flat.items)
+  pub kept : IfOk answer (λ flat. numbers named bytes flat.items)
   pub sound : IfOk answer (λ flat. IsSound bytes flat.items)
   pub refused : IfErr answer (λ e. IsSubsetRefusedBy named sources bytes e)
   pub there : OnOk answer ((font : View) → IsLaidOut bytes 0 font → AreThere named (length font.char_strings))

@@ -328,7 +328,7 @@ fn commands<'a>(alloc: Global) -> Result<Vec<Command<'a>>, AllocError> {
 /// Returns the program's command without its subcommands.
 fn without_subcommands<'a>(alloc: Global) -> Command<'a> {
     Command::new(alloc, "psotf")
-        .version("0.2.0")
+        .version("0.3.0")
         .about("Inspect, draw and write OpenType fonts with CFF or CFF2 outlines")
         .after_help(EXAMPLES)
         .subcommand_required(true)
