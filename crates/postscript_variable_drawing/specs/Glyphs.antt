@@ -4,7 +4,7 @@ use Rattle.postscript_cff2.specs.Parts as parts
 use Rattle.postscript_cff2.specs.Parts.{HasPart}
 use Rattle.postscript_cff2.specs.Shown.{view_shown}
 use Rattle.postscript_cff2.specs.declared.font.Font as fonts
-use Rattle.postscript_drawing.specs.DrawnProgram.{DrawsFront}
+use Rattle.postscript_drawing.specs.DrawnProgram.{DrawsFront, DrawsOfFirst}
 use Rattle.postscript_drawing.specs.declared.error.Error.{Error}
 use Rattle.postscript_drawing.specs.declared.error.Error.TheVariants.{NoSuchGlyph}
 use Rattle.postscript_outline.specs.declared.segment.Segment.{Segment}
@@ -26,6 +26,12 @@ abbrev pub DrawsGlyphFront : {T : Type 0} → (after : T → Segment → T → T
 DrawsGlyphFront after old new font glyph place =
     (((part : parts.PrivateDict) → HasPart font.bytes.now (view_shown font) glyph part → ⊥) × (new ≡ old)) ⊎
     ((charstring : Charstring) × IsCharstringOf font glyph place charstring × DrawsFront after origin old new (run_from charstring).answers)
+
+-- The same, but none of the segments are of a stroke that leaves the range.
+abbrev pub GivesGlyphFirst : {T : Type 0} → (after : T → Segment → T → Type 0) → (old new : T) → fonts.Font → (glyph : ℕ) → Place → Type 0
+GivesGlyphFirst after old new font glyph place =
+    (((part : parts.PrivateDict) → HasPart font.bytes.now (view_shown font) glyph part → ⊥) × (new ≡ old)) ⊎
+    ((charstring : Charstring) × IsCharstringOf font glyph place charstring × DrawsOfFirst after origin old new (run_from charstring).answers)
 
 -- Why a glyph is not drawn: the glyph or its well-formed Font DICT is missing, or its charstring is not drawn.
 abbrev pub IsGlyphUndrawn : fonts.Font → (glyph : ℕ) → Place → (left : ℕ) → Error → Type 0

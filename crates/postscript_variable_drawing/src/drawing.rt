@@ -1,6 +1,6 @@
 //! Drawing of charstrings.
 ghost use Rattle.std.specs.Prelude.{◌≡◌, ◌≢◌, ◌<◌, Err, OnOk, OnErr, IfOk, IfErr};
-ghost use Rattle.postscript_drawing.specs.DrawnProgram.{DrawsFront};
+ghost use Rattle.postscript_drawing.specs.DrawnProgram.{DrawsFront, DrawsOfFirst};
 ghost use Rattle.postscript_drawing.specs.declared.error.Error.TheVariants as errors;
 ghost use Rattle.postscript_variable.specs.Charstrings.{run_from};
 ghost use Rattle.postscript_variable.specs.Limit.{cost};
@@ -42,8 +42,10 @@ pub fn draw_program<S: Sink>(
     ensures drawn { OnOk result (Gives S.after (S.state sink.old) (S.state sink.new) (IsOutlineOf origin program.old)) }
     // An error is justified: by memory, a full sink, a limit of 0, the run or a coordinate.
     ensures why { IfErr result (λ e. IsRefused origin program.old limit.new e) }
-    // On an error the sink was given the first segments of the operations.
+    // On an error, if all coordinates stay in the range, the sink was given some first segments.
     ensures front { OnErr result (DrawsFront S.after origin (S.state sink.old) (S.state sink.new) program.old.answers) }
+    // On an error it was given some first segments, and none of a stroke that leaves the range.
+    ensures given { OnErr result (DrawsOfFirst S.after origin (S.state sink.old) (S.state sink.new) program.old.answers) }
     // The error `Full` means that the sink accepts no further segment.
     ensures full { result ≡ Err errors.Full → S.refuses (S.state sink.new) }
     // On success the program is at its end.
@@ -89,8 +91,10 @@ pub fn draw<S: Sink>(
         (Gives S.after (S.state sink.old) (S.state sink.new) (IsOutlineOf the_origin (begun (run_from charstring.entry)))) }
     // An error is justified: by memory, a full sink, a limit of 0, the run or a coordinate.
     ensures why { IfErr result (λ e. IsRefused the_origin (begun (run_from charstring.entry)) limit.new e) }
-    // On an error the sink was given the first segments of the charstring.
+    // On an error, if all coordinates stay in the range, the sink was given some first segments.
     ensures front { OnErr result (DrawsFront S.after the_origin (S.state sink.old) (S.state sink.new) (run_from charstring.entry).answers) }
+    // On an error it was given some first segments, and none of a stroke that leaves the range.
+    ensures given { OnErr result (DrawsOfFirst S.after the_origin (S.state sink.old) (S.state sink.new) (run_from charstring.entry).answers) }
     // The error `Full` means that the sink accepts no further segment.
     ensures full { result ≡ Err errors.Full → S.refuses (S.state sink.new) }
     // The cost of everything that was read is subtracted, on success of the whole run.

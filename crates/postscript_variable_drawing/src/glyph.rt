@@ -2,7 +2,7 @@
 ghost use Rattle.std.specs.Prelude.{◌≡◌, ◌≢◌, Err, OnOk, OnErr, IfErr};
 ghost use Rattle.postscript_drawing.specs.declared.error.Error.TheVariants as errors;
 ghost use Rattle.postscript_variable_drawing.specs.Drawn.{Gives};
-ghost use Rattle.postscript_variable_drawing.specs.Glyphs.{DrawsGlyph, DrawsGlyphFront, IsGlyphUndrawn, SpendsOnGlyph, SufficesFor};
+ghost use Rattle.postscript_variable_drawing.specs.Glyphs.{DrawsGlyph, DrawsGlyphFront, GivesGlyphFirst, IsGlyphUndrawn, SpendsOnGlyph, SufficesFor};
 
 use crate::drawing::draw;
 use postscript_cff2::Font;
@@ -36,8 +36,10 @@ pub fn draw_glyph<S: Sink>(
     ensures drawn { OnOk result (Gives S.after (S.state sink.old) (S.state sink.new) (DrawsGlyph font.now glyph place.now)) }
     // An error is justified: the glyph has no charstring, or drawing its charstring fails.
     ensures why { IfErr result (λ e. IsGlyphUndrawn font.now glyph place.now limit.new e) }
-    // On an error the sink was given the first segments of the glyph, or none.
+    // On an error, if all coordinates stay in the range, the sink was given some first segments, or none.
     ensures front { OnErr result (DrawsGlyphFront S.after (S.state sink.old) (S.state sink.new) font.now glyph place.now) }
+    // On an error it was given some first segments, and none of a stroke that leaves the range.
+    ensures given { OnErr result (GivesGlyphFirst S.after (S.state sink.old) (S.state sink.new) font.now glyph place.now) }
     // The error `Full` means that the sink accepts no further segment.
     ensures full { result ≡ Err errors.Full → S.refuses (S.state sink.new) }
     // The cost of everything that was read is subtracted, and a missing glyph costs nothing.

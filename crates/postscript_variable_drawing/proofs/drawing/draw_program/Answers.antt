@@ -5,7 +5,7 @@ use Rattle.postscript_drawing.specs.Outline.{outlined_at}
 use Rattle.postscript_drawing.specs.Undrawn.{error_of}
 use Rattle.postscript_drawing.specs.declared.error.Error.TheVariants as errors
 use Rattle.postscript_drawing.proofs.DrawsLaws.{at_first, so_more, so_refused}
-use Rattle.postscript_drawing.proofs.ProgramLaws.{drawn-whole, front-refused, front-so-far, if-err, on-err, stroke-refused, strokes_of}
+use Rattle.postscript_drawing.proofs.ProgramLaws.{drawn-whole, first-of-refused, first-so-far, front-refused, front-so-far, if-err, on-err, stroke-refused, strokes_of}
 use Rattle.postscript_variable_drawing.proofs.Steps.{at-end, step-refused}
 use Rattle.postscript_variable_drawing.proofs.Spending.{no-pause, on-operation, on-end, on-pause, on-refusal}
 use Rattle.postscript_variable_drawing.proofs.drawing.draw_program.Goals as goal
@@ -42,6 +42,10 @@ pub returns-in_err-operator-clause-front : goal.returns-in_err-operator-clause-f
 returns-in_err-operator-clause-front g c =
     on-err c.from_residual.result (front-so-far c.args.program.now.answers c.loop-operator.invariant.far refl)
 
+pub returns-in_err-operator-clause-given : goal.returns-in_err-operator-clause-given
+returns-in_err-operator-clause-given g c =
+    on-err c.from_residual.result (first-so-far c.args.program.now.answers c.loop-operator.invariant.far refl)
+
 pub returns-in_err-operator-clause-spends : goal.returns-in_err-operator-clause-spends
 returns-in_err-operator-clause-spends g c =
     let error = err_from_is_err_and c.from_residual.result c.from_residual.ensures.1 in
@@ -73,6 +77,16 @@ returns-in_err-draw_path-in-Operation-clause-front g c =
     (so_refused (strokes c.in-Operation.operator c.in-Operation.operands.now) (strokes_of rest.answers)
     (ap strokes_of left) c.loop-operator.invariant.far c.in_err-draw_path-in-Operation.ensures))
 
+pub returns-in_err-draw_path-in-Operation-clause-given : goal.returns-in_err-draw_path-in-Operation-clause-given
+returns-in_err-draw_path-in-Operation-clause-given g c =
+    let rest = c.step_within.follows.lender-at-none in
+    let answer : Answer = the_answer c.in-Operation.operator c.in-Operation.operands.now in
+    let left : c.loop-operator.program.answers ≡ answer ∷ rest.answers = search rules in
+    on-err c.from_residual-in_err-draw_path-in-Operation.result
+    (first-of-refused c.args.program.now.answers
+    (so_refused (strokes c.in-Operation.operator c.in-Operation.operands.now) (strokes_of rest.answers)
+    (ap strokes_of left) c.loop-operator.invariant.far c.in_err-draw_path-in-Operation.ensures))
+
 pub returns-in_err-draw_path-in-Operation-clause-spends : goal.returns-in_err-draw_path-in-Operation-clause-spends
 returns-in_err-draw_path-in-Operation-clause-spends g c =
     let rest = c.step_within.follows.lender-at-none in
@@ -90,6 +104,11 @@ pub returns-in_err-end-in-End-clause-front : goal.returns-in_err-end-in-End-clau
 returns-in_err-end-in-End-clause-front g c =
     on-err c.from_residual-in_err-end-in-End.result
     (front-so-far c.args.program.now.answers c.loop-operator.invariant.far c.in_err-end-in-End.ensures.full)
+
+pub returns-in_err-end-in-End-clause-given : goal.returns-in_err-end-in-End-clause-given
+returns-in_err-end-in-End-clause-given g c =
+    on-err c.from_residual-in_err-end-in-End.result
+    (first-so-far c.args.program.now.answers c.loop-operator.invariant.far c.in_err-end-in-End.ensures.full)
 
 pub returns-in_err-end-in-End-clause-spends : goal.returns-in_err-end-in-End-clause-spends
 returns-in_err-end-in-End-clause-spends g c =
@@ -125,6 +144,9 @@ returns-in-End-clause-spends g c =
 
 pub returns-in-Paused-clause-front : goal.returns-in-Paused-clause-front
 returns-in-Paused-clause-front g c = front-so-far c.args.program.now.answers c.loop-operator.invariant.far refl
+
+pub returns-in-Paused-clause-given : goal.returns-in-Paused-clause-given
+returns-in-Paused-clause-given g c = first-so-far c.args.program.now.answers c.loop-operator.invariant.far refl
 
 pub returns-in-Paused-clause-spends : goal.returns-in-Paused-clause-spends
 returns-in-Paused-clause-spends g c =
