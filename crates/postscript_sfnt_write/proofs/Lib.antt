@@ -10,3 +10,4 @@ pub mod Mapped
 pub mod Mapped4
 pub mod Headed
 pub mod Chosen
+pub mod HeaderRows
