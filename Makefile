@@ -3,6 +3,7 @@
 #     make check      the versions, the gate (an hour or two where nothing is kept), and the tests of the bindings
 #     make dist       the archive, the Debian packages, the wheel and the crate, in dist/
 #     make install    what the archive holds, under PREFIX=/usr/local, with DESTDIR= before it
+#     make edits      the wrong bodies of each crate that changed since they were tried
 #     make clean      away with dist/ and what the bindings built; what is proved is kept
 PREFIX ?= /usr/local
 DESTDIR ?=
@@ -15,6 +16,9 @@ check:
 	rt ci
 	tools/bindings/bindings.sh
 
+edits:
+	tools/gate/edits.py
+
 install:
 	tools/dist/install.sh '$(DESTDIR)$(PREFIX)'
 
@@ -23,4 +27,4 @@ clean:
 	$(MAKE) --no-print-directory -C bindings/c clean
 	rm -rf bindings/rust/target
 
-.PHONY: dist check install clean
+.PHONY: dist check edits install clean

@@ -1,8 +1,7 @@
 #!/usr/bin/env python3
-"""Runs the gate and prints how much processor time each part takes; tries more wrong bodies; or times the proof of test statements.
+"""Runs the gate and prints how much processor time each part takes, or times the proof of test statements.
 
     tools/gate/gate.py [PROCESSORS [CRATE..]]
-    tools/gate/gate.py edits CRATE..
     tools/gate/gate.py statements
 
 The first command runs `rt ci`, or `rt must-fail CRATE..` if crates are named. Run it at the top of a clone with nothing in any `out/`.
@@ -10,11 +9,7 @@ PROCESSORS is a list for taskset; the default is 0,1. The output goes to gate.lo
 a second the script looks at the processes of the prover. At the end it prints the last line of the output, the minutes taken, a table of
 the parts, and a table of the must-fail edits. The most expensive ones come first. Needs Linux, and taskset of util-linux.
 
-If several wrong bodies fail at one definition, the gate tries only the most telling ones; the others are in tools/edits. The second
-command tries these. Each CRATE is a folder there, such as postscript_type2. The edits are tried in a copy of the repository, with the
-results of `rt check` in out/. Each must be rejected, as `rt must-fail` reports. The repository itself is not changed.
-
-The third command makes a crate for each kind of statement, with one function of ten such statements. `rt check` proves it twice from
+The second command makes a crate for each kind of statement, with one function of ten such statements. `rt check` proves it twice from
 scratch. The lower processor time counts, minus that of the crate without this function. The script prints the seconds per statement. This
 takes about five minutes.
 
@@ -26,7 +21,6 @@ import os
 import pathlib
 import re
 import resource
-import shutil
 import subprocess
 import sys
 import tempfile
@@ -35,7 +29,7 @@ import time
 sys.dont_write_bytecode = True
 sys.path.insert(0, str(pathlib.Path(__file__).resolve().parents[1]))
 
-from building import TOOLS, TOP, printed, write_crate
+from building import printed, write_crate
 
 TICKS = os.sysconf("SC_CLK_TCK")
 KINDS = {
@@ -162,23 +156,6 @@ def measure(processors, crates):
     return status
 
 
-def try_edits(crates):
-    """Tries the edits of tools/edits instead of those of the gate, in a copy of the repository. Returns the status."""
-    for crate in crates:
-        if not (TOOLS / "edits" / crate).is_dir():
-            print(f"there is no folder tools/edits/{crate}", file=sys.stderr)
-            return 2
-    with tempfile.TemporaryDirectory() as copy:
-        shutil.copytree(TOP / "crates", f"{copy}/crates")
-        for file in ("crates.txt", "HANDLES"):
-            shutil.copyfile(TOP / file, f"{copy}/{file}")
-        for crate in crates:
-            tried = f"{copy}/crates/{crate}/must-fail"
-            shutil.rmtree(tried, ignore_errors=True)
-            shutil.copytree(TOOLS / "edits" / crate, tried)
-        return subprocess.run(["rt", "must-fail", *crates], cwd=copy, check=False).returncode
-
-
 def seconds(body):
     """Proves a crate twice, and returns the lower processor time."""
     taken = []
@@ -202,12 +179,8 @@ def time_statements():
 
 
 def main(words):
-    if words == ["edits"]:
-        sys.exit(__doc__)
     if words == ["statements"]:
         return time_statements()
-    if words[:1] == ["edits"]:
-        return try_edits(words[1:])
     return measure((words or ["0,1"])[0], words[1:])
 
 
