@@ -1,5 +1,5 @@
 //! The glyphs and characters that a subset keeps.
-use crate::characters::{all_of, by_glyph, glyph_of, of_glyph, refuse_missing, Mapped};
+use crate::characters::{Mapped, all_of, by_glyph, glyph_of, of_glyph, refuse_missing};
 use crate::face::Face;
 use crate::failure::Failure;
 use crate::limit::Budget;

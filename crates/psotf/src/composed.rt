@@ -19,8 +19,16 @@ fn parts_of(char: u32) -> &'static [char] {
     }
 }
 
-/// Returns the two or three jamo of a Hangul syllable. Of two, the last one is repeated.
-fn jamo_of(char: u32) -> Option<[u32; 3]> {
+/// The jamo of a Hangul syllable. `last` is the vowel if there is no trailing consonant.
+#[derive(Clone, Copy)]
+struct Jamo {
+    leading: u32,
+    vowel: u32,
+    last: u32,
+}
+
+/// Returns the jamo of a Hangul syllable.
+fn jamo_of(char: u32) -> Option<Jamo> {
     let number = char.checked_sub(SYLLABLES)?;
     if number >= 11172 {
         return None;
@@ -30,7 +38,11 @@ fn jamo_of(char: u32) -> Option<[u32; 3]> {
         0 => vowel,
         trailing => TRAILING.saturating_add(trailing),
     };
-    Some([LEADING.saturating_add(number / 588), vowel, last])
+    Some(Jamo {
+        leading: LEADING.saturating_add(number / 588),
+        vowel,
+        last,
+    })
 }
 
 /// Returns whether a sorted list has a character.
@@ -60,21 +72,23 @@ pub fn has_all(sorted: &[u32], chars: &[char]) -> bool {
 
 /// Returns whether a sorted list has a part of a character after its first part.
 fn has_later(sorted: &[u32], char: u32) -> bool {
-    match (jamo_of(char), parts_of(char)) {
-        (Some([_, vowel, last]), _) => has(sorted, vowel) || has(sorted, last),
-        (None, [_, later @ ..]) => has_any(sorted, later),
-        _ => false,
+    if let Some(jamo) = jamo_of(char) {
+        return has(sorted, jamo.vowel) || has(sorted, jamo.last);
+    }
+    match parts_of(char) {
+        [_, later @ ..] => has_any(sorted, later),
+        [] => false,
     }
 }
 
 /// Returns whether a character has parts, and a sorted list has all of them.
 fn has_parts(sorted: &[u32], char: u32) -> bool {
-    match (jamo_of(char), parts_of(char)) {
-        (Some([leading, vowel, last]), _) => {
-            has(sorted, leading) && has(sorted, vowel) && has(sorted, last)
-        }
-        (None, []) => false,
-        (None, parts) => has_all(sorted, parts),
+    if let Some(jamo) = jamo_of(char) {
+        return has(sorted, jamo.leading) && has(sorted, jamo.vowel) && has(sorted, jamo.last);
+    }
+    match parts_of(char) {
+        [] => false,
+        parts => has_all(sorted, parts),
     }
 }
 
@@ -91,7 +105,7 @@ fn may_compose(all: &[(u32, u16)], kept: &[u32]) -> bool {
 /// Adds the parts of a character.
 fn put_parts(chars: &mut Vec<u32>, char: u32) -> Result<(), AllocError> {
     if let Some(jamo) = jamo_of(char) {
-        chars.extend_from_slice(&jamo)?;
+        chars.extend_from_slice(&[jamo.leading, jamo.vowel, jamo.last])?;
     }
     for part in parts_of(char) {
         chars.push(u32::from(*part))?;

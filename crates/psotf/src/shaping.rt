@@ -57,11 +57,7 @@ fn is_form_of(kept: &[u32], char: u32) -> bool {
 }
 
 /// Adds the characters of a font that are always kept, mirrored ones if the kept ones need them, and presentation forms.
-fn put_forms(
-    added: &mut Vec<u32>,
-    all: &[(u32, u16)],
-    kept: &[u32],
-) -> Result<(), AllocError> {
+fn put_forms(added: &mut Vec<u32>, all: &[(u32, u16)], kept: &[u32]) -> Result<(), AllocError> {
     let mirrors = mirrors(kept);
     for (char, _) in all {
         if has(&ALWAYS, *char) || (mirrors && is_mirrored(*char)) || is_form_of(kept, *char) {
@@ -80,11 +76,7 @@ fn sorted(alloc: Global, chars: &[u32]) -> Result<Vec<u32>, AllocError> {
 
 /// Returns the kept characters and those of a font that a shaper may use in addition. `all` has the characters of the
 /// font.
-pub fn closed(
-    alloc: Global,
-    all: &[(u32, u16)],
-    kept: &[u32],
-) -> Result<Vec<u32>, AllocError> {
+pub fn closed(alloc: Global, all: &[(u32, u16)], kept: &[u32]) -> Result<Vec<u32>, AllocError> {
     let chars = sorted(alloc, kept)?;
     let mut added = Vec::from_slice(alloc, &chars)?;
     put_forms(&mut added, all, &chars)?;

@@ -23,12 +23,7 @@ fn put_readings(alloc: Global, sheet: &mut Sheet, cff: &[u8]) {
 
 /// Writes the data of a file with an invalid table: its tables, and the first parts of the `CFF ` table, as far as they
 /// are well formed.
-fn put_head(
-    alloc: Global,
-    sheet: &mut Sheet,
-    source: &Source<'_>,
-    words: &ArgMatches<'_>,
-) {
+fn put_head(alloc: Global, sheet: &mut Sheet, source: &Source<'_>, words: &ArgMatches<'_>) {
     let cff = source.file.table(*b"CFF ").unwrap_or(&[]);
     let path = path_of(words);
     sheet.begin_object();
