@@ -5,8 +5,9 @@
     /usr/bin/python3 tools/evidence/shaped.py SEED LINES WORD..
 
 Each WORD is a font file, a folder, or an installed Debian package; of the last two, the script takes each .otf file. Fonts without a `CFF `
-table, and fonts without layout tables, are skipped. `psotf subset --retain-gids` writes each font three times: with the characters of a few
-words, with those of Latin-1, and with these and combining marks, which a shaper composes with letters. The whole font and its subset then
+table, and fonts without layout tables, are skipped. `psotf subset --retain-gids` writes each font several times: with the characters of a few
+words, with those of Latin-1, with these and combining marks, which a shaper composes with letters, and with Vietnamese, Hebrew, Devanagari and Arabic letters,
+and with Hangul jamo, if the font has them. Of brackets, only the opening ones are chosen there. The whole font and its subset then
 shape the same lines. A line has up to 30 of the kept characters, chosen at random from SEED; half of them are from words with ligatures.
 Each list of LINES lines is shaped with the default features, with all features of the font, with random features, from right to left, from
 top to bottom, and with each script of the font. Glyph numbers, clusters, advances and offsets must be the same, since the subset keeps
@@ -34,7 +35,19 @@ from font_files import files_of
 
 LAYOUT = ("GSUB", "GPOS")
 LATIN = [*range(0x20, 0x7F), *range(0xA0, 0x100)]
-TEXTS = {"words": sorted(set(map(ord, "Hello, office waffle"))), "Latin-1": LATIN, "marks": [*LATIN, *range(0x300, 0x330)]}
+BRACKETS = [0x20, 0x28, 0x5B, 0xAB, 0x2039]
+TEXTS = {
+    "words": sorted(set(map(ord, "Hello, office waffle"))),
+    "Latin-1": LATIN,
+    "marks": [*LATIN, *range(0x300, 0x330)],
+    "Hebrew": [*BRACKETS, *range(0x5B0, 0x5C8), *range(0x5D0, 0x5EB)],
+    "Vietnamese": list(map(ord, "ấầẩẫậắằẳẵặếềểễệốồổỗộớờởỡợứừửữự")),
+    "Devanagari": [0x20, *range(0x905, 0x93A), *range(0x958, 0x960)],
+    "Arabic": [*BRACKETS, *range(0x621, 0x653)],
+    "Hangul": [0x20, *range(0x1100, 0x1113), *range(0x1161, 0x1176), *range(0x11A8, 0x11C3)],
+}
+#: how many characters of a text a font must have
+FEWEST = 10
 OFTEN = "fiflffiaeotjQuThctstgy1/2 AVTo"
 LONGEST = 30
 CHOICES = 8
@@ -75,6 +88,8 @@ def compared(path, font, name, folder, draw, lines, sums):
     """Writes a subset and compares the shapes of random lines."""
     kept = font.getBestCmap()
     chars = [char for char in TEXTS[name] if char in kept]
+    if len(chars) < FEWEST:
+        return
     written = folder / f"{name}.otf"
     listed = ",".join(f"{char:x}" for char in chars)
     subprocess.run([PSOTF, "subset", path, "--unicodes", listed, "--retain-gids", "--quiet", "-o", written], check=True)

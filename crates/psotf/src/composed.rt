@@ -123,7 +123,43 @@ fn with_parts(alloc: Global, kept: &[u32]) -> Result<Vec<u32>, AllocError> {
     Ok(chars)
 }
 
-/// Adds the characters of a font that a shaper may compose of the kept ones, or decompose them to. There are none
+/// Returns whether a list has all of some characters.
+fn is_among(list: &[char], chars: &[char]) -> bool {
+    for char in chars {
+        if !list.contains(char) {
+            return false;
+        }
+    }
+    true
+}
+
+/// Adds the characters of a font that consist of some of the parts of a character.
+fn put_between(added: &mut Vec<u32>, all: &[(u32, u16)], parts: &[char]) -> Result<(), AllocError> {
+    for (char, _) in all {
+        let some = parts_of(*char);
+        if !some.is_empty() && some.len() < parts.len() && is_among(parts, some) {
+            added.push(*char)?;
+        }
+    }
+    Ok(())
+}
+
+/// Adds the characters of a font that a shaper may decompose the kept ones to, in one or more steps.
+fn put_decomposed(
+    added: &mut Vec<u32>,
+    all: &[(u32, u16)],
+    kept: &[u32],
+) -> Result<(), AllocError> {
+    for char in kept {
+        let parts = parts_of(*char);
+        if parts.len() > 2 {
+            put_between(added, all, parts)?;
+        }
+    }
+    Ok(())
+}
+
+/// Adds the characters of a font that a shaper may decompose the kept ones to, or compose of them. It composes nothing
 /// unless a kept character, such as a combining mark or a jamo, can be composed with a character before it. The kept
 /// characters are in ascending order. `all` has the characters of the font.
 pub fn put(
@@ -132,14 +168,12 @@ pub fn put(
     all: &[(u32, u16)],
     kept: &[u32],
 ) -> Result<(), AllocError> {
-    if !may_compose(all, kept) {
-        return Ok(());
-    }
+    let composes = may_compose(all, kept);
     let chars = with_parts(alloc, kept)?;
     for (char, _) in all {
-        if has(&chars, *char) || has_parts(&chars, *char) {
+        if has(&chars, *char) || (composes && has_parts(&chars, *char)) {
             added.push(*char)?;
         }
     }
-    Ok(())
+    put_decomposed(added, all, kept)
 }
