@@ -1,2 +1,3 @@
 pub mod Firsts
 pub mod Fields
+pub mod Lists

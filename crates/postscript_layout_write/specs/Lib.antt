@@ -5,3 +5,5 @@ pub mod Ranges
 pub mod Values
 pub mod Pairs
 pub mod Classes
+pub mod Indices
+pub mod Entries

@@ -56,6 +56,11 @@ pairs_at gpos lookup j =
     if word gpos lookup == 2 then Some part
     else (if word gpos lookup == 9 then (if word gpos (part + 2) == 2 then Some (part + long gpos (part + 4)) else None) else None)
 
+-- the coverage index of a first glyph in such a subtable
+abbrev pub index_at : List ℕ → (subtable : Option ℕ) → (first : ℕ) → Option ℕ
+index_at gpos None first = None
+index_at gpos (Some subtable) first = index_of gpos subtable first
+
 abbrev pub by_part : List ℕ → (subtable : Option ℕ) → (first second : ℕ) → Option Adjustment
 by_part gpos None first second = None
 by_part gpos (Some subtable) first second = by_subtable gpos subtable first second

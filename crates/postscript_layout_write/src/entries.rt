@@ -1,10 +1,16 @@
 //! The pairs of kept glyphs that a lookup adjusts.
+ghost use Rattle.std.specs.Prelude.{◌≡◌, ◌⊎◌, ℕ, ◌^◌, ◌<◌, ◌≤◌, ◌++◌, length, false, None, IfErr, IfOk, OnOk, slice_index, slice_index_or};
+ghost use Rattle.postscript_layout_write.specs.Entries.{AreEntries, form_of as the_form, kept_by, listed};
+ghost use Rattle.postscript_layout_write.specs.Indices.{AreIndices};
+ghost use Rattle.postscript_layout_write.specs.Pairs.{by_lookup as the_adjustment};
+ghost use Rattle.postscript_layout_write.specs.Refusals.{IsUsedUp};
+ghost use Rattle.postscript_layout_write.specs.declared.error.Error.TheVariants as errors;
 
 use crate::error::Result;
 use crate::limit::pay;
 use crate::lookups::{by_lookup, indices_of};
 use crate::numbers::word;
-use crate::values::{Adjustment, ZERO};
+use crate::values::Adjustment;
 use std::alloc::Global;
 
 /// The form in which a pair is written.
@@ -26,30 +32,47 @@ pub(crate) struct Entry {
 }
 
 /// Returns the form of an adjustment, or `None` if the adjustment is nothing.
-pub(crate) fn form_of(adjustment: &Adjustment) -> Option<Form> {
+pub(crate) fn form_of(adjustment: &Adjustment) -> Option<Form>
+    ensures { result ≡ the_form adjustment.now }
+{
     let first = &adjustment.first;
     match adjustment.second {
         Some(_) => Some(Form::Both),
         None => {
-            if first.x_placement != 0 || first.y_placement != 0 || first.y_advance != 0 {
-                Some(Form::First)
-            } else if first.x_advance != 0 {
-                Some(Form::Advance)
+            if first.x_placement == 0 && first.y_placement == 0 && first.y_advance == 0 {
+                if first.x_advance == 0 {
+                    None
+                } else {
+                    Some(Form::Advance)
+                }
             } else {
-                None
+                Some(Form::First)
             }
         }
     }
 }
 
-/// Returns the adjustment of a pair by a lookup that keeps its pairs.
-fn has_index(indices: &[Option<usize>]) -> bool {
+/// Returns whether some subtable covers the first glyph.
+fn has_index(indices: &[Option<usize>]) -> bool
+    ensures { result ≡ false → (j : ℕ) → j < length indices.now → slice_index_or indices.now j None ≡ None }
+{
     for index in indices {
-        if let Some(_) = index {
+        if index.is_some() {
             return true;
         }
     }
     false
+}
+
+/// Appends an entry, unless its adjustment is nothing.
+fn list(entries: &mut Vec<Entry>, second: u16, adjustment: Adjustment) -> Result<()>
+    ensures items { OnOk result (entries.new.items ≡ entries.old.items ++ listed second adjustment (the_form adjustment)) }
+    ensures memory { IfErr result (λ e. e ≡ errors.Memory) }
+{
+    if form_of(&adjustment).is_some() {
+        entries.push(Entry { second, adjustment })?;
+    }
+    Ok(())
 }
 
 /// Returns the pairs of a first glyph with the kept glyphs that a lookup adjusts, by the new numbers of the second glyphs.
@@ -61,17 +84,19 @@ fn tried(
     first: usize,
     kept: &[u16],
     limit: &mut u64,
-) -> Result<Vec<Entry>> {
+) -> Result<Vec<Entry>>
+    requires near { lookup < 2 ^ 31 }
+    requires few { length kept.now < 65536 }
+    requires exact { AreIndices gpos.now lookup first indices.now }
+    ensures exact { IfOk result (λ entries. AreEntries (λ y. the_adjustment gpos.now lookup first (slice_index kept.now y)) (length kept.now) entries.items) }
+    ensures spends { limit.new ≤ limit.old }
+    ensures why { IfErr result (λ e. (e ≡ errors.Memory) ⊎ IsUsedUp limit.new e) }
+{
     let mut entries = Vec::new(alloc);
     for k in 0..kept.len() {
         pay(limit)?;
         let adjustment = by_lookup(gpos, lookup, indices, first, kept[k] as usize, limit)?;
-        if form_of(&adjustment).is_some() {
-            entries.push(Entry {
-                second: k as u16,
-                adjustment,
-            })?;
-        }
+        list(&mut entries, k as u16, adjustment)?;
     }
     Ok(entries)
 }
@@ -85,7 +110,14 @@ pub(crate) fn entries_of(
     first: usize,
     kept: &[u16],
     limit: &mut u64,
-) -> Result<Vec<Entry>> {
+) -> Result<Vec<Entry>>
+    requires near { lookup < 2 ^ 31 }
+    requires few { length kept.now < 65536 }
+    requires glyph { first < 65536 }
+    ensures exact { IfOk result (λ entries. AreEntries (λ y. kept_by gpos.now lookup first (slice_index kept.now y)) (length kept.now) entries.items) }
+    ensures spends { limit.new ≤ limit.old }
+    ensures why { IfErr result (λ e. (e ≡ errors.Memory) ⊎ IsUsedUp limit.new e) }
+{
     if word(gpos, lookup + 2) > 15 {
         return Ok(Vec::new(alloc));
     }

@@ -1,4 +1,9 @@
 //! Lookups of pair adjustments: the first subtable that applies.
+ghost use Rattle.std.specs.Prelude.{◌≡◌, ◌⊎◌, ◌^◌, ◌<◌, ◌≤◌, IfErr, IfOk, IfSome};
+ghost use Rattle.postscript_layout_write.specs.Indices.{AreIndices};
+ghost use Rattle.postscript_layout_write.specs.Pairs.{by_lookup as the_adjustment, by_part, index_at, pairs_at as the_pairs};
+ghost use Rattle.postscript_layout_write.specs.Refusals.{IsUsedUp};
+ghost use Rattle.postscript_layout_write.specs.declared.error.Error.TheVariants as errors;
 
 use crate::error::Result;
 use crate::limit::pay;
@@ -10,7 +15,12 @@ use std::alloc::Global;
 
 /// Returns the offset of subtable `j` of a lookup, or of the subtable that its extension names, if that is a subtable of
 /// pair adjustments.
-fn pairs_at(gpos: &[u8], lookup: usize, j: usize) -> Option<usize> {
+fn pairs_at(gpos: &[u8], lookup: usize, j: usize) -> Option<usize>
+    requires near { lookup < 2 ^ 31 }
+    requires few { j < 65536 }
+    ensures exact { result ≡ the_pairs gpos.now lookup j }
+    ensures near { IfSome result (λ at. at < 2 ^ 33) }
+{
     let part = lookup + word(gpos, lookup + 6 + j * 2);
     match word(gpos, lookup) {
         2 => Some(part),
@@ -32,7 +42,15 @@ fn index_in(
     j: usize,
     first: usize,
     limit: &mut u64,
-) -> Result<Option<usize>> {
+) -> Result<Option<usize>>
+    requires near { lookup < 2 ^ 31 }
+    requires few { j < 65536 }
+    requires glyph { first < 65536 }
+    ensures exact { IfOk result (λ index. index ≡ index_at gpos.now (the_pairs gpos.now lookup j) first) }
+    ensures small { IfOk result (λ index. IfSome index (λ i. i < 2 ^ 17)) }
+    ensures spends { limit.new ≤ limit.old }
+    ensures why { IfErr result (λ e. IsUsedUp limit.new e) }
+{
     match pairs_at(gpos, lookup, j) {
         Some(subtable) => {
             let coverage = subtable + word(gpos, subtable + 2);
@@ -50,7 +68,13 @@ pub(crate) fn indices_of(
     lookup: usize,
     first: usize,
     limit: &mut u64,
-) -> Result<Vec<Option<usize>>> {
+) -> Result<Vec<Option<usize>>>
+    requires near { lookup < 2 ^ 31 }
+    requires glyph { first < 65536 }
+    ensures exact { IfOk result (λ indices. AreIndices gpos.now lookup first indices.items) }
+    ensures spends { limit.new ≤ limit.old }
+    ensures why { IfErr result (λ e. (e ≡ errors.Memory) ⊎ IsUsedUp limit.new e) }
+{
     let mut indices = Vec::new(alloc);
     let count = word(gpos, lookup + 4);
     for j in 0..count {
@@ -70,13 +94,23 @@ fn by_subtable(
     first: usize,
     second: usize,
     limit: &mut u64,
-) -> Result<Option<Adjustment>> {
-    match (pairs_at(gpos, lookup, j), index) {
-        (Some(subtable), Some(i)) => {
-            let found = adjustment_of(gpos, subtable, i, first, second, limit)?;
-            Ok(found)
-        }
-        _ => Ok(None),
+) -> Result<Option<Adjustment>>
+    requires near { lookup < 2 ^ 31 }
+    requires few { j < 65536 }
+    requires exact { index ≡ index_at gpos.now (the_pairs gpos.now lookup j) first }
+    ensures exact { IfOk result (λ adjustment. adjustment ≡ by_part gpos.now (the_pairs gpos.now lookup j) first second) }
+    ensures spends { limit.new ≤ limit.old }
+    ensures why { IfErr result (λ e. IsUsedUp limit.new e) }
+{
+    match pairs_at(gpos, lookup, j) {
+        Some(subtable) => match index {
+            Some(i) => {
+                let found = adjustment_of(gpos, subtable, i, first, second, limit)?;
+                Ok(found)
+            }
+            None => Ok(None),
+        },
+        None => Ok(None),
     }
 }
 
@@ -88,7 +122,13 @@ pub(crate) fn by_lookup(
     first: usize,
     second: usize,
     limit: &mut u64,
-) -> Result<Adjustment> {
+) -> Result<Adjustment>
+    requires near { lookup < 2 ^ 31 }
+    requires exact { AreIndices gpos.now lookup first indices.now }
+    ensures exact { IfOk result (λ adjustment. adjustment ≡ the_adjustment gpos.now lookup first second) }
+    ensures spends { limit.new ≤ limit.old }
+    ensures why { IfErr result (λ e. IsUsedUp limit.new e) }
+{
     for j in 0..indices.len() {
         pay(limit)?;
         let found = by_subtable(gpos, lookup, j, indices[j], first, second, limit)?;
