@@ -1,3 +1,4 @@
 pub mod Firsts
 pub mod Fields
 pub mod Lists
+pub mod Listing
