@@ -2,3 +2,5 @@ pub mod Firsts
 pub mod Fields
 pub mod Lists
 pub mod Listing
+pub mod Writing
+pub mod Holding

@@ -21,13 +21,13 @@ entries-none f n es empty none = subst (AreEntries f n) (sym empty) (record {
   few = omega arith;
 })
 
-pub entries-as : (f g : ℕ → Adjustment) (n : ℕ) (es : List Entry) → ((y : ℕ) → f y ≡ g y) → AreEntries f n es → AreEntries g n es
+pub entries-as : (f g : ℕ → Adjustment) (n : ℕ) (es : List Entry) → ((y : ℕ) → y < n → f y ≡ g y) → AreEntries f n es → AreEntries g n es
 entries-as f g n es same a = record {
   right = All-weaker (λ e. (e.second < n) × (e.adjustment ≡ f e.second)) (λ e. (e.second < n) × (e.adjustment ≡ g e.second))
-      (λ e h. (h.0, h.1 ∙ same e.second)) es a.right;
+      (λ e h. (h.0, h.1 ∙ same e.second h.0)) es a.right;
   all = λ y less. elim (a.all y less) [
-    | inl none ↦ inl (ap form_of (sym (same y)) ∙ none)
-    | inr there ↦ inr (subst (λ (b : Adjustment). Contains es (entry y b)) (same y) there)
+    | inl none ↦ inl (ap form_of (sym (same y less)) ∙ none)
+    | inr there ↦ inr (subst (λ (b : Adjustment). Contains es (entry y b)) (same y less) there)
   ];
   few = a.few;
 }

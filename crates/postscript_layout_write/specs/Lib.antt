@@ -7,3 +7,5 @@ pub mod Pairs
 pub mod Classes
 pub mod Indices
 pub mod Entries
+pub mod Sets
+pub mod Holds

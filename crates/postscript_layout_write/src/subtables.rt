@@ -1,4 +1,10 @@
 //! Subtables of pairs that are listed one by one (format 1), with pairs of one form.
+ghost use Rattle.std.specs.Prelude.{◌≡◌, ◌⊎◌, ◌+◌, ◌*◌, ◌<◌, ◌≤◌, ◌++◌, [], length, true, false, Some, IfErr, IfOk, OnOk};
+ghost use Rattle.std.specs.List.{All};
+ghost use Rattle.postscript_layout_write.specs.Entries.{form_of as the_form};
+ghost use Rattle.postscript_layout_write.specs.Sets.{Adds, AreOffsets};
+ghost use Rattle.postscript_layout_write.specs.Text.{AdjustmentFits, AreOfForm, EntryFits, ValuesFit, adjustment_text, array_text, coverage_text, entry_text, formats_text, head_text, offsets_text, set_text, subtable_text, values_text};
+ghost use Rattle.postscript_layout_write.specs.declared.error.Error.TheVariants as errors;
 
 use crate::entries::{Entry, Form, form_of};
 use crate::error::{Error, Result};
@@ -15,19 +21,38 @@ pub(crate) struct Sets {
 }
 
 /// Appends the four numbers of a value record.
-fn put_values(out: &mut Vec<u8>, values: &Values) -> std::result::Result<(), AllocError> {
+#[tactic(auto, unfolding(crate::specs::Text::values_text))]
+fn put_values(out: &mut Vec<u8>, values: &Values) -> std::result::Result<(), AllocError>
+    ensures text { OnOk result (out.new.items ≡ out.old.items ++ values_text values.now) }
+    ensures fits { OnOk result (ValuesFit values.now) }
+{
     put_uint16(out, values.x_placement)?;
     put_uint16(out, values.y_placement)?;
     put_uint16(out, values.x_advance)?;
     put_uint16(out, values.y_advance)
 }
 
+/// Whether a pair has a form.
+fn has_form(form: Form, entry: &Entry) -> bool
+    ensures yes { result ≡ true → the_form entry.now.adjustment ≡ Some form }
+    ensures no { result ≡ false → the_form entry.now.adjustment ≡ Some form → ⊥ }
+{
+    match form_of(&entry.adjustment) {
+        Some(found) => found == form,
+        None => false,
+    }
+}
+
 /// Appends the value records of a pair.
+#[tactic(auto, unfolding(crate::specs::Text::adjustment_text))]
 fn put_adjustment(
     out: &mut Vec<u8>,
     form: Form,
     entry: &Entry,
-) -> std::result::Result<(), AllocError> {
+) -> std::result::Result<(), AllocError>
+    ensures text { OnOk result (out.new.items ≡ out.old.items ++ adjustment_text form entry.now.adjustment) }
+    ensures fits { OnOk result (AdjustmentFits form entry.now.adjustment) }
+{
     let adjustment = &entry.adjustment;
     match form {
         Form::Advance => put_uint16(out, adjustment.first.x_advance),
@@ -39,25 +64,38 @@ fn put_adjustment(
     }
 }
 
+/// Appends an entry of a set.
+#[tactic(auto, unfolding(crate::specs::Text::entry_text))]
+fn put_entry(out: &mut Vec<u8>, form: Form, entry: &Entry) -> std::result::Result<(), AllocError>
+    ensures text { OnOk result (out.new.items ≡ out.old.items ++ entry_text form entry.now) }
+    ensures fits { OnOk result (EntryFits form entry.now) }
+{
+    put_uint16(out, entry.second)?;
+    put_adjustment(out, form, entry)
+}
+
 /// Appends a set of pairs.
-fn put_set(
-    out: &mut Vec<u8>,
-    form: Form,
-    entries: &[Entry],
-) -> std::result::Result<(), AllocError> {
+#[tactic(auto, unfolding(crate::specs::Text::set_text))]
+fn put_set(out: &mut Vec<u8>, form: Form, entries: &[Entry]) -> std::result::Result<(), AllocError>
+    requires few { length entries.now < 65536 }
+    ensures text { OnOk result (out.new.items ≡ out.old.items ++ set_text form entries.now) }
+    ensures fit { OnOk result (All (EntryFits form) entries.now) }
+{
     put_uint16(out, entries.len() as u16)?;
     for entry in entries {
-        put_uint16(out, entry.second)?;
-        put_adjustment(out, form, entry)?;
+        put_entry(out, form, entry)?;
     }
     Ok(())
 }
 
 /// Returns the pairs of a form.
-fn of_form(alloc: Global, form: Form, entries: &[Entry]) -> Result<Vec<Entry>> {
+fn of_form(alloc: Global, form: Form, entries: &[Entry]) -> Result<Vec<Entry>>
+    ensures exact { IfOk result (λ found. AreOfForm form entries.now found.items) }
+    ensures memory { IfErr result (λ e. e ≡ errors.Memory) }
+{
     let mut found = Vec::new(alloc);
     for entry in entries {
-        if form_of(&entry.adjustment) == Some(form) {
+        if has_form(form, entry) {
             found.push(*entry)?;
         }
     }
@@ -66,7 +104,11 @@ fn of_form(alloc: Global, form: Form, entries: &[Entry]) -> Result<Vec<Entry>> {
 
 impl Sets {
     /// Returns no sets.
-    pub(crate) fn new(alloc: Global) -> Sets {
+    pub(crate) fn new(alloc: Global) -> Sets
+        ensures firsts { result.firsts.items ≡ [] }
+        ensures offsets { result.offsets.items ≡ [] }
+        ensures bytes { result.bytes.items ≡ [] }
+    {
         Sets {
             firsts: Vec::new(alloc),
             offsets: Vec::new(alloc),
@@ -81,7 +123,11 @@ impl Sets {
         form: Form,
         first: u16,
         entries: &[Entry],
-    ) -> Result<()> {
+    ) -> Result<()>
+        requires few { length entries.now < 65536 }
+        ensures done { OnOk result (Adds form first entries.now self.old self.new) }
+        ensures memory { IfErr result (λ e. e ≡ errors.Memory) }
+    {
         let found = of_form(alloc, form, entries)?;
         if found.is_empty() {
             return Ok(());
@@ -94,7 +140,13 @@ impl Sets {
 }
 
 /// Appends offsets that are counted from `base`.
-pub(crate) fn put_offsets(out: &mut Vec<u8>, base: usize, offsets: &[usize]) -> Result<()> {
+#[tactic(auto, unfolding(crate::specs::Text::array_text))]
+pub(crate) fn put_offsets(out: &mut Vec<u8>, base: usize, offsets: &[usize]) -> Result<()>
+    requires { base < 65536 }
+    ensures text { OnOk result (out.new.items ≡ out.old.items ++ offsets_text base offsets.now) }
+    ensures fit { OnOk result (AreOffsets base offsets.now) }
+    ensures why { IfErr result (λ e. (e ≡ errors.Memory) ⊎ (e ≡ errors.TooLarge)) }
+{
     for offset in offsets {
         if *offset > 65535 - base {
             return Err(Error::TooLarge);
@@ -105,7 +157,10 @@ pub(crate) fn put_offsets(out: &mut Vec<u8>, base: usize, offsets: &[usize]) -> 
 }
 
 /// Appends glyph numbers.
-fn put_glyphs(out: &mut Vec<u8>, glyphs: &[u16]) -> std::result::Result<(), AllocError> {
+#[tactic(auto, unfolding(crate::specs::Text::array_text))]
+fn put_glyphs(out: &mut Vec<u8>, glyphs: &[u16]) -> std::result::Result<(), AllocError>
+    ensures text { OnOk result (out.new.items ≡ out.old.items ++ array_text glyphs.now) }
+{
     for glyph in glyphs {
         put_uint16(out, *glyph)?;
     }
@@ -113,7 +168,10 @@ fn put_glyphs(out: &mut Vec<u8>, glyphs: &[u16]) -> std::result::Result<(), Allo
 }
 
 /// Appends the value formats of a form.
-fn put_formats(out: &mut Vec<u8>, form: Form) -> std::result::Result<(), AllocError> {
+#[tactic(auto, unfolding(crate::specs::Text::formats_text))]
+fn put_formats(out: &mut Vec<u8>, form: Form) -> std::result::Result<(), AllocError>
+    ensures text { OnOk result (out.new.items ≡ out.old.items ++ formats_text form) }
+{
     match form {
         Form::Advance => {
             put_uint16(out, 4)?;
@@ -130,20 +188,44 @@ fn put_formats(out: &mut Vec<u8>, form: Form) -> std::result::Result<(), AllocEr
     }
 }
 
+/// Appends the header of a subtable with a number of sets.
+#[tactic(auto, unfolding(crate::specs::Text::head_text))]
+fn put_head(out: &mut Vec<u8>, form: Form, count: u16) -> std::result::Result<(), AllocError>
+    requires { count ≤ 16380 }
+    ensures { OnOk result (out.new.items ≡ out.old.items ++ head_text form count) }
+{
+    put_uint16(out, 1)?;
+    put_uint16(out, 10 + count * 2)?;
+    put_formats(out, form)?;
+    put_uint16(out, count)
+}
+
+/// Appends a coverage table with a list of glyphs.
+#[tactic(auto, unfolding(crate::specs::Text::coverage_text))]
+fn put_coverage(out: &mut Vec<u8>, glyphs: &[u16]) -> std::result::Result<(), AllocError>
+    requires { length glyphs.now ≤ 16380 }
+    ensures { OnOk result (out.new.items ≡ out.old.items ++ coverage_text glyphs.now) }
+{
+    put_uint16(out, 1)?;
+    put_uint16(out, glyphs.len() as u16)?;
+    put_glyphs(out, glyphs)
+}
+
 /// Appends a subtable.
-pub(crate) fn put_subtable(out: &mut Vec<u8>, form: Form, sets: &Sets) -> Result<()> {
+#[tactic(auto, unfolding(crate::specs::Text::subtable_text))]
+pub(crate) fn put_subtable(out: &mut Vec<u8>, form: Form, sets: &Sets) -> Result<()>
+    ensures text { OnOk result (out.new.items ≡ out.old.items ++ subtable_text form sets.now.firsts.items sets.now.offsets.items sets.now.bytes.items) }
+    ensures fit { OnOk result (AreOffsets (14 + length sets.now.firsts.items * 4) sets.now.offsets.items) }
+    ensures few { OnOk result (length sets.now.firsts.items ≤ 16380) }
+    ensures why { IfErr result (λ e. (e ≡ errors.Memory) ⊎ (e ≡ errors.TooLarge)) }
+{
     let count = sets.firsts.len();
     if count > 16380 {
         return Err(Error::TooLarge);
     }
-    put_uint16(out, 1)?;
-    put_uint16(out, (10 + count * 2) as u16)?;
-    put_formats(out, form)?;
-    put_uint16(out, count as u16)?;
+    put_head(out, form, count as u16)?;
     put_offsets(out, 14 + count * 4, &sets.offsets)?;
-    put_uint16(out, 1)?;
-    put_uint16(out, count as u16)?;
-    put_glyphs(out, &sets.firsts)?;
+    put_coverage(out, &sets.firsts)?;
     out.extend_from_slice(&sets.bytes)?;
     Ok(())
 }
