@@ -4,3 +4,4 @@ pub mod Lists
 pub mod Listing
 pub mod Writing
 pub mod Holding
+pub mod Reading
