@@ -9,3 +9,5 @@ pub mod Indices
 pub mod Entries
 pub mod Sets
 pub mod Holds
+pub mod Kerning
+pub mod Lookups

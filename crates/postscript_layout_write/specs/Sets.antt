@@ -49,3 +49,10 @@ pub record HasSubtable (form : Form) (f : (x y : ℕ) → Adjustment) (bytes : L
   pub fit : AreOffsets (14 + length firsts * 4) offsets
   pub few : length firsts ≤ 16380
   pub there : Holds (subtable_text form firsts offsets sets) bytes offset
+
+-- a subtable is appended, if there are pairs of its form
+pub data AddsSubtable (form : Form) (sets : Sets) (old new oldoffsets newoffsets : List ℕ) : Type 0 where
+  no_subtable : sets.firsts.items ≡ [] → new ≡ old → newoffsets ≡ oldoffsets → AddsSubtable form sets old new oldoffsets newoffsets
+  one_subtable : AreOffsets (14 + length sets.firsts.items * 4) sets.offsets.items → length sets.firsts.items ≤ 16380 →
+      new ≡ old ++ subtable_text form sets.firsts.items sets.offsets.items sets.bytes.items → newoffsets ≡ oldoffsets ++ length old ∷ [] →
+      AddsSubtable form sets old new oldoffsets newoffsets
