@@ -5,3 +5,5 @@ pub mod Listing
 pub mod Writing
 pub mod Holding
 pub mod Reading
+pub mod Collecting
+pub mod Kept

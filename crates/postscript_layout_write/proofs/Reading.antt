@@ -308,7 +308,7 @@ length-coverage glyphs =
     let c = length-array glyphs in
     omega (arith, a, b, c, length-uint16 1, length-uint16 (length glyphs))
 
-length-offsets : (base : ℕ) (offsets : List ℕ) → length (offsets_text base offsets) ≡ length offsets * 2
+pub length-offsets : (base : ℕ) (offsets : List ℕ) → length (offsets_text base offsets) ≡ length offsets * 2
 length-offsets base offsets = length-array (map (λ offset. base + offset) offsets) ∙ ap (λ n. n * 2) (length-map offsets (λ offset. base + offset))
 
 pub offsets-read : (t : List ℕ) (at base : ℕ) (offsets : List ℕ) (k : ℕ) → k < length offsets → AreOffsets base offsets →
