@@ -1,14 +1,16 @@
 -- Lookups that were written are read as their pairs, and the whole table.
-use Rattle.std.proofs.Common.{◌≡◌, refl, sym, ap, subst, ◌∙◌, inl, inr, ℕ, ◌+◌, ◌-◌, ◌*◌, ◌%◌, ◌≤◌, ◌<◌, ◌==◌, List, [], ◌∷◌, ◌++◌, length, length-append, get_or, take, drop, arith, Bool, true, false}
+use Rattle.std.proofs.Common.{◌≡◌, refl, sym, ap, subst, ◌∙◌, inl, inr, ℕ, ◌+◌, ◌-◌, ◌*◌, ◌%◌, ◌≤◌, ◌<◌, ◌==◌, List, [], ◌∷◌, ◌++◌, length, length-append, length-drop, get_or, take, drop, arith, Bool, true, false}
 use Rattle.std.specs.Prelude.{Option, None, Some, nat_eq, nat_lt, slice_index, slice_range, if◌then◌else◌}
 use Rattle.std.proofs.lemmas.Bool.{eq-eqb, le-ltb}
+use Rattle.std.proofs.lemmas.List.{append_assoc, drop-drop, drop-take, length-take-le, take-take}
+use Rattle.std.proofs.Math.Seq.{take-append_seam}
 use Rattle.postscript_base.specs.Numbers.{big_endian}
 use Rattle.postscript_base.specs.Index.{number_at}
 use Rattle.postscript_layout.specs.Numbers.{word, long}
 use Rattle.postscript_layout_write.specs.Entries.{form_of}
 use Rattle.postscript_layout_write.specs.First.{first_some}
 use Rattle.postscript_layout_write.specs.Holds.{Holds}
-use Rattle.postscript_layout_write.specs.Kerning.{KeepsKerning, kept_pair}
+use Rattle.postscript_layout_write.specs.Kerning.{ComeFirst, KeepsKerning, kept_pair}
 use Rattle.postscript_layout_write.specs.Lookups.{HasLookup, HasLookups}
 use Rattle.postscript_layout_write.specs.Pairs.{by_lookup, by_part, by_subtable, flag_of, found_in, lookup_at, lookups_of, or_nothing, pairs_at}
 use Rattle.postscript_layout_write.specs.Sets.{AreOffsets, HasSubtable}
@@ -16,7 +18,7 @@ use Rattle.postscript_layout_write.specs.Text.{list_text, lookup_text, offsets_t
 use Rattle.postscript_layout_write.specs.Values.{nothing}
 use Rattle.postscript_layout_write.specs.declared.entries.Form.{Form}
 use Rattle.postscript_layout_write.specs.declared.values.Adjustment.{Adjustment}
-use Rattle.postscript_layout_write.proofs.Firsts.{Found, first-cases, none_found, option_cases, some_found}
+use Rattle.postscript_layout_write.proofs.Firsts.{Found, first-cases, nat_cases, none_found, option_cases, some_found}
 use Rattle.postscript_layout_write.proofs.Holding.{holds-first, holds-in, holds-last, holds-on, holds-second, holds-word, length-uint16}
 use Rattle.postscript_layout_write.proofs.Reading.{SubtableRead, is-nothing, length-offsets, not_there, offsets-read, subtable-read, there}
 
@@ -116,3 +118,110 @@ module _ (flag : ℕ) (f : (x y : ℕ) → Adjustment) (t : List ℕ) (l : ℕ) 
           let within : j < length has.offsets = omega (arith, less, count) in
           let s = has.each j within in
           sound s.0 (f x y) a _ (pair-of j x y s.0 within s.1) is)
+
+-- the script list and the feature list, and the offset of the lookup list
+same-two : (xs ys : List ℕ) (n k : ℕ) → k + 2 ≤ n → take n xs ≡ take n ys → take 2 (drop k xs) ≡ take 2 (drop k ys)
+same-two xs ys n k less same =
+    let cut : (zs : List ℕ) → take 2 (drop k zs) ≡ take 2 (drop k (take n zs)) =
+    (λ zs. sym (take-take 2 (n - k) (drop k zs) (omega (arith, less))) ∙ ap (take 2) (sym (drop-take k (n - k) zs))
+    ∙ ap (λ m. take 2 (drop k (take m zs))) (omega (arith, less))) in
+    cut xs ∙ ap (λ zs. take 2 (drop k zs)) same ∙ sym (cut ys)
+
+same-word : (xs ys : List ℕ) (n k : ℕ) → k + 2 ≤ n → 4 + n ≤ length xs → 4 + n ≤ length ys → take n (drop 4 xs) ≡ take n (drop 4 ys) →
+    word xs (4 + k) ≡ word ys (4 + k)
+unfolding number_at
+same-word xs ys n k less a b same =
+    let two = same-two (drop 4 xs) (drop 4 ys) n k less same in
+    let two-at : take 2 (drop (4 + k) xs) ≡ take 2 (drop (4 + k) ys) = ap (take 2) (sym (drop-drop k 4 xs)) ∙ two ∙ ap (take 2) (drop-drop k 4 ys) in
+    ap (λ (t : Bool). if t then 0 else number_at xs (4 + k) 2) (le-ltb (length xs) (4 + k + 2) (omega (arith, less, a)))
+    ∙ ap big_endian two-at
+    ∙ sym (ap (λ (t : Bool). if t then 0 else number_at ys (4 + k) 2) (le-ltb (length ys) (4 + k + 2) (omega (arith, less, b))))
+
+module _ (old kept new front offsets bytes : List ℕ) (far : 10 ≤ word old 8) (within : word old 8 ≤ length old)
+    (begins : front ≡ (uint16 1 ++ uint16 0) ++ slice_range old 4 (word old 8)) (is : new ≡ front ++ list_text offsets bytes)
+    (has : HasLookups old kept (lookups_of old) offsets bytes) (few : length offsets ≤ 32766) (fit : AreOffsets (2 + length offsets * 2) offsets) where
+  size : ℕ
+  size = word old 8
+
+  lists : List ℕ
+  lists = slice_range old 4 (word old 8)
+
+  length-lists : length lists ≡ word old 8 - 4
+  unfolding lists
+  length-lists = length-take-le (word old 8 - 4) (drop 4 old) (let d = length-drop 4 old in omega (arith, d, within, far))
+
+  length-front : length front ≡ word old 8
+  unfolding lists
+  length-front = (let a = ap length begins in let b = length-append (uint16 1 ++ uint16 0) (slice_range old 4 (word old 8)) in
+      let c = length-append (uint16 1) (uint16 0) in let d = length-uint16 1 in let e = length-uint16 0 in let g = length-lists in
+      omega (arith, a, b, c, d, e, g, far))
+
+  front-held : Holds ((uint16 1 ++ uint16 0) ++ slice_range old 4 (word old 8)) new 0
+  front-held = record { front = []; behind = list_text offsets bytes; is = is ∙ ap (λ xs. xs ++ list_text offsets bytes) begins; place = refl }
+
+  versions : Holds (uint16 1 ++ uint16 0) new 0
+  versions = holds-first (uint16 1 ++ uint16 0) (slice_range old 4 (word old 8)) front-held
+
+  lists-held : slice_range new 4 (word old 8) ≡ slice_range old 4 (word old 8)
+  unfolding lists uint16
+  lists-held =
+      let all : new ≡ (uint16 1 ++ uint16 0) ++ (lists ++ list_text offsets bytes) =
+      is ∙ ap (λ xs. xs ++ list_text offsets bytes) begins ∙ append_assoc (uint16 1 ++ uint16 0) lists (list_text offsets bytes) in
+      ap (λ xs. take (word old 8 - 4) (drop 4 xs)) all
+      ∙ ap (λ n. take n (lists ++ list_text offsets bytes)) (sym length-lists) ∙ take-append_seam lists (list_text offsets bytes)
+
+  new-long : word old 8 ≤ length new
+  new-long = (let a = ap length is in let b = length-append front (list_text offsets bytes) in let c = length-front in omega (arith, a, b, c))
+
+  list-at : word new 8 ≡ word old 8
+  list-at = same-word new old (word old 8 - 4) 4 (omega (arith, far)) (let long-enough = new-long in omega (arith, far, long-enough)) (omega (arith, far, within)) lists-held
+
+  list-held : Holds (list_text offsets bytes) new (word old 8)
+  list-held = subst (λ n. Holds (list_text offsets bytes) new n) length-front
+      (subst (λ (xs : List ℕ). Holds (list_text offsets bytes) xs (length front)) (sym is) (holds-last front (list_text offsets bytes)))
+
+  many-read : word new (word old 8) ≡ length offsets
+  unfolding list_text
+  many-read = holds-word (length offsets) (omega (arith, few)) (holds-first (uint16 (length offsets)) _ list-held)
+
+  rest-held : Holds (offsets_text (2 + length offsets * 2) offsets ++ bytes) new (word old 8 + 2)
+  unfolding list_text
+  rest-held = holds-second (uint16 (length offsets)) _ 2 (length-uint16 (length offsets)) list-held
+
+  lookups-held : Holds bytes new (word old 8 + 2 + length offsets * 2)
+  lookups-held = holds-second (offsets_text (2 + length offsets * 2) offsets) bytes (length offsets * 2) (length-offsets (2 + length offsets * 2) offsets) rest-held
+
+  place-read : (i : ℕ) → i < lookups_of old → lookup_at new i ≡ word old 8 + 2 + length offsets * 2 + get_or offsets i 0
+  place-read i less = (let many = has.many in
+      let at = offsets-read new (word old 8 + 2) (2 + length offsets * 2) offsets i (omega (arith, less, many)) fit
+      (holds-first (offsets_text (2 + length offsets * 2) offsets) bytes rest-held) in
+      ap (λ n. n + word new (n + 2 + i * 2)) list-at ∙ ap (λ n. word old 8 + n) at ∙ omega arith)
+
+  lookup-held : (i : ℕ) → i < lookups_of old → HasLookup (flag_of old i % 16) (kept_pair old kept (lookup_at old i)) new (lookup_at new i)
+  lookup-held i less = subst (HasLookup (flag_of old i % 16) (kept_pair old kept (lookup_at old i)) new) (sym (place-read i less))
+      (lookup-in (flag_of old i % 16) (kept_pair old kept (lookup_at old i)) new bytes (word old 8 + 2 + length offsets * 2) (get_or offsets i 0) lookups-held
+      (has.each i less))
+
+  pub keeps : KeepsKerning old kept new
+  keeps = record {
+    version = (
+      holds-word 1 (omega arith) (holds-first (uint16 1) (uint16 0) versions),
+      holds-word 0 (omega arith) (holds-second (uint16 1) (uint16 0) 2 (length-uint16 1) versions),
+    );
+    before = lists-held;
+    lookups = ap (word new) list-at ∙ many-read ∙ has.many;
+    flags = λ i less. flag-read (flag_of old i % 16) (kept_pair old kept (lookup_at old i)) new (lookup_at new i) (lookup-held i less);
+    pairs = λ i x y less. lookup-read (flag_of old i % 16) (kept_pair old kept (lookup_at old i)) new (lookup_at new i) (lookup-held i less) x y;
+  }
+
+pub list-far : (gpos : List ℕ) → (ComeFirst gpos → ⊥) → 10 ≤ word gpos 8
+list-far gpos never = elim (nat_cases (word gpos 8) 10) [
+  | inl near ↦ absurd (never (inl near))
+  | inr far ↦ far
+]
+
+pub list-within : (gpos : List ℕ) → (ComeFirst gpos → ⊥) → word gpos 8 ≤ length gpos
+list-within gpos never = elim (nat_cases (length gpos) (word gpos 8)) [
+  | inl past ↦ absurd (never (inr (inl past)))
+  | inr within ↦ within
+]

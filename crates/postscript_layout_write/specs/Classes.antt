@@ -3,6 +3,8 @@
 use Rattle.std.specs.Prelude.{◌≡◌, ℕ, ◌+◌, ◌<◌, ◌≤◌, ◌==◌, List, length, nat_lt, slice_index, if◌then◌else◌}
 use Rattle.postscript_layout.specs.Numbers.{word}
 use Rattle.postscript_layout_write.specs.Ranges.{class_of}
+use Rattle.postscript_layout_write.specs.declared.error.Error.{Error}
+use Rattle.postscript_layout_write.specs.declared.error.Error.TheVariants.{LookupsComeFirst, Memory, TooLarge, TooLong}
 
 -- a class of 1 to 4, or 0 for any other number
 abbrev pub known : (class : ℕ) → ℕ
@@ -18,3 +20,16 @@ pub record KeepsClasses (old kept new : List ℕ) : Type 0 where
   pub only : (word new 6 ≡ 0) × (word new 8 ≡ 0) × (word new 10 ≡ 0)
   pub kept : (k : ℕ) → k < length kept → glyph_class new k ≡ glyph_class old (slice_index kept k)
   pub none : (k : ℕ) → length kept ≤ k → glyph_class new k ≡ 0
+
+-- entry k is the class of kept glyph k
+pub record AreClasses (gdef kept classes : List ℕ) : Type 0 where
+  pub many : length classes ≡ length kept
+  pub small : (k : ℕ) → k < length classes → slice_index classes k < 5
+  pub each : (k : ℕ) → k < length classes → slice_index classes k ≡ glyph_class gdef (slice_index kept k)
+
+-- the cause of each error
+abbrev pub RefusesClasses : Error → (kept : List ℕ) → (left : ℕ) → Type 0
+RefusesClasses Memory kept left = Unit {0}
+RefusesClasses TooLong kept left = left ≡ 0
+RefusesClasses TooLarge kept left = 65535 < length kept
+RefusesClasses LookupsComeFirst kept left = ⊥

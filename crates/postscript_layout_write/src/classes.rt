@@ -1,13 +1,25 @@
 //! Writes a `GDEF` table with glyph classes.
+ghost use Rattle.std.specs.Prelude.{◌≡◌, ◌⊎◌, ◌+◌, ◌<◌, ◌≤◌, ◌++◌, length, IfErr, IfOk, OnOk};
+ghost use Rattle.postscript_layout_write.specs.Classes.{AreClasses, KeepsClasses, glyph_class as the_class, RefusesClasses};
+ghost use Rattle.postscript_layout_write.specs.Refusals.{IsUsedUp};
+ghost use Rattle.postscript_layout_write.specs.Text.{array_text};
+ghost use Rattle.postscript_layout_write.specs.declared.error.Error.TheVariants as errors;
 
 use crate::error::{Error, Result};
 use crate::limit::pay;
-use crate::numbers::{put_uint16, word};
+use crate::numbers::word;
 use crate::ranges::class_of;
+use crate::subtables::put_glyphs;
 use std::alloc::Global;
 
 /// Returns the class of a glyph in a `GDEF` table: 1 to 4, or 0 for none.
-fn glyph_class(gdef: &[u8], glyph: usize, limit: &mut u64) -> Result<usize> {
+fn glyph_class(gdef: &[u8], glyph: usize, limit: &mut u64) -> Result<usize>
+    requires { glyph < 65536 }
+    ensures exact { IfOk result (λ class. class ≡ the_class gdef.now glyph) }
+    ensures small { IfOk result (λ class. class < 5) }
+    ensures spends { limit.new ≤ limit.old }
+    ensures why { IfErr result (λ e. IsUsedUp limit.new e) }
+{
     let classes = word(gdef, 4);
     if classes == 0 {
         return Ok(0);
@@ -16,13 +28,19 @@ fn glyph_class(gdef: &[u8], glyph: usize, limit: &mut u64) -> Result<usize> {
     if class > 4 { Ok(0) } else { Ok(class) }
 }
 
-/// Appends the header of a `GDEF` table of version 1.0 with glyph classes only, and of a class definition table with a
-/// list of classes (format 1) from glyph 0 on.
-fn put_header(out: &mut Vec<u8>, count: u16) -> Result<()> {
-    for number in [1, 0, 12, 0, 0, 0, 1, 0, count] {
-        put_uint16(out, number)?;
+/// Collects the classes of the kept glyphs.
+fn classes_of(alloc: Global, gdef: &[u8], kept: &[u16], limit: &mut u64) -> Result<Vec<u16>>
+    ensures exact { IfOk result (λ classes. AreClasses gdef.now kept.now classes.items) }
+    ensures spends { limit.new ≤ limit.old }
+    ensures why { IfErr result (λ e. (e ≡ errors.Memory) ⊎ IsUsedUp limit.new e) }
+{
+    let mut classes = Vec::new(alloc);
+    for k in 0..kept.len() {
+        pay(limit)?;
+        let class = glyph_class(gdef, kept[k] as usize, limit)?;
+        classes.push(class as u16)?;
     }
-    Ok(())
+    Ok(classes)
 }
 
 /// Returns a `GDEF` table with the classes of the kept glyphs.
@@ -35,16 +53,23 @@ fn put_header(out: &mut Vec<u8>, count: u16) -> Result<()> {
 /// - `TooLarge`: there are more than 65,535 glyphs.
 /// - `TooLong`: the table costs more than the limit.
 /// - `Memory`: out of memory.
-pub fn glyph_classes(alloc: Global, gdef: &[u8], kept: &[u16], limit: &mut u64) -> Result<Vec<u8>> {
+#[tactic(auto, unfolding(crate::specs::Text::array_text))]
+pub fn glyph_classes(alloc: Global, gdef: &[u8], kept: &[u16], limit: &mut u64) -> Result<Vec<u8>>
+    // Each kept glyph has its class, and no other glyph has one.
+    ensures kept { IfOk result (λ new. KeepsClasses gdef.now kept.now new.items) }
+    // The limit never grows.
+    ensures spends { limit.new ≤ limit.old }
+    // Each error has its cause.
+    ensures why { IfErr result (λ e. RefusesClasses e kept.now limit.new) }
+    // More than 65,535 glyphs are refused.
+    ensures few { OnOk result (length kept.now < 65536) }
+{
     if kept.len() > 65535 {
         return Err(Error::TooLarge);
     }
+    let classes = classes_of(alloc, gdef, kept, limit)?;
     let mut out = Vec::new(alloc);
-    put_header(&mut out, kept.len() as u16)?;
-    for glyph in kept {
-        pay(limit)?;
-        let class = glyph_class(gdef, *glyph as usize, limit)?;
-        put_uint16(&mut out, class as u16)?;
-    }
+    put_glyphs(&mut out, &[1, 0, 12, 0, 0, 0, 1, 0, kept.len() as u16])?;
+    put_glyphs(&mut out, &classes)?;
     Ok(out)
 }

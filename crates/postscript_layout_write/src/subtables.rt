@@ -156,9 +156,9 @@ pub(crate) fn put_offsets(out: &mut Vec<u8>, base: usize, offsets: &[usize]) -> 
     Ok(())
 }
 
-/// Appends glyph numbers.
+/// Appends numbers of two bytes.
 #[tactic(auto, unfolding(crate::specs::Text::array_text))]
-fn put_glyphs(out: &mut Vec<u8>, glyphs: &[u16]) -> std::result::Result<(), AllocError>
+pub(crate) fn put_glyphs(out: &mut Vec<u8>, glyphs: &[u16]) -> std::result::Result<(), AllocError>
     ensures text { OnOk result (out.new.items ≡ out.old.items ++ array_text glyphs.now) }
 {
     for glyph in glyphs {
