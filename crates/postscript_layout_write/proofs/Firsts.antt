@@ -1,5 +1,5 @@
 -- The first of several values that may be missing.
-use Rattle.std.proofs.Common.{◌≡◌, refl, sym, subst, ap, ◌∙◌, inl, inr, ℕ, zero, suc, ◌+◌, ◌<◌, ◌≤◌, arith, add-one, Bool, true, false}
+use Rattle.std.proofs.Common.{◌≡◌, refl, subst, ap, ◌∙◌, inl, inr, ℕ, zero, suc, ◌+◌, ◌<◌, ◌≤◌, arith, add-one, Bool, true, false}
 use Rattle.std.specs.Prelude.{Option, None, Some, ◌⊎◌, nat_lt}
 use Rattle.std.proofs.lemmas.Bool.{ltb-true, ltb-false}
 use Rattle.postscript_layout_write.specs.First.{first_some, or_else}

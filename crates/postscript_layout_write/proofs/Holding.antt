@@ -1,6 +1,6 @@
 -- Texts at offsets.
-use Rattle.std.proofs.Common.{◌≡◌, refl, sym, ap, subst, ◌∙◌, ℕ, zero, suc, ◌+◌, ◌-◌, ◌*◌, ◌^◌, ◌≤◌, ◌<◌, List, [], ◌∷◌, ◌++◌, length, get_or, take, drop, length-append, length-drop, append-nil, arith}
-use Rattle.std.specs.Prelude.{map, nat_lt, false, if◌then◌else◌, Bool}
+use Rattle.std.proofs.Common.{◌≡◌, refl, sym, ap, ◌∙◌, ℕ, zero, suc, ◌+◌, ◌*◌, ◌<◌, List, [], ◌∷◌, ◌++◌, length, get_or, take, drop, length-append, append-nil, arith}
+use Rattle.std.specs.Prelude.{nat_lt, false, if◌then◌else◌, Bool}
 use Rattle.std.proofs.lemmas.Bool.{le-ltb}
 use Rattle.std.proofs.lemmas.List.{append_assoc}
 use Rattle.std.proofs.lemmas.Nat.{from_be_bytes-to_be_bytes_2}
@@ -9,7 +9,7 @@ use Rattle.postscript_base.specs.Numbers.{big_endian}
 use Rattle.postscript_base.specs.Index.{number_at}
 use Rattle.postscript_layout.specs.Numbers.{word}
 use Rattle.postscript_layout_write.specs.Holds.{Holds}
-use Rattle.postscript_layout_write.specs.Text.{array_text, offsets_text, uint16}
+use Rattle.postscript_layout_write.specs.Text.{array_text, uint16}
 
 pub holds-whole : (text : List ℕ) → Holds text text 0
 holds-whole text = record { front = []; behind = []; is = sym (append-nil text); place = refl }

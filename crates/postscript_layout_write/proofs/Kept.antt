@@ -1,6 +1,6 @@
 -- Lookups that were written are read as their pairs, and the whole table.
-use Rattle.std.proofs.Common.{◌≡◌, refl, sym, ap, subst, ◌∙◌, inl, inr, ℕ, ◌+◌, ◌-◌, ◌*◌, ◌%◌, ◌≤◌, ◌<◌, ◌==◌, List, [], ◌∷◌, ◌++◌, length, length-append, length-drop, get_or, take, drop, arith, Bool, true, false}
-use Rattle.std.specs.Prelude.{Option, None, Some, nat_eq, nat_lt, slice_index, slice_range, if◌then◌else◌}
+use Rattle.std.proofs.Common.{◌≡◌, refl, sym, ap, subst, ◌∙◌, inl, inr, ℕ, ◌+◌, ◌-◌, ◌*◌, ◌%◌, ◌≤◌, ◌<◌, ◌==◌, List, [], ◌++◌, length, length-append, length-drop, get_or, take, drop, arith, Bool}
+use Rattle.std.specs.Prelude.{Option, None, Some, slice_range, if◌then◌else◌}
 use Rattle.std.proofs.lemmas.Bool.{eq-eqb, le-ltb}
 use Rattle.std.proofs.lemmas.List.{append_assoc, drop-drop, drop-take, length-take-le, take-take}
 use Rattle.std.proofs.Math.Seq.{take-append_seam}
@@ -8,18 +8,16 @@ use Rattle.postscript_base.specs.Numbers.{big_endian}
 use Rattle.postscript_base.specs.Index.{number_at}
 use Rattle.postscript_layout.specs.Numbers.{word, long}
 use Rattle.postscript_layout_write.specs.Entries.{form_of}
-use Rattle.postscript_layout_write.specs.First.{first_some}
 use Rattle.postscript_layout_write.specs.Holds.{Holds}
 use Rattle.postscript_layout_write.specs.Kerning.{ComeFirst, KeepsKerning, kept_pair}
 use Rattle.postscript_layout_write.specs.Lookups.{HasLookup, HasLookups}
-use Rattle.postscript_layout_write.specs.Pairs.{by_lookup, by_part, by_subtable, flag_of, found_in, lookup_at, lookups_of, or_nothing, pairs_at}
+use Rattle.postscript_layout_write.specs.Pairs.{by_lookup, by_part, flag_of, found_in, lookup_at, lookups_of, or_nothing, pairs_at}
 use Rattle.postscript_layout_write.specs.Sets.{AreOffsets, HasSubtable}
 use Rattle.postscript_layout_write.specs.Text.{list_text, lookup_text, offsets_text, uint16}
-use Rattle.postscript_layout_write.specs.Values.{nothing}
 use Rattle.postscript_layout_write.specs.declared.entries.Form.{Form}
 use Rattle.postscript_layout_write.specs.declared.values.Adjustment.{Adjustment}
 use Rattle.postscript_layout_write.proofs.Firsts.{Found, first-cases, nat_cases, none_found, option_cases, some_found}
-use Rattle.postscript_layout_write.proofs.Holding.{holds-first, holds-in, holds-last, holds-on, holds-second, holds-word, length-uint16}
+use Rattle.postscript_layout_write.proofs.Holding.{holds-first, holds-in, holds-last, holds-second, holds-word, length-uint16}
 use Rattle.postscript_layout_write.proofs.Reading.{SubtableRead, is-nothing, length-offsets, not_there, offsets-read, subtable-read, there}
 
 subtable-in : (form : Form) (f : (x y : ℕ) → Adjustment) (t bytes : List ℕ) (at offset : ℕ) → Holds bytes t at → HasSubtable form f bytes offset →

@@ -7,3 +7,4 @@ pub mod Holding
 pub mod Reading
 pub mod Collecting
 pub mod Kept
+pub mod Classed

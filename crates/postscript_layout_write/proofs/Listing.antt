@@ -1,10 +1,9 @@
 -- The pairs that are written.
 use Rattle.std.proofs.Common.{◌≡◌, refl, sym, subst, ap, ◌∙◌, inl, inr, ℕ, ◌+◌, ◌<◌, ◌≤◌, List, [], ◌∷◌, ◌++◌, length, length-append, get_or, arith, append-nil, rules}
-use Rattle.std.specs.Prelude.{◌⊎◌, Option, None, Some, slice_index, nat_lt, if◌then◌else◌, true, Bool}
+use Rattle.std.specs.Prelude.{Option, None, Some}
 use Rattle.std.specs.List.{All, Contains}
 use Rattle.std.proofs.lemmas.List.Elements.{All-append, All-cons, All-nil, All-weaker, Contains-append_left, Contains-push}
 use Rattle.postscript_layout.specs.Numbers.{word}
-use Rattle.postscript_layout_write.specs.First.{first_some}
 use Rattle.postscript_layout_write.specs.Indices.{AreIndices}
 use Rattle.postscript_layout_write.specs.Pairs.{adjustment_of, by_lookup, by_part, index_at, or_nothing, pairs_at}
 use Rattle.postscript_layout_write.specs.Entries.{AreEntries, entry, form_of, kept_by, listed}

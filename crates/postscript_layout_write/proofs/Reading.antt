@@ -1,7 +1,6 @@
 -- Subtables that were written are read as their pairs.
-use Rattle.std.proofs.Common.{◌≡◌, refl, sym, ap, subst, ◌∙◌, inl, inr, ℕ, zero, suc, ◌+◌, ◌*◌, ◌/◌, ◌%◌, ◌^◌, ◌≤◌, ◌<◌, ◌==◌, ◌&&◌, List, [], ◌∷◌, ◌++◌, length, length-append, get_or, arith, Bool, true, false}
+use Rattle.std.proofs.Common.{◌≡◌, refl, sym, ap, subst, ◌∙◌, inl, inr, ℕ, zero, suc, ◌+◌, ◌*◌, ◌≤◌, ◌<◌, ◌==◌, ◌&&◌, List, [], ◌∷◌, ◌++◌, length, length-append, get_or, arith, Bool, true, false}
 use Rattle.std.specs.Prelude.{Option, None, Some, map, nat_eq, nat_lt, if◌then◌else◌}
-use Rattle.std.specs.List.{All, Contains}
 use Rattle.std.proofs.lemmas.Bool.{eq-eqb, eqb-true, lt-ltb}
 use Rattle.std.proofs.lemmas.List.{get_or-map, length-map}
 use Rattle.postscript_layout.specs.Numbers.{word}
@@ -10,9 +9,9 @@ use Rattle.postscript_layout_write.specs.First.{first_some}
 use Rattle.postscript_layout_write.specs.Holds.{Holds}
 use Rattle.postscript_layout_write.specs.Pairs.{adjustment_by, adjustment_of, by_subtable, class_pair, index_of, listed_pair, record_of, sizes_of}
 use Rattle.postscript_layout_write.specs.Ranges.{class_of, coverage_index, index_in, range_of}
-use Rattle.postscript_layout_write.specs.Sets.{AreOffsets, AreSets, HasSet, HasSubtable}
-use Rattle.postscript_layout_write.specs.Text.{AdjustmentFits, EntryFits, ValuesFit, adjustment_text, array_text, coverage_text, entries_text, entry_text, format1, format2, formats_text, head_text, no_entry, offsets_text, or_zero, set_text, subtable_text, uint16, values_text}
-use Rattle.postscript_layout_write.specs.Values.{adjustment_at, has_value, nothing, size_of, value, values_at, values_below, zero_values}
+use Rattle.postscript_layout_write.specs.Sets.{AreOffsets, HasSet, HasSubtable}
+use Rattle.postscript_layout_write.specs.Text.{AdjustmentFits, ValuesFit, adjustment_text, array_text, coverage_text, entries_text, entry_text, format1, format2, formats_text, head_text, no_entry, offsets_text, or_zero, set_text, subtable_text, uint16, values_text}
+use Rattle.postscript_layout_write.specs.Values.{adjustment_at, nothing, size_of, values_at, values_below, zero_values}
 use Rattle.postscript_layout_write.specs.declared.entries.Entry.{Entry}
 use Rattle.postscript_layout_write.specs.declared.entries.Form.{Form}
 use Rattle.postscript_layout_write.specs.declared.entries.Form.TheVariants.{Advance, First, Both}

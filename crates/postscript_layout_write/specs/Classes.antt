@@ -1,6 +1,6 @@
 -- The glyph classes of the GDEF table (OpenType 1.9, "GDEF - Glyph Definition Table"; ISO/IEC 14496-22, 6.3.2): 1 base, 2 ligature, 3 mark,
 -- 4 component.
-use Rattle.std.specs.Prelude.{◌≡◌, ℕ, ◌+◌, ◌<◌, ◌≤◌, ◌==◌, List, length, nat_lt, slice_index, if◌then◌else◌}
+use Rattle.std.specs.Prelude.{◌≡◌, ℕ, ◌<◌, ◌≤◌, ◌==◌, List, length, nat_lt, slice_index, if◌then◌else◌}
 use Rattle.postscript_layout.specs.Numbers.{word}
 use Rattle.postscript_layout_write.specs.Ranges.{class_of}
 use Rattle.postscript_layout_write.specs.declared.error.Error.{Error}
@@ -18,7 +18,7 @@ glyph_class gdef glyph = if word gdef 4 == 0 then 0 else known (class_of gdef (w
 pub record KeepsClasses (old kept new : List ℕ) : Type 0 where
   pub version : (word new 0 ≡ 1) × (word new 2 ≡ 0)
   pub only : (word new 6 ≡ 0) × (word new 8 ≡ 0) × (word new 10 ≡ 0)
-  pub kept : (k : ℕ) → k < length kept → glyph_class new k ≡ glyph_class old (slice_index kept k)
+  pub same : (k : ℕ) → k < length kept → glyph_class new k ≡ glyph_class old (slice_index kept k)
   pub none : (k : ℕ) → length kept ≤ k → glyph_class new k ≡ 0
 
 -- entry k is the class of kept glyph k

@@ -1,11 +1,9 @@
 -- The kerning of the kept glyphs.
-use Rattle.std.specs.Prelude.{◌≡◌, ◌⊎◌, ℕ, ◌+◌, ◌*◌, ◌%◌, ◌<◌, ◌≤◌, ◌&&◌, List, length, nat_lt, slice_index, slice_range, if◌then◌else◌}
+use Rattle.std.specs.Prelude.{◌≡◌, ◌⊎◌, ℕ, ◌%◌, ◌<◌, ◌≤◌, ◌&&◌, List, length, nat_lt, slice_index, slice_range, if◌then◌else◌}
 use Rattle.postscript_layout.specs.Numbers.{word}
 use Rattle.postscript_layout_write.specs.Entries.{kept_by}
 use Rattle.postscript_layout_write.specs.Pairs.{adjustment, flag_of, lookup_at, lookups_of}
 use Rattle.postscript_layout_write.specs.Values.{nothing}
-use Rattle.postscript_layout_write.specs.declared.error.Error.{Error}
-use Rattle.postscript_layout_write.specs.declared.error.Error.TheVariants.{LookupsComeFirst, Memory, TooLarge, TooLong}
 use Rattle.postscript_layout_write.specs.declared.values.Adjustment.{Adjustment}
 
 -- the adjustment that a lookup of the old table gives to a pair of new numbers; other numbers than those of kept glyphs are not adjusted

@@ -1,8 +1,7 @@
-use Rattle.std.proofs.Common.{◌≡◌, ap, subst, sym, ◌+◌, ℕ, List, arith, ◌∙◌, rules, refl, ◌<◌, ◌≤◌, length, get_or, None}
+use Rattle.std.proofs.Common.{◌≡◌, subst, sym, ◌+◌, ℕ, List, ◌∙◌, refl, ◌<◌, ◌≤◌, length, get_or, None}
 use Rattle.postscript_layout.specs.Numbers.{word}
 use Rattle.std.specs.Prelude.{slice_index, Option}
-use Rattle.postscript_layout_write.specs.Entries.{AreEntries, kept_by}
-use Rattle.postscript_layout_write.specs.Pairs.{by_lookup}
+use Rattle.postscript_layout_write.specs.Entries.{kept_by}
 use Rattle.postscript_layout_write.specs.declared.values.Adjustment.{Adjustment}
 use Rattle.postscript_layout_write.proofs.Listing.{entries-none, lookup-none, kept-as}
 use Rattle.postscript_layout_write.proofs.entries.entries_of.Goals as goal

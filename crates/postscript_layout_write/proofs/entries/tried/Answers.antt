@@ -1,8 +1,7 @@
-use Rattle.std.proofs.Common.{◌≡◌, ap, subst, sym, ◌+◌, ℕ, List, arith}
+use Rattle.std.proofs.Common.{subst, sym, ◌+◌, ℕ, arith}
 use Rattle.std.specs.Prelude.{slice_index}
 use Rattle.postscript_layout_write.specs.Entries.{AreEntries}
 use Rattle.postscript_layout_write.specs.Pairs.{by_lookup}
-use Rattle.postscript_layout_write.specs.declared.entries.Entry.{Entry}
 use Rattle.postscript_layout_write.specs.declared.values.Adjustment.{Adjustment}
 use Rattle.postscript_layout_write.proofs.Listing.{entries-more}
 use Rattle.postscript_layout_write.proofs.entries.tried.Goals as goal

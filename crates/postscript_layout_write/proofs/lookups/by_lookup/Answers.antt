@@ -1,4 +1,4 @@
-use Rattle.std.proofs.Common.{◌≡◌, sym, subst, ap, ◌+◌, ◌<◌, ◌∙◌, Some, ℕ}
+use Rattle.std.proofs.Common.{◌≡◌, sym, subst, ap, ◌<◌, ◌∙◌, Some, ℕ}
 use Rattle.std.specs.Prelude.{Option}
 use Rattle.postscript_layout_write.specs.Pairs.{by_part, or_nothing, pairs_at}
 use Rattle.postscript_layout_write.specs.declared.values.Adjustment.{Adjustment}

@@ -1,4 +1,4 @@
-use Rattle.std.proofs.Common.{◌≡◌, ap, subst, sym, ◌+◌, ◌<◌, ◌∷◌, ◌++◌, ◌∙◌, None, ℕ, [], List, length, get_or, arith, length-append}
+use Rattle.std.proofs.Common.{◌≡◌, ap, subst, sym, ◌+◌, ◌∷◌, ◌∙◌, None, ℕ, [], List, length, get_or, arith, length-append}
 use Rattle.std.specs.Prelude.{Option}
 use Rattle.postscript_layout_write.specs.Pairs.{index_at, pairs_at}
 use Rattle.postscript_layout_write.proofs.Lists.{push-each}

@@ -1,4 +1,4 @@
-use Rattle.std.proofs.Common.{◌≡◌, ◌<◌, subst, arith, List, length}
+use Rattle.std.proofs.Common.{subst, arith, List}
 use Rattle.postscript_layout_write.specs.Lookups.{AddsForms}
 use Rattle.postscript_layout_write.specs.declared.entries.Entry.{Entry}
 use Rattle.postscript_layout_write.proofs.Collecting.{forms-more}

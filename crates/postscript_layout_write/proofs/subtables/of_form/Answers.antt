@@ -1,4 +1,4 @@
-use Rattle.std.proofs.Common.{◌≡◌, ◌+◌, ◌<◌, ◌++◌, ◌∷◌, [], ap, sym, subst, take, get_or, length, List, ◌∙◌, arith, ℕ}
+use Rattle.std.proofs.Common.{◌+◌, ◌<◌, ◌++◌, ◌∷◌, [], ap, sym, subst, take, get_or, length, List, ◌∙◌, arith}
 use Rattle.std.proofs.lemmas.List.{take_more}
 use Rattle.postscript_layout_write.specs.Text.{AreOfForm, no_entry}
 use Rattle.postscript_layout_write.specs.declared.entries.Entry.{Entry}

@@ -1,4 +1,4 @@
-use Rattle.std.proofs.Common.{◌<◌, ◌≤◌, ◌+◌, ◌*◌, ◌≡◌, ◌∙◌, ap, sym, arith, ℕ}
+use Rattle.std.proofs.Common.{◌<◌, ◌≤◌, ◌+◌, ◌*◌, ◌∙◌, ap, sym, arith, ℕ}
 use Rattle.postscript_layout.specs.Numbers.{word}
 use Rattle.postscript_layout_write.specs.Values.{values_below}
 use Rattle.postscript_layout_write.proofs.Fields.{value-none, value-there}

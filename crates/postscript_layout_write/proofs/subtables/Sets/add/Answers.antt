@@ -1,4 +1,4 @@
-use Rattle.std.proofs.Common.{◌≡◌, ◌++◌, ◌∷◌, [], ap, subst, List, ◌∙◌, rules, length, arith}
+use Rattle.std.proofs.Common.{◌++◌, ap, subst, List, ◌∙◌, rules, arith}
 use Rattle.std.specs.List.{All}
 use Rattle.postscript_layout_write.specs.Sets.{some_pairs}
 use Rattle.postscript_layout_write.specs.Text.{EntryFits, set_text}
