@@ -1,0 +1,310 @@
+-- Sets, subtables and lookups that are collected.
+use Rattle.std.proofs.Common.{◌≡◌, refl, sym, ap, subst, ◌∙◌, inl, inr, ℕ, ◌+◌, ◌*◌, ◌%◌, ◌≤◌, ◌<◌, ◌&&◌, List, [], ◌∷◌, ◌++◌, length, length-append, get_or, arith, Bool, true, false}
+use Rattle.std.specs.Prelude.{None, Some, nat_lt, if◌then◌else◌}
+use Rattle.std.specs.List.{All, Contains}
+use Rattle.std.proofs.lemmas.Bool.{le-ltb, lt-ltb}
+use Rattle.std.proofs.lemmas.List.{get_or_append_left, get_or_push}
+use Rattle.std.proofs.lemmas.List.Elements.{All-contains, All-weaker, Contains-append_left, Contains-push}
+use Rattle.postscript_layout_write.specs.Entries.{AreEntries, entry, form_of, kept_by}
+use Rattle.postscript_layout_write.specs.Holds.{Holds}
+use Rattle.postscript_layout_write.specs.Kerning.{kept_pair}
+use Rattle.postscript_layout_write.specs.Lookups.{AddsForms, AreForms, HasLookup, HasLookups, PutsLookup}
+use Rattle.postscript_layout_write.specs.Pairs.{flag_of, lookup_at}
+use Rattle.postscript_layout_write.specs.Sets.{Adds, AddsSubtable, AreOffsets, AreSets, HasSet, HasSubtable, no_pairs, some_pairs, no_subtable, one_subtable}
+use Rattle.postscript_layout_write.specs.Text.{AreOfForm, EntryFits, lookup_text, set_text, subtable_text}
+use Rattle.postscript_layout_write.specs.Values.{nothing}
+use Rattle.postscript_layout_write.specs.declared.entries.Entry.{Entry}
+use Rattle.postscript_layout_write.specs.declared.entries.Form.{Form}
+use Rattle.postscript_layout_write.specs.declared.entries.Form.TheVariants.{Advance, First, Both}
+use Rattle.postscript_layout_write.specs.declared.positioning.Forms.{Forms}
+use Rattle.postscript_layout_write.specs.declared.subtables.Sets.{Sets}
+use Rattle.postscript_layout_write.specs.declared.values.Adjustment.{Adjustment}
+use Rattle.postscript_layout_write.proofs.Firsts.{nat_cases}
+use Rattle.postscript_layout_write.proofs.Holding.{holds-last, holds-on}
+use Rattle.postscript_layout_write.proofs.Listing.{entries-as}
+
+-- a set and a subtable, with more bytes after them
+set-on : (form : Form) (g : ℕ → Adjustment) (bytes more : List ℕ) (at : ℕ) → HasSet form g bytes at → HasSet form g (bytes ++ more) at
+set-on form g bytes more at s = record {
+  entries = s.entries;
+  right = s.right;
+  all = s.all;
+  fit = s.fit;
+  few = s.few;
+  there = holds-on more s.there;
+}
+
+module _ (form : Form) (f : (x y : ℕ) → Adjustment) (n x : ℕ) (es : List Entry) (are : AreEntries (f x) n es) (few : n < 65536)
+    (bounded : (y : ℕ) → n ≤ y → f x y ≡ nothing) where
+  -- a pair of the form has an entry
+  entry-there : (found : List Entry) → AreOfForm form es found → (y : ℕ) → form_of (f x y) ≡ Some form → Contains found (entry y (f x y))
+  entry-there found of y is = elim (nat_cases y n) [
+    | inl less ↦ elim (are.all y less) [
+      | inl none ↦ absurd (cc)
+      | inr there ↦ of.all (entry y (f x y)) there is
+    ]
+    | inr far ↦ (let none = ap form_of (bounded y far) in absurd (cc))
+  ]
+
+  set-of : (found : List Entry) → AreOfForm form es found → All (EntryFits form) found → (bytes : List ℕ) →
+      HasSet form (f x) (bytes ++ set_text form found) (length bytes)
+  set-of found of fit bytes = record {
+    entries = found;
+    right = All-weaker (λ e. (form_of e.adjustment ≡ Some form) × Contains es e) (λ e. (form_of e.adjustment ≡ Some form) × (e.adjustment ≡ f x e.second))
+        (λ e h. (h.0, (All-contains (λ y. (y.second < n) × (y.adjustment ≡ f x y.second)) es e are.right h.1).1)) found of.right;
+    all = entry-there found of;
+    fit = fit;
+    few = (let a = are.few in let b = of.few in omega (arith, a, b, few));
+    there = holds-last bytes (set_text form found);
+  }
+
+  -- the sets with the pairs of one more first glyph
+  all-less : (firsts : List ℕ) → ((z y : ℕ) → z < x → form_of (f z y) ≡ Some form → Contains firsts z) →
+      ((y : ℕ) → form_of (f x y) ≡ Some form → Contains firsts x) → (z y : ℕ) → z < x + 1 → form_of (f z y) ≡ Some form → Contains firsts z
+  all-less firsts old here z y less is = elim (nat_cases z x) [
+    | inl early ↦ old z y early is
+    | inr late ↦ (let same : x ≡ z = omega (arith, less, late) in
+        subst (λ w. Contains firsts w) same (here y (subst (λ w. form_of (f w y) ≡ Some form) (sym same) is)))
+  ]
+
+  pub sets-more : (old new : Sets) → Adds form x es old new → AreSets form f x old.firsts.items old.offsets.items old.bytes.items →
+      AreSets form f (x + 1) new.firsts.items new.offsets.items new.bytes.items
+  sets-more old new (no_pairs of a b c) s =
+      subst (λ (xs : List ℕ). AreSets form f (x + 1) xs new.offsets.items new.bytes.items) (sym a)
+      (subst (λ (xs : List ℕ). AreSets form f (x + 1) old.firsts.items xs new.bytes.items) (sym b)
+      (subst (λ (xs : List ℕ). AreSets form f (x + 1) old.firsts.items old.offsets.items xs) (sym c) (record {
+        same = s.same;
+        fit = s.fit;
+        each = s.each;
+        all = all-less old.firsts.items s.all (λ y is. (let none = entry-there [] of y is in let less = none.1 in absurd (omega (arith, less))));
+      })))
+  sets-more old new (some_pairs found of fit small a b c) s =
+      subst (λ (xs : List ℕ). AreSets form f (x + 1) xs new.offsets.items new.bytes.items) (sym a)
+      (subst (λ (xs : List ℕ). AreSets form f (x + 1) (old.firsts.items ++ x ∷ []) xs new.bytes.items) (sym b)
+      (subst (λ (xs : List ℕ). AreSets form f (x + 1) (old.firsts.items ++ x ∷ []) (old.offsets.items ++ length old.bytes.items ∷ []) xs) (sym c)
+      (record {
+        same = (let same = s.same in omega (arith, same, length-append old.firsts.items (x ∷ []), length-append old.offsets.items (length old.bytes.items ∷ [])));
+        fit = λ k less. elim (nat_cases k m) [
+          | inl early ↦ subst (λ w. w < 65536) (sym (get_or_append_left old.firsts.items (x ∷ []) 0 k early)) (s.fit k early)
+          | inr late ↦ subst (λ w. w < 65536) (sym (get_or_push old.firsts.items x 0 k (last k less late))) small
+        ];
+        each = λ k less. elim (nat_cases k m) [
+          | inl early ↦ subst (λ w. HasSet form (f w) bytes (get_or (old.offsets.items ++ length old.bytes.items ∷ []) k 0))
+              (sym (get_or_append_left old.firsts.items (x ∷ []) 0 k early))
+              (subst (λ w. HasSet form (f (get_or old.firsts.items k 0)) bytes w)
+              (sym (get_or_append_left old.offsets.items (length old.bytes.items ∷ []) 0 k (let same = s.same in omega (arith, same, early))))
+              (set-on form (f (get_or old.firsts.items k 0)) old.bytes.items (set_text form found) _ (s.each k early)))
+          | inr late ↦ subst (λ w. HasSet form (f w) bytes (get_or (old.offsets.items ++ length old.bytes.items ∷ []) k 0))
+              (sym (get_or_push old.firsts.items x 0 k (last k less late)))
+              (subst (λ w. HasSet form (f x) bytes w)
+              (sym (get_or_push old.offsets.items (length old.bytes.items) 0 k (let same = s.same in let l = last k less late in omega (arith, same, l))))
+              (set-of found of fit old.bytes.items))
+        ];
+        all = all-less (old.firsts.items ++ x ∷ []) (λ z y less is. Contains-append_left old.firsts.items (x ∷ []) z (s.all z y less is))
+            (λ y is. Contains-push old.firsts.items x);
+      })))
+    where
+      m : ℕ
+      m = length old.firsts.items
+
+      bytes : List ℕ
+      bytes = old.bytes.items ++ set_text form found
+
+      last : (k : ℕ) → k < length (old.firsts.items ++ x ∷ []) → m ≤ k → m ≡ k
+      last k less late = omega (arith, less, late, length-append old.firsts.items (x ∷ []))
+
+-- subtables
+module _ (f : (x y : ℕ) → Adjustment) (n : ℕ) (bounded : (x y : ℕ) → n ≤ x → form_of (f x y) ≡ None) where
+  subtable-on : (form : Form) (bytes more : List ℕ) (at : ℕ) → HasSubtable form f bytes at → HasSubtable form f (bytes ++ more) at
+  subtable-on form bytes more at s = record {
+    firsts = s.firsts;
+    offsets = s.offsets;
+    sets = s.sets;
+    count = s.count;
+    are = s.are;
+    bounded = s.bounded;
+    fit = s.fit;
+    few = s.few;
+    there = holds-on more s.there;
+  }
+
+  Each : (offsets bytes : List ℕ) → Type 0
+  Each offsets bytes = (j : ℕ) → j < length offsets → (form : Form) × HasSubtable form f bytes (get_or offsets j 0)
+
+  There : (form : Form) (offsets bytes : List ℕ) → Type 0
+  There form offsets bytes = (x y : ℕ) → form_of (f x y) ≡ Some form → (j : ℕ) × (j < length offsets) × HasSubtable form f bytes (get_or offsets j 0)
+
+  made : (form : Form) (sets : Sets) (old : List ℕ) → AreSets form f n sets.firsts.items sets.offsets.items sets.bytes.items →
+      AreOffsets (14 + length sets.firsts.items * 4) sets.offsets.items → length sets.firsts.items ≤ 16380 →
+      HasSubtable form f (old ++ subtable_text form sets.firsts.items sets.offsets.items sets.bytes.items) (length old)
+  made form sets old are fit few = record {
+    firsts = sets.firsts.items;
+    offsets = sets.offsets.items;
+    sets = sets.bytes.items;
+    count = n;
+    are = are;
+    bounded = bounded;
+    fit = fit;
+    few = few;
+    there = holds-last old (subtable_text form sets.firsts.items sets.offsets.items sets.bytes.items);
+  }
+
+  each-more : (form : Form) (sets : Sets) (old new oldoffsets newoffsets : List ℕ) → AddsSubtable form sets old new oldoffsets newoffsets →
+      AreSets form f n sets.firsts.items sets.offsets.items sets.bytes.items → Each oldoffsets old → Each newoffsets new
+  unfolding Each
+  each-more form sets old new oldoffsets newoffsets (no_subtable a b c) are each =
+      subst (λ (xs : List ℕ). Each newoffsets xs) (sym b) (subst (λ (xs : List ℕ). Each xs old) (sym c) each)
+  each-more form sets old new oldoffsets newoffsets (one_subtable fit few a b) are each =
+      subst (λ (xs : List ℕ). Each newoffsets xs) (sym a) (subst (λ (xs : List ℕ). Each xs bytes) (sym b)
+      (λ j less. elim (nat_cases j (length oldoffsets)) [
+        | inl early ↦ (let old-one = each j early in (
+          old-one.0,
+          subst (HasSubtable old-one.0 f bytes) (sym (get_or_append_left oldoffsets (length old ∷ []) 0 j early))
+              (subtable-on old-one.0 old text _ old-one.1),
+        ))
+        | inr late ↦ (let last : length oldoffsets ≡ j = omega (arith, less, late, length-append oldoffsets (length old ∷ [])) in
+            (form, subst (HasSubtable form f bytes) (sym (get_or_push oldoffsets (length old) 0 j last)) (made form sets old are fit few)))
+      ]))
+    where
+      text : List ℕ
+      text = subtable_text form sets.firsts.items sets.offsets.items sets.bytes.items
+
+      bytes : List ℕ
+      bytes = old ++ text
+
+  there-new : (form : Form) (sets : Sets) (old new oldoffsets newoffsets : List ℕ) → AddsSubtable form sets old new oldoffsets newoffsets →
+      AreSets form f n sets.firsts.items sets.offsets.items sets.bytes.items → There form newoffsets new
+  unfolding There
+  there-new form sets old new oldoffsets newoffsets (no_subtable a b c) are x y is = elim (nat_cases x n) [
+    | inl less ↦ (let c = are.all x y less is in let within = c.1 in let none = ap length a in absurd (omega (arith, within, none)))
+    | inr far ↦ (let none = bounded x y far in absurd (cc))
+  ]
+  there-new form sets old new oldoffsets newoffsets (one_subtable fit few a b) are x y is =
+      subst (λ (xs : List ℕ). There form newoffsets xs) (sym a) (subst (λ (xs : List ℕ). There form xs bytes) (sym b)
+      (λ x y is. (
+        length oldoffsets,
+        omega (arith, length-append oldoffsets (length old ∷ [])),
+        subst (HasSubtable form f bytes) (sym (get_or_push oldoffsets (length old) 0 (length oldoffsets) refl)) (made form sets old are fit few),
+      ))) x y is
+    where
+      bytes : List ℕ
+      bytes = old ++ subtable_text form sets.firsts.items sets.offsets.items sets.bytes.items
+
+  there-on : (form other : Form) (sets : Sets) (old new oldoffsets newoffsets : List ℕ) → AddsSubtable form sets old new oldoffsets newoffsets →
+      There other oldoffsets old → There other newoffsets new
+  unfolding There
+  there-on form other sets old new oldoffsets newoffsets (no_subtable a b c) there =
+      subst (λ (xs : List ℕ). There other newoffsets xs) (sym b) (subst (λ (xs : List ℕ). There other xs old) (sym c) there)
+  there-on form other sets old new oldoffsets newoffsets (one_subtable fit few a b) there =
+      subst (λ (xs : List ℕ). There other newoffsets xs) (sym a) (subst (λ (xs : List ℕ). There other xs bytes) (sym b)
+      (λ x y is. (let t = there x y is in let within = t.1 in (
+        t.0,
+        omega (arith, within, length-append oldoffsets (length old ∷ [])),
+        subst (HasSubtable other f bytes) (sym (get_or_append_left oldoffsets (length old ∷ []) 0 t.0 t.1)) (subtable-on other old text _ t.2),
+      ))))
+    where
+      text : List ℕ
+      text = subtable_text form sets.firsts.items sets.offsets.items sets.bytes.items
+
+      bytes : List ℕ
+      bytes = old ++ text
+
+  one-more : (form : Form) (sets : Sets) (old new oldoffsets newoffsets : List ℕ) → AddsSubtable form sets old new oldoffsets newoffsets →
+      length newoffsets ≤ length oldoffsets + 1
+  one-more form sets old new oldoffsets newoffsets (no_subtable a b c) = let same = ap length c in omega (arith, same)
+  one-more form sets old new oldoffsets newoffsets (one_subtable fit few a b) =
+      let same = ap length b in omega (arith, same, length-append oldoffsets (length old ∷ []))
+
+  pub lookup-made : (flag : ℕ) (forms : Forms) (old new : List ℕ) → PutsLookup flag forms old new → AreForms f n forms → HasLookup flag f new (length old)
+  unfolding Each There
+  lookup-made flag forms old new p are = record {
+    offsets = p.offsets;
+    subtables = p.bytes;
+    each = each-more Both forms.both p.bytes2 p.bytes p.offsets2 p.offsets p.both are.both
+        (each-more First forms.first p.bytes1 p.bytes2 p.offsets1 p.offsets2 p.first are.first
+        (each-more Advance forms.advance [] p.bytes1 [] p.offsets1 p.advance are.advance (λ j less. absurd (omega (arith, less)))));
+    all = λ form. by form;
+    few = (let a = one-more Advance forms.advance [] p.bytes1 [] p.offsets1 p.advance in
+        let b = one-more First forms.first p.bytes1 p.bytes2 p.offsets1 p.offsets2 p.first in
+        let c = one-more Both forms.both p.bytes2 p.bytes p.offsets2 p.offsets p.both in omega (arith, a, b, c));
+    fit = p.fit;
+    small = p.small;
+    there = subst (λ (xs : List ℕ). Holds (lookup_text flag p.offsets p.bytes) xs (length old)) (sym p.text)
+        (holds-last old (lookup_text flag p.offsets p.bytes));
+  }
+    where
+      by : (form : Form) → There form p.offsets p.bytes
+      by Advance = there-on Both Advance forms.both p.bytes2 p.bytes p.offsets2 p.offsets p.both
+          (there-on First Advance forms.first p.bytes1 p.bytes2 p.offsets1 p.offsets2 p.first
+          (there-new Advance forms.advance [] p.bytes1 [] p.offsets1 p.advance are.advance))
+      by First = there-on Both First forms.both p.bytes2 p.bytes p.offsets2 p.offsets p.both
+          (there-new First forms.first p.bytes1 p.bytes2 p.offsets1 p.offsets2 p.first are.first)
+      by Both = there-new Both forms.both p.bytes2 p.bytes p.offsets2 p.offsets p.both are.both
+
+-- pairs of kept glyphs
+pub pair-kept : (gpos kept : List ℕ) (lookup x y : ℕ) → x < length kept → y < length kept →
+    kept_by gpos lookup (get_or kept x 0) (get_or kept y 0) ≡ kept_pair gpos kept lookup x y
+pair-kept gpos kept lookup x y a b =
+    sym (ap (λ (t : Bool). if t && nat_lt y (length kept) then kept_by gpos lookup (get_or kept x 0) (get_or kept y 0) else nothing) (lt-ltb x (length kept) a)
+    ∙ ap (λ (t : Bool). if t then kept_by gpos lookup (get_or kept x 0) (get_or kept y 0) else nothing) (lt-ltb y (length kept) b))
+
+and-false : (b : Bool) → (b && false) ≡ false
+and-false true = refl
+and-false false = refl
+
+pub pair-far : (gpos kept : List ℕ) (lookup x y : ℕ) → length kept ≤ y → kept_pair gpos kept lookup x y ≡ nothing
+pair-far gpos kept lookup x y far =
+    ap (λ (t : Bool). if nat_lt x (length kept) && t then kept_by gpos lookup (get_or kept x 0) (get_or kept y 0) else nothing) (le-ltb y (length kept) far)
+    ∙ ap (λ (t : Bool). if t then kept_by gpos lookup (get_or kept x 0) (get_or kept y 0) else nothing) (and-false (nat_lt x (length kept)))
+
+pub first-far : (gpos kept : List ℕ) (lookup x y : ℕ) → length kept ≤ x → kept_pair gpos kept lookup x y ≡ nothing
+first-far gpos kept lookup x y far =
+    ap (λ (t : Bool). if t && nat_lt y (length kept) then kept_by gpos lookup (get_or kept x 0) (get_or kept y 0) else nothing) (le-ltb x (length kept) far)
+
+pub forms-more : (gpos kept : List ℕ) (lookup x : ℕ) (es : List Entry) (old new : Forms) → x < length kept → length kept < 65536 →
+    AreEntries (λ y. kept_by gpos lookup (get_or kept x 0) (get_or kept y 0)) (length kept) es → AddsForms x es old new →
+    AreForms (kept_pair gpos kept lookup) x old → AreForms (kept_pair gpos kept lookup) (x + 1) new
+forms-more gpos kept lookup x es old new less few entries adds are =
+    let f : ℕ → ℕ → Adjustment = kept_pair gpos kept lookup in
+    let right : AreEntries (f x) (length kept) es = entries-as (λ y. kept_by gpos lookup (get_or kept x 0) (get_or kept y 0)) (f x) (length kept) es
+    (λ y within. pair-kept gpos kept lookup x y less within) entries in
+    let far : (y : ℕ) → length kept ≤ y → f x y ≡ nothing = pair-far gpos kept lookup x in
+    record {
+      advance = sets-more Advance f (length kept) x es right few far old.advance new.advance adds.advance are.advance;
+      first = sets-more First f (length kept) x es right few far old.first new.first adds.first are.first;
+      both = sets-more Both f (length kept) x es right few far old.both new.both adds.both are.both;
+    }
+
+-- lookups
+lookup-on : (flag : ℕ) (f : (x y : ℕ) → Adjustment) (bytes more : List ℕ) (at : ℕ) → HasLookup flag f bytes at → HasLookup flag f (bytes ++ more) at
+lookup-on flag f bytes more at h = record {
+  offsets = h.offsets;
+  subtables = h.subtables;
+  each = h.each;
+  all = h.all;
+  few = h.few;
+  fit = h.fit;
+  small = h.small;
+  there = holds-on more h.there;
+}
+
+pub lookups-more : (gpos kept : List ℕ) (i : ℕ) (forms : Forms) (offsets bytes newoffsets newbytes : List ℕ) → HasLookups gpos kept i offsets bytes →
+    AreForms (kept_pair gpos kept (lookup_at gpos i)) (length kept) forms → PutsLookup (flag_of gpos i % 16) forms bytes newbytes →
+    newoffsets ≡ offsets ++ length bytes ∷ [] → HasLookups gpos kept (i + 1) newoffsets newbytes
+lookups-more gpos kept i forms offsets bytes newoffsets newbytes has are puts is =
+    subst (λ (xs : List ℕ). HasLookups gpos kept (i + 1) xs newbytes) (sym is) (record {
+      many = (let many = has.many in omega (arith, many, length-append offsets (length bytes ∷ [])));
+      each = λ k less. elim (nat_cases k i) [
+        | inl early ↦ subst (λ w. HasLookup (flag_of gpos k % 16) (kept_pair gpos kept (lookup_at gpos k)) newbytes w)
+            (sym (get_or_append_left offsets (length bytes ∷ []) 0 k (let many = has.many in omega (arith, many, early))))
+            (subst (λ (xs : List ℕ). HasLookup (flag_of gpos k % 16) (kept_pair gpos kept (lookup_at gpos k)) xs (get_or offsets k 0)) (sym puts.text)
+            (lookup-on (flag_of gpos k % 16) (kept_pair gpos kept (lookup_at gpos k)) bytes (lookup_text (flag_of gpos i % 16) puts.offsets puts.bytes) _
+            (has.each k early)))
+        | inr late ↦ (let same : i ≡ k = omega (arith, less, late) in
+            subst (λ j. HasLookup (flag_of gpos j % 16) (kept_pair gpos kept (lookup_at gpos j)) newbytes (get_or (offsets ++ length bytes ∷ []) j 0)) same
+            (subst (λ w. HasLookup (flag_of gpos i % 16) (kept_pair gpos kept (lookup_at gpos i)) newbytes w)
+            (sym (get_or_push offsets (length bytes) 0 i has.many))
+            (lookup-made (kept_pair gpos kept (lookup_at gpos i)) (length kept)
+            (λ x y far. ap form_of (first-far gpos kept (lookup_at gpos i) x y far)) (flag_of gpos i % 16) forms bytes newbytes puts are)))
+      ];
+    })

@@ -1,0 +1,10 @@
+pub mod Firsts
+pub mod Fields
+pub mod Lists
+pub mod Listing
+pub mod Writing
+pub mod Holding
+pub mod Reading
+pub mod Collecting
+pub mod Kept
+pub mod Classed

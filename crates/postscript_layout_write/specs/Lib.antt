@@ -1,0 +1,13 @@
+pub mod Refusals
+pub mod Text
+pub mod First
+pub mod Ranges
+pub mod Values
+pub mod Pairs
+pub mod Classes
+pub mod Indices
+pub mod Entries
+pub mod Sets
+pub mod Holds
+pub mod Kerning
+pub mod Lookups

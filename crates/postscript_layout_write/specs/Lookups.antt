@@ -1,0 +1,65 @@
+-- Lookups as they are written. Only contracts of private functions and proofs name this.
+use Rattle.std.specs.Prelude.{◌≡◌, ℕ, ◌+◌, ◌*◌, ◌%◌, ◌<◌, ◌≤◌, List, [], ◌++◌, Some, length, slice_index}
+use Rattle.postscript_layout_write.specs.Entries.{form_of}
+use Rattle.postscript_layout_write.specs.Holds.{Holds}
+use Rattle.postscript_layout_write.specs.Kerning.{kept_pair}
+use Rattle.postscript_layout_write.specs.Pairs.{flag_of, lookup_at, lookups_of}
+use Rattle.postscript_layout_write.specs.Sets.{Adds, AddsSubtable, AreOffsets, AreSets, HasSubtable}
+use Rattle.postscript_layout_write.specs.Text.{list_text, lookup_text}
+use Rattle.postscript_layout_write.specs.declared.entries.Entry.{Entry}
+use Rattle.postscript_layout_write.specs.declared.entries.Form.{Form}
+use Rattle.postscript_layout_write.specs.declared.entries.Form.TheVariants.{Advance, First, Both}
+use Rattle.postscript_layout_write.specs.declared.positioning.Forms.{Forms}
+use Rattle.postscript_layout_write.specs.declared.values.Adjustment.{Adjustment}
+
+-- the pairs of a first glyph are added to each form
+pub record AddsForms (glyph : ℕ) (entries : List Entry) (old new : Forms) : Type 0 where
+  pub advance : Adds Advance glyph entries old.advance new.advance
+  pub first : Adds First glyph entries old.first new.first
+  pub both : Adds Both glyph entries old.both new.both
+
+-- the pairs for first glyphs below a number are there in each form
+pub record AreForms (f : (x y : ℕ) → Adjustment) (count : ℕ) (forms : Forms) : Type 0 where
+  pub advance : AreSets Advance f count forms.advance.firsts.items forms.advance.offsets.items forms.advance.bytes.items
+  pub first : AreSets First f count forms.first.firsts.items forms.first.offsets.items forms.first.bytes.items
+  pub both : AreSets Both f count forms.both.firsts.items forms.both.offsets.items forms.both.bytes.items
+
+-- a lookup with the subtables of three forms is appended
+pub record PutsLookup (flag : ℕ) (forms : Forms) (old new : List ℕ) : Type 0 where
+  pub bytes1 : List ℕ
+  pub offsets1 : List ℕ
+  pub bytes2 : List ℕ
+  pub offsets2 : List ℕ
+  pub bytes : List ℕ
+  pub offsets : List ℕ
+  pub advance : AddsSubtable Advance forms.advance [] bytes1 [] offsets1
+  pub first : AddsSubtable First forms.first bytes1 bytes2 offsets1 offsets2
+  pub both : AddsSubtable Both forms.both bytes2 bytes offsets2 offsets
+  pub fit : AreOffsets (6 + length offsets * 2) offsets
+  pub small : flag < 65536
+  pub text : new ≡ old ++ lookup_text flag offsets bytes
+
+-- a lookup at an offset has a flag and the pairs
+pub record HasLookup (flag : ℕ) (f : (x y : ℕ) → Adjustment) (bytes : List ℕ) (offset : ℕ) : Type 0 where
+  pub offsets : List ℕ
+  pub subtables : List ℕ
+  pub each : (j : ℕ) → j < length offsets → (form : Form) × HasSubtable form f subtables (slice_index offsets j)
+  pub all : (form : Form) (x y : ℕ) → form_of (f x y) ≡ Some form → (j : ℕ) × (j < length offsets) × HasSubtable form f subtables (slice_index offsets j)
+  pub few : length offsets ≤ 3
+  pub fit : AreOffsets (6 + length offsets * 2) offsets
+  pub small : flag < 65536
+  pub there : Holds (lookup_text flag offsets subtables) bytes offset
+
+-- the first lookups are there
+pub record HasLookups (gpos kept : List ℕ) (count : ℕ) (offsets bytes : List ℕ) : Type 0 where
+  pub many : length offsets ≡ count
+  pub each : (i : ℕ) → i < count → HasLookup (flag_of gpos i % 16) (kept_pair gpos kept (lookup_at gpos i)) bytes (slice_index offsets i)
+
+-- a lookup list is appended
+pub record PutsList (gpos kept : List ℕ) (old new : List ℕ) : Type 0 where
+  pub offsets : List ℕ
+  pub bytes : List ℕ
+  pub are : HasLookups gpos kept (lookups_of gpos) offsets bytes
+  pub few : length offsets ≤ 32766
+  pub fit : AreOffsets (2 + length offsets * 2) offsets
+  pub text : new ≡ old ++ list_text offsets bytes

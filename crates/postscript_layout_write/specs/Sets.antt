@@ -1,0 +1,58 @@
+-- Sets of pairs.
+use Rattle.std.specs.Prelude.{◌≡◌, ℕ, ◌+◌, ◌*◌, ◌<◌, ◌≤◌, List, [], ◌∷◌, ◌++◌, None, Some, length, slice_index}
+use Rattle.std.specs.List.{All, Contains}
+use Rattle.postscript_layout_write.specs.Entries.{entry, form_of}
+use Rattle.postscript_layout_write.specs.Holds.{Holds}
+use Rattle.postscript_layout_write.specs.Text.{AreOfForm, EntryFits, set_text, subtable_text}
+use Rattle.postscript_layout_write.specs.declared.entries.Entry.{Entry}
+use Rattle.postscript_layout_write.specs.declared.entries.Form.{Form}
+use Rattle.postscript_layout_write.specs.declared.subtables.Sets.{Sets}
+use Rattle.postscript_layout_write.specs.declared.values.Adjustment.{Adjustment}
+
+-- offsets that are counted from a base fit into two bytes
+abbrev pub AreOffsets : (base : ℕ) → List ℕ → Type 0
+AreOffsets base offsets = (k : ℕ) → k < length offsets → base + slice_index offsets k < 65536
+
+-- the pairs of a form are added as the set of a first glyph, if there are some
+pub data Adds (form : Form) (first : ℕ) (entries : List Entry) (old new : Sets) : Type 0 where
+  no_pairs : AreOfForm form entries [] → new.firsts.items ≡ old.firsts.items → new.offsets.items ≡ old.offsets.items →
+      new.bytes.items ≡ old.bytes.items → Adds form first entries old new
+  some_pairs : (found : List Entry) → AreOfForm form entries found → All (EntryFits form) found → first < 65536 →
+      new.firsts.items ≡ old.firsts.items ++ first ∷ [] →
+      new.offsets.items ≡ old.offsets.items ++ length old.bytes.items ∷ [] →
+      new.bytes.items ≡ old.bytes.items ++ set_text form found → Adds form first entries old new
+
+-- a set at an offset has the pairs of a form, by their second glyphs
+pub record HasSet (form : Form) (g : ℕ → Adjustment) (bytes : List ℕ) (offset : ℕ) : Type 0 where
+  pub entries : List Entry
+  pub right : All (λ e. (form_of e.adjustment ≡ Some form) × (e.adjustment ≡ g e.second)) entries
+  pub all : (y : ℕ) → form_of (g y) ≡ Some form → Contains entries (entry y (g y))
+  pub fit : All (EntryFits form) entries
+  pub few : length entries < 65536
+  pub there : Holds (set_text form entries) bytes offset
+
+-- the sets of a form have its pairs, for first glyphs below a number
+pub record AreSets (form : Form) (f : (x y : ℕ) → Adjustment) (count : ℕ) (firsts offsets bytes : List ℕ) : Type 0 where
+  pub same : length offsets ≡ length firsts
+  pub fit : (k : ℕ) → k < length firsts → slice_index firsts k < 65536
+  pub each : (k : ℕ) → k < length firsts → HasSet form (f (slice_index firsts k)) bytes (slice_index offsets k)
+  pub all : (x y : ℕ) → x < count → form_of (f x y) ≡ Some form → Contains firsts x
+
+-- a subtable at an offset has all pairs of a form
+pub record HasSubtable (form : Form) (f : (x y : ℕ) → Adjustment) (bytes : List ℕ) (offset : ℕ) : Type 0 where
+  pub firsts : List ℕ
+  pub offsets : List ℕ
+  pub sets : List ℕ
+  pub count : ℕ
+  pub are : AreSets form f count firsts offsets sets
+  pub bounded : (x y : ℕ) → count ≤ x → form_of (f x y) ≡ None
+  pub fit : AreOffsets (14 + length firsts * 4) offsets
+  pub few : length firsts ≤ 16380
+  pub there : Holds (subtable_text form firsts offsets sets) bytes offset
+
+-- a subtable is appended, if there are pairs of its form
+pub data AddsSubtable (form : Form) (sets : Sets) (old new oldoffsets newoffsets : List ℕ) : Type 0 where
+  no_subtable : sets.firsts.items ≡ [] → new ≡ old → newoffsets ≡ oldoffsets → AddsSubtable form sets old new oldoffsets newoffsets
+  one_subtable : AreOffsets (14 + length sets.firsts.items * 4) sets.offsets.items → length sets.firsts.items ≤ 16380 →
+      new ≡ old ++ subtable_text form sets.firsts.items sets.offsets.items sets.bytes.items → newoffsets ≡ oldoffsets ++ length old ∷ [] →
+      AddsSubtable form sets old new oldoffsets newoffsets

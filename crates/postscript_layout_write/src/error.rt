@@ -1,0 +1,44 @@
+//! Errors.
+ghost use Rattle.std.specs.Prelude.{◌≡◌};
+ghost use Rattle.postscript_layout_write.specs.declared.error.Error.TheVariants as errors;
+
+use std::alloc::{AllocError, AllocFailed};
+use thiserror::Error;
+
+/// The result of a call of this crate.
+pub type Result<T> = std::result::Result<T, Error>;
+
+/// The reason why no table is written.
+#[derive(Clone, Copy, Debug, Drop, PartialEq, Eq, Error)]
+pub enum Error {
+    /// Out of memory.
+    #[error("out of memory")]
+    Memory,
+    /// The table costs more than the limit.
+    #[error("the table costs more than the limit")]
+    TooLong,
+    /// An offset or a count of the new table would exceed 16 bits.
+    #[error("the new table is too large for offsets of 16 bits")]
+    TooLarge,
+    /// The lookup list does not follow the script list and the feature list, or it is past the end of the table.
+    #[error("the lookup list is not after the script list and the feature list")]
+    LookupsComeFirst,
+}
+
+/// Converts a failed allocation to `Memory`.
+impl From<AllocError> for Error {
+    ghost from_gives = { λ _ e. e ≡ errors.Memory };
+
+    fn from(_fault: AllocError) -> Error {
+        Error::Memory
+    }
+}
+
+/// Converts a failed allocation that returns its value to `Memory`.
+impl<T: Drop> From<AllocFailed<T>> for Error {
+    ghost from_gives = { λ _ e. e ≡ errors.Memory };
+
+    fn from(_fault: AllocFailed<T>) -> Error {
+        Error::Memory
+    }
+}

@@ -1,0 +1,211 @@
+//! Writes a `GPOS` table with pair adjustments.
+ghost use Rattle.std.specs.Prelude.{◌≡◌, ◌⊎◌, true, false, ◌%◌, ◌^◌, ◌<◌, ◌≤◌, ◌++◌, length, slice_range, IfErr, IfOk, OnOk};
+ghost use Rattle.postscript_layout_write.specs.Kerning.{ComeFirst, KeepsKerning, kept_pair};
+ghost use Rattle.postscript_layout_write.specs.Lookups.{AddsForms, AreForms, HasLookups, PutsList, PutsLookup};
+ghost use Rattle.postscript_layout_write.specs.Pairs.{flag_of, lookup_at as the_lookup, lookups_of};
+ghost use Rattle.postscript_layout_write.specs.Refusals.{Fails, IsUsedUp, Refuses};
+ghost use Rattle.postscript_layout_write.specs.Sets.{AddsSubtable};
+ghost use Rattle.postscript_layout_write.specs.Text.{uint16 as the_uint16};
+ghost use Rattle.postscript_layout_write.specs.declared.error.Error.TheVariants as errors;
+
+use crate::entries::{Entry, Form, entries_of};
+use crate::error::{Error, Result};
+use crate::limit::pay;
+use crate::numbers::{put_uint16, word};
+use crate::subtables::{Sets, put_offsets, put_subtable};
+use std::alloc::{AllocError, Global};
+
+/// The pairs of a lookup in each form.
+#[derive(Drop)]
+pub(crate) struct Forms {
+    pub(crate) advance: Sets,
+    pub(crate) first: Sets,
+    pub(crate) both: Sets,
+}
+
+impl Forms {
+    /// Adds the pairs of a first glyph.
+    fn add(&mut self, alloc: Global, first: u16, entries: &[Entry]) -> Result<()>
+        requires few { length entries.now < 65536 }
+        ensures done { OnOk result (AddsForms first entries.now self.old self.new) }
+        ensures memory { IfErr result (λ e. e ≡ errors.Memory) }
+    {
+        self.advance.add(alloc, Form::Advance, first, entries)?;
+        self.first.add(alloc, Form::First, first, entries)?;
+        self.both.add(alloc, Form::Both, first, entries)?;
+        Ok(())
+    }
+}
+
+/// Collects the pairs of a lookup.
+fn forms_of(
+    alloc: Global,
+    gpos: &[u8],
+    lookup: usize,
+    kept: &[u16],
+    limit: &mut u64,
+) -> Result<Forms>
+    requires near { lookup < 2 ^ 31 }
+    requires few { length kept.now < 65536 }
+    ensures exact { IfOk result (λ forms. AreForms (kept_pair gpos.now kept.now lookup) (length kept.now) forms) }
+    ensures spends { limit.new ≤ limit.old }
+    ensures why { IfErr result (λ e. (e ≡ errors.Memory) ⊎ IsUsedUp limit.new e) }
+{
+    let mut forms = Forms {
+        advance: Sets::new(alloc),
+        first: Sets::new(alloc),
+        both: Sets::new(alloc),
+    };
+    for k in 0..kept.len() {
+        pay(limit)?;
+        let entries = entries_of(alloc, gpos, lookup, kept[k] as usize, kept, limit)?;
+        forms.add(alloc, k as u16, &entries)?;
+    }
+    Ok(forms)
+}
+
+/// Appends a subtable and its offset, if it has pairs.
+fn add_subtable(out: &mut Vec<u8>, offsets: &mut Vec<usize>, form: Form, sets: &Sets) -> Result<()>
+    ensures done { OnOk result (AddsSubtable form sets.now out.old.items out.new.items offsets.old.items offsets.new.items) }
+    ensures why { IfErr result (λ e. (e ≡ errors.Memory) ⊎ (e ≡ errors.TooLarge)) }
+{
+    if sets.firsts.is_empty() {
+        return Ok(());
+    }
+    offsets.push(out.len())?;
+    put_subtable(out, form, sets)?;
+    Ok(())
+}
+
+/// Appends the header of a lookup of pair adjustments.
+fn put_lookup_head(out: &mut Vec<u8>, flag: u16, count: u16) -> std::result::Result<(), AllocError>
+    ensures text { OnOk result (out.new.items ≡ out.old.items ++ (the_uint16 2 ++ (the_uint16 flag ++ the_uint16 count))) }
+    ensures small { OnOk result (flag < 65536) }
+{
+    put_uint16(out, 2)?;
+    put_uint16(out, flag)?;
+    put_uint16(out, count)
+}
+
+/// Appends a lookup of pair adjustments.
+#[tactic(auto, unfolding(crate::specs::Text::lookup_text))]
+fn put_lookup(alloc: Global, out: &mut Vec<u8>, flag: u16, forms: &Forms) -> Result<()>
+    ensures done { OnOk result (PutsLookup flag forms.now out.old.items out.new.items) }
+    ensures why { IfErr result (λ e. (e ≡ errors.Memory) ⊎ (e ≡ errors.TooLarge)) }
+{
+    let mut bytes = Vec::new(alloc);
+    let mut offsets = Vec::new(alloc);
+    add_subtable(&mut bytes, &mut offsets, Form::Advance, &forms.advance)?;
+    add_subtable(&mut bytes, &mut offsets, Form::First, &forms.first)?;
+    add_subtable(&mut bytes, &mut offsets, Form::Both, &forms.both)?;
+    let count = offsets.len();
+    if count > 3 {
+        return Err(Error::TooLarge);
+    }
+    put_lookup_head(out, flag, count as u16)?;
+    put_offsets(out, 6 + count * 2, &offsets)?;
+    out.extend_from_slice(&bytes)?;
+    Ok(())
+}
+
+/// Appends the lookups of a table one after the other, and collects their offsets.
+fn put_each(
+    alloc: Global,
+    bytes: &mut Vec<u8>,
+    offsets: &mut Vec<usize>,
+    gpos: &[u8],
+    kept: &[u16],
+    limit: &mut u64,
+) -> Result<()>
+    requires few { length kept.now < 65536 }
+    requires bytes { length bytes.old.items ≡ 0 }
+    requires offsets { length offsets.old.items ≡ 0 }
+    ensures done { OnOk result (HasLookups gpos.now kept.now (lookups_of gpos.now) offsets.new.items bytes.new.items) }
+    ensures spends { limit.new ≤ limit.old }
+    ensures why { IfErr result (λ e. Fails limit.new e) }
+{
+    let list = word(gpos, 8);
+    let count = word(gpos, list);
+    for i in 0..count {
+        pay(limit)?;
+        let lookup = list + word(gpos, list + 2 + i * 2);
+        let forms = forms_of(alloc, gpos, lookup, kept, limit)?;
+        offsets.push(bytes.len())?;
+        let flag = word(gpos, lookup + 2) % 16;
+        put_lookup(alloc, bytes, flag as u16, &forms)?;
+    }
+    Ok(())
+}
+
+/// Appends a lookup list.
+#[tactic(auto, unfolding(crate::specs::Text::list_text))]
+fn put_list(
+    alloc: Global,
+    out: &mut Vec<u8>,
+    gpos: &[u8],
+    kept: &[u16],
+    limit: &mut u64,
+) -> Result<()>
+    requires few { length kept.now < 65536 }
+    ensures done { OnOk result (PutsList gpos.now kept.now out.old.items out.new.items) }
+    ensures spends { limit.new ≤ limit.old }
+    ensures why { IfErr result (λ e. Fails limit.new e) }
+{
+    let mut bytes = Vec::new(alloc);
+    let mut offsets = Vec::new(alloc);
+    put_each(alloc, &mut bytes, &mut offsets, gpos, kept, limit)?;
+    let count = offsets.len();
+    if count > 32766 {
+        return Err(Error::TooLarge);
+    }
+    put_uint16(out, count as u16)?;
+    put_offsets(out, 2 + count * 2, &offsets)?;
+    out.extend_from_slice(&bytes)?;
+    Ok(())
+}
+
+/// Returns whether the lookup list does not follow the header, the script list and the feature list, or is past the end.
+fn come_first(gpos: &[u8]) -> bool
+    ensures yes { result ≡ true → ComeFirst gpos.now }
+    ensures no { result ≡ false → ComeFirst gpos.now → ⊥ }
+{
+    let list = word(gpos, 8);
+    list < 10 || gpos.len() < list || list <= word(gpos, 4) || list <= word(gpos, 6)
+}
+
+/// Returns a `GPOS` table with the pair adjustments of the kept glyphs.
+///
+/// `kept` has the old numbers of the glyphs. The new number of a glyph is its index there. The new table has version 1.0, the
+/// script list and the feature list of the old one, and as many lookups in the same order. Lookups of pair adjustments, also
+/// by extensions, keep the pairs of kept glyphs, listed one by one. All other lookups have no subtables.
+///
+/// # Errors
+///
+/// - `LookupsComeFirst`: the lookup list does not follow the script list and the feature list, or it is past the end of the table.
+/// - `TooLarge`: an offset or a count would exceed 16 bits.
+/// - `TooLong`: the table costs more than the limit.
+/// - `Memory`: out of memory.
+pub fn kerning(alloc: Global, gpos: &[u8], kept: &[u16], limit: &mut u64) -> Result<Vec<u8>>
+    // The lookups of the new table adjust the kept glyphs as those of the old table.
+    ensures kept { IfOk result (λ new. KeepsKerning gpos.now kept.now new.items) }
+    // The limit never grows.
+    ensures spends { limit.new ≤ limit.old }
+    // Each error has its cause.
+    ensures why { IfErr result (λ e. Refuses e gpos.now limit.new) }
+    // A table whose lookup list comes first is refused.
+    ensures order { OnOk result (ComeFirst gpos.now → ⊥) }
+{
+    if come_first(gpos) {
+        return Err(Error::LookupsComeFirst);
+    }
+    if kept.len() > 65535 {
+        return Err(Error::TooLarge);
+    }
+    let list = word(gpos, 8);
+    let mut out = Vec::new(alloc);
+    put_uint16(&mut out, 1)?;
+    put_uint16(&mut out, 0)?;
+    out.extend_from_slice(&gpos[4..list])?;
+    put_list(alloc, &mut out, gpos, kept, limit)?;
+    Ok(out)
+}
