@@ -182,7 +182,7 @@ const SUBCOMMANDS: &[Subcommand] = &[
     },
     Subcommand {
         name: "subset",
-        about: "Write a font with only some glyphs (without --retain-gids, kerning and ligatures are dropped)",
+        about: "Write a font with only some glyphs and their kerning (ligatures need --retain-gids)",
         group: "kept",
         one_of: &["text", "gids", "unicodes"],
         place: Place::Any,
@@ -208,7 +208,7 @@ const SUBCOMMANDS: &[Subcommand] = &[
             ),
             Word::Flag(
                 "drop-layout",
-                "With --retain-gids: drop the layout tables (kerning, ligatures, vertical metrics)",
+                "Drop the layout tables (kerning; with --retain-gids also ligatures and vertical metrics)",
             ),
             Word::Flag(
                 "exact",

@@ -2,6 +2,7 @@
 use crate::failure::Failure;
 use crate::text::Text;
 use crate::{layout, telling};
+use postscript_files::Given;
 use postscript_sfnt::FontFile;
 use std::alloc::{AllocError, Global};
 
@@ -9,9 +10,6 @@ use std::alloc::{AllocError, Global};
 const KEPT: [[u8; 4]; 9] = [
     *b"CFF ", *b"OS/2", *b"cmap", *b"head", *b"hhea", *b"hmtx", *b"maxp", *b"name", *b"post",
 ];
-
-/// The tags of the tables with kerning and ligatures.
-const LAYOUT: [[u8; 4]; 3] = [*b"GPOS", *b"GSUB", *b"kern"];
 
 /// Adds a space and a tag. Bytes that are not printable ASCII are replaced by `?`.
 pub fn put_tag(text: &mut Text, tag: &[u8; 4]) {
@@ -25,43 +23,66 @@ pub fn put_tag(text: &mut Text, tag: &[u8; 4]) {
     }
 }
 
-/// Returns whether a subset has a table with this tag.
-fn is_kept(tag: &[u8; 4], keeps_layout: bool) -> bool {
-    KEPT.contains(tag) || (keeps_layout && layout::TABLES.contains(tag))
-}
-
-/// Returns the tags of the dropped tables, with a space before each.
-fn tags(alloc: Global, file: &FontFile<'_>, keeps_layout: bool) -> Result<String, AllocError> {
-    let mut text = Text::new(alloc);
-    for i in 0..file.tables() {
-        let tag = file.tag(i).unwrap_or(0).to_be_bytes();
-        if !is_kept(&tag, keeps_layout) {
-            put_tag(&mut text, &tag);
-        }
-    }
-    text.end()
-}
-
-/// Returns whether a file has a table with kerning or ligatures.
-fn has_layout(file: &FontFile<'_>) -> bool {
-    for tag in &LAYOUT {
-        if file.table(*tag).is_some() {
+/// Returns whether a table with a tag is given.
+fn is_given(given: &[Given], tag: u32) -> bool {
+    for table in given {
+        if table.tag == tag {
             return true;
         }
     }
     false
 }
 
-/// Reports on standard error, in one line, the dropped tables and their features.
-pub fn tell(rt: &HostRuntime, file: &FontFile<'_>, keeps_layout: bool) -> Result<(), Failure> {
-    let tags = tags(rt.alloc(), file, keeps_layout)?;
+/// Returns the tags of the dropped tables, with a space before each.
+fn tags(
+    alloc: Global,
+    file: &FontFile<'_>,
+    copied: bool,
+    given: &[Given],
+) -> Result<String, AllocError> {
+    let mut text = Text::new(alloc);
+    for i in 0..file.tables() {
+        let number = file.tag(i).unwrap_or(0);
+        let tag = number.to_be_bytes();
+        let is_layout = copied && layout::TABLES.contains(&tag);
+        if !KEPT.contains(&tag) && !is_layout && !is_given(given, number) {
+            put_tag(&mut text, &tag);
+        }
+    }
+    text.end()
+}
+
+/// The features that a subset loses.
+#[derive(Clone, Copy)]
+pub struct Lost {
+    pub kerning: bool,
+    pub ligatures: bool,
+}
+
+impl Lost {
+    /// Returns the end of the message.
+    fn words(self) -> &'static str {
+        match (self.kerning, self.ligatures) {
+            (true, true) => "; kerning and ligatures are lost",
+            (true, false) => "; kerning is lost",
+            (false, true) => "; ligatures are lost",
+            (false, false) => "",
+        }
+    }
+}
+
+/// Reports on standard error, in one line, the dropped tables and the lost features. `copied` is true if the layout
+/// tables are copied. `given` has the tables that were made.
+pub fn tell(
+    rt: &HostRuntime,
+    file: &FontFile<'_>,
+    copied: bool,
+    given: &[Given],
+    lost: Lost,
+) -> Result<(), Failure> {
+    let tags = tags(rt.alloc(), file, copied, given)?;
     if tags.is_empty() {
         return Ok(());
     }
-    let lost = if !keeps_layout && has_layout(file) {
-        "; kerning and ligatures are lost"
-    } else {
-        ""
-    };
-    telling::tell(rt, format_args!("tables dropped:{tags}{lost}"))
+    telling::tell(rt, format_args!("tables dropped:{tags}{}", lost.words()))
 }

@@ -21,6 +21,7 @@ mod glyphs;
 mod hints;
 mod inspect;
 mod instance;
+mod kerning;
 mod labels;
 mod layout;
 mod leaving;

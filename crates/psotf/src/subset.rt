@@ -3,16 +3,18 @@ use crate::along::Kept;
 use crate::choice::Choice;
 use crate::face::Face;
 use crate::failure::Failure;
+use crate::kerning::{self, Kerning};
+use crate::leaving::{self, Lost};
 use crate::limit::Budget;
-use crate::{layout, leaving, naming, saving, telling};
+use crate::{layout, naming, saving, telling};
 use clap::ArgMatches;
 use postscript_files::{Given, subset_file};
 use std::alloc::{AllocError, Global};
 use std::io::Write;
 
-/// How often a glyph is run: it is checked, searched twice for components, measured and written, and its bytes are
+/// How often a glyph is run: it is checked, searched three times for components, measured and written, and its bytes are
 /// copied.
-pub const RUNS: u64 = 6;
+pub const RUNS: u64 = 7;
 
 /// The tables that are copied into each subset.
 const SAME: [[u8; 4]; 2] = [*b"OS/2", *b"head"];
@@ -43,15 +45,19 @@ fn names_of(alloc: Global, table: &[u8], licence: bool) -> Result<Vec<u8>, Alloc
     }
 }
 
-/// Returns the tables that this program makes: `name`, if the font has it.
-fn given(alloc: Global, face: &Face<'_>, licence: bool) -> Result<Vec<Given>, AllocError> {
-    let mut given = Vec::new(alloc);
+/// Adds the `name` table, if the font has it.
+fn put_names(
+    given: &mut Vec<Given>,
+    alloc: Global,
+    face: &Face<'_>,
+    licence: bool,
+) -> Result<(), AllocError> {
     if let Some(table) = face.source.file.table(*b"name") {
         let bytes = names_of(alloc, table, licence)?;
         let tag = u32::from_be_bytes(*b"name");
         given.push(Given { tag, bytes })?;
     }
-    Ok(given)
+    Ok(())
 }
 
 /// Returns the file of the chosen characters and glyphs.
@@ -60,9 +66,9 @@ fn file_of(
     face: &Face<'_>,
     words: &ArgMatches<'_>,
     choice: &Choice,
+    given: &[Given],
 ) -> Result<Vec<u8>, Failure> {
     let copied = copied(alloc, layout::is_kept(words))?;
-    let given = given(alloc, face, words.get_flag("keep-names"))?;
     let choice = postscript_files::Choice {
         chars: &choice.chars,
         glyphs: &choice.glyphs,
@@ -70,20 +76,56 @@ fn file_of(
         lenient: false,
         retain_gids: words.get_flag("retain-gids"),
         copied: &copied,
-        given: &given,
+        given,
     };
     Ok(subset_file(alloc, face.source.bytes, face.source.number, &choice)?)
 }
 
-/// Reports the added components and the dropped tables.
+/// Returns the features that the subset loses.
+fn lost_of(face: &Face<'_>, words: &ArgMatches<'_>, kerning: &Kerning) -> Lost {
+    let file = &face.source.file;
+    let copied = layout::is_kept(words);
+    let has_pairs = file.table(*b"GPOS").is_some();
+    let kept = copied || (has_pairs && kerning::is_kept(words) && kerning.lost.is_none());
+    Lost {
+        kerning: !kept && (has_pairs || file.table(*b"kern").is_some()),
+        ligatures: !copied && file.table(*b"GSUB").is_some(),
+    }
+}
+
+/// Reports the added components, the dropped tables and the lost features.
 fn tell(
     rt: &HostRuntime,
     face: &Face<'_>,
     words: &ArgMatches<'_>,
     kept: &Kept,
+    kerning: &Kerning,
 ) -> Result<(), Failure> {
     kept.tell(rt)?;
-    leaving::tell(rt, &face.source.file, layout::is_kept(words))
+    kerning.tell(rt)?;
+    let lost = lost_of(face, words, kerning);
+    leaving::tell(
+        rt,
+        &face.source.file,
+        layout::is_kept(words),
+        &kerning.tables,
+        lost,
+    )
+}
+
+/// Returns the tables with the kerning of the chosen glyphs, if the subset keeps it under new glyph numbers.
+fn kerning_of(
+    alloc: Global,
+    face: &Face<'_>,
+    words: &ArgMatches<'_>,
+    named: &[usize],
+    budget: &mut Budget,
+) -> Result<Kerning, Failure> {
+    if kerning::is_kept(words) {
+        Kerning::of(alloc, face, named, budget)
+    } else {
+        Ok(Kerning::none(alloc))
+    }
 }
 
 /// Adds the glyphs of the layout tables, if the subset keeps these. Without `--quiet` it reports their number.
@@ -119,9 +161,16 @@ fn write_choice<W: Write>(
     let named = choice.named(rt.alloc(), face)?;
     let mut kept = Kept::new(rt.alloc());
     kept.ask(rt.alloc(), &face.font, &named, budget)?;
-    let file = file_of(rt.alloc(), face, words, choice)?;
+    let mut kerning = kerning_of(rt.alloc(), face, words, &named, budget)?;
+    put_names(
+        &mut kerning.tables,
+        rt.alloc(),
+        face,
+        words.get_flag("keep-names"),
+    )?;
+    let file = file_of(rt.alloc(), face, words, choice, &kerning.tables)?;
     if !words.get_flag("quiet") {
-        tell(rt, face, words, &kept)?;
+        tell(rt, face, words, &kept, &kerning)?;
     }
     saving::put(rt, words, &file, out)
 }
