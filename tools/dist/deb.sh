@@ -49,6 +49,10 @@ cd "$work/libpostscript-proved0"
 mkdir -p $libs DEBIAN
 cp "$tree/lib/libpostscript.so.0" $libs
 echo "libpostscript 0 libpostscript-proved0 (>= $version)" > DEBIAN/shlibs
+{
+    printf '%s\n' "libpostscript.so.0 libpostscript-proved0 (>= $version)" '* Build-Depends-Package: libpostscript-proved-dev'
+    "${cross}nm" -D --defined-only --with-symbol-versions $libs/libpostscript.so.0 | sed "s/.* //; s/@@/@/; /@/!s/.*/&@&/; s/.*/ & $version/" | sort
+} > DEBIAN/symbols
 echo 'activate-noawait ldconfig' > DEBIAN/triggers
 
 cd "$work/libpostscript-proved-dev"
