@@ -9,7 +9,7 @@
 # instead of new ones. DIST_TEST_ONLY may be amd64, to leave out the second Debian. The glyph is A of EB Garamond, and A of the small font of
 # the bindings' tests, whose outline was computed by hand. The last line is 'N passed, M failed', and the status is 1 if one failed.
 # Needs root, debootstrap, and the mirror that this machine's apt uses; and for aarch64 qemu-user-static, registered in binfmt_misc with the
-# flag F, as Debian's package does; abigail-tools.
+# flag F, as Debian's package does; gcc, pkg-config and abigail-tools.
 set -euo pipefail
 top=$(cd "$(dirname "$0")/../.." && pwd)
 version=$(cat "$top/VERSION")
@@ -245,6 +245,15 @@ sys.exit(1 if differ or len(real) < 8 or len(small) < 5 or len(wanted) < 50 else
 END
 
 # --- on this machine
+if "$top/tools/dist/install.sh" "$work/installed" && test "$("$work/installed/bin/psotf" --version)" = "psotf $version" &&
+    cc "$work/installed/share/doc/postscript-proved/examples/advance.c" $(PKG_CONFIG_PATH=$work/installed/lib/pkgconfig pkg-config --cflags --libs postscript) -o "$work/advance" &&
+    test "$("$work/advance" "$work/installed/share/doc/postscript-proved/examples/small.otf" 0x41)" = 500; then
+    echo 'passed: make install'
+    passed=$((passed + 1))
+else
+    echo 'FAILED: make install'
+    failed=$((failed + 1))
+fi
 # changed NAME EDIT: passes if abi.sh fails after the header in the archives of dist/ is edited
 changed() {
     rm -rf "$work/changed"

@@ -31,7 +31,7 @@ for crate in $crates; do
         cat "$out.check"
         exit 1
     }
-    printf '%s: %s\n' "$crate" "$(tail -n 1 "$out.check")" >> "$out"
+    printf '%s: %s sources=%s\n' "$crate" "$(tail -n 1 "$out.check")" "$("$top/tools/dist/sbom.py" --sources "$crate")" >> "$out"
 done
 rm "$out.check"
 printf 'postscript_c for aarch64: %s\n' "$(cat "$top/bindings/c/build/aarch64/verdict")" >> "$out"

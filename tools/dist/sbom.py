@@ -4,7 +4,9 @@ a checksum of the sources of each, the heap of the library for aarch64, the crat
 compilers.
 
     tools/dist/sbom.py > SBOM.spdx.json
+    tools/dist/sbom.py --sources CRATE
 
+The second command prints only the checksum of a crate's sources.
 The date and the commit are those of the checkout, so two runs on one commit print the same text. Needs `rt` on the path.
 """
 
@@ -13,6 +15,7 @@ import hashlib
 import json
 import pathlib
 import subprocess
+import sys
 
 TOP = pathlib.Path(__file__).resolve().parents[2]
 NAME = "postscript-proved"
@@ -86,4 +89,7 @@ def main():
     print(json.dumps(document, indent=1))
 
 
-main()
+if sys.argv[1:2] == ["--sources"]:
+    print(checksum(sys.argv[2]))
+else:
+    main()
