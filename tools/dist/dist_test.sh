@@ -144,6 +144,8 @@ case_of 'the crate: another processor is refused' 'rustc -o build_rs postscript-
 case_of 'the packages: what they want' 'for one in amd64 arm64; do for deb in dist/lib*_$one.deb; do test "$(dpkg-deb -f $deb Architecture)" = $one; done; done
     test "$(dpkg-deb -f dist/psotf_*.deb Architecture)" = amd64
     for deb in dist/psotf_*.deb dist/libpostscript-proved0_*.deb; do dpkg-deb -f $deb Depends | grep -q "^libc6 (>= 2\.[0-9]*)"; done'
+case_of 'the packages: those of two processors share their files' 'for one in amd64 arm64; do mkdir -p two/$one; for deb in dist/lib*_$one.deb; do
+    dpkg-deb -x $deb two/$one; done; done; diff -r two/amd64/usr/share two/arm64/usr/share; diff -r two/amd64/usr/include two/arm64/usr/include'
 case_of 'the packages: installed' 'apt-get install -y -qq --no-install-recommends ./dist/*_amd64.deb ./dist/*_all.deb; psotf glyph $F --char A --json > out/packages.json'
 case_of 'the packages: a program in C' 'cc $N/examples/svg_glyph.c $(pkg-config --cflags --libs postscript) -o shared; ldd shared | grep -q libpostscript.so.0
     ./shared $F 0x41 > out/packages_c.svg; ./shared $S 0x41 > out/small_packages_c.svg'
