@@ -49,7 +49,7 @@ extern "C" {
 #endif
 
 /* The version of this header: major, minor and patch number, a byte each. psf_version returns the library's. */
-#define PSF_VERSION 0x000200u
+#define PSF_VERSION 0x000300u
 
 /* Statuses. psf_status_text returns a sentence for each. "Unused": no call of this header returns it. */
 enum {

@@ -46,10 +46,10 @@ __all__ = [
     "Point", "Segment", "SegmentPen", "Status", "VariableFont", "VariableGlyph", "WriteError", "draw", "faces", "version",
 ]  # fmt: skip
 
-__version__ = "0.2.0"
+__version__ = "0.3.0"
 
 #: The version of this module and of its library: major, minor and patch number.
-VERSION = (0, 2, 0)
+VERSION = (0, 3, 0)
 
 #: Objects that are read without a copy. Any other object with contiguous bytes works too.
 Buffer = Union[bytes, bytearray, memoryview, mmap.mmap]

@@ -1,5 +1,5 @@
--- What contracts say of tapes, numbers, errors and dictionaries (Technical Note 5176). People read all but Private: its modules
--- are named by private contracts and proofs alone.
+-- The definitions that the contracts use for tapes, numbers, errors and dictionaries (Technical Note 5176). Only private contracts and
+-- proofs use the modules of Private.
 pub mod Refusal
 pub mod RefusalOf
 pub mod Error

@@ -1,4 +1,4 @@
--- What the proofs alone name: no public clause needs it.
+-- Definitions for private contracts and proofs only.
 pub mod Nibbles
 pub mod Operands
 pub mod Significant

@@ -1,37 +1,37 @@
--- What refuses a reading, ends a run or refuses an operator, with what it names.
+-- The errors of reading, of execution and of operators, with their data.
 use Rattle.std.specs.Prelude.{ℕ}
 use Rattle.postscript_base.specs.declared.compact1.operator.Operator.{Operator}
 use Rattle.postscript_base.specs.declared.error.Part.{Part}
 
--- A refusal: its number alone; or the part of the formats that is not followed, or the operator of a dictionary whose
--- operands are malformed or that is missing.
+-- An error in contracts. It is only a number (Numbered), or the unsupported part of the formats (OfPart), or the operator of a dictionary
+-- that has malformed operands (OfMalformed) or is missing (OfMissing).
 pub data Refusal : Type 0 where
   Numbered : ℕ → Refusal
   OfPart : Part → Refusal
   OfMalformed : Operator → Refusal
   OfMissing : Operator → Refusal
 
--- the input ends early, or the tape answered a fault of this kind
+-- the input ends early, or the tape has a fault of this kind
 abbrev pub unexpected_eof : Refusal
 unexpected_eof = Numbered 1
 
--- the tape answered a fault of another kind
+-- the tape has any other fault
 abbrev pub io : Refusal
 io = Numbered 2
 
--- a growth was refused
+-- out of memory
 abbrev pub memory : Refusal
 memory = Numbered 3
 
--- the place does not rise
+-- the offset of the tape does not increase
 abbrev pub tape_stuck : Refusal
 tape_stuck = Numbered 4
 
--- an offset has no such size
+-- the offset size is 0 or greater than 4
 abbrev pub malformed_offset : Refusal
 malformed_offset = Numbered 5
 
--- the offsets of an INDEX do not begin with 1, or do not rise
+-- the offsets of an INDEX do not begin with 1, or are not in order
 abbrev pub malformed_index : Refusal
 malformed_index = Numbered 6
 
@@ -39,47 +39,47 @@ malformed_index = Numbered 6
 abbrev pub malformed_number : Refusal
 malformed_number = Numbered 7
 
--- the number has no operand
+-- a real has no operand: too many digits, or the exponent is out of range
 abbrev pub out_of_range_number : Refusal
 out_of_range_number = Numbered 8
 
--- the code names no operator
+-- no operator has the code
 abbrev pub unknown_operator : Refusal
 unknown_operator = Numbered 9
 
--- a char set of another format, or whose ranges do not meet the number of glyphs
+-- the ranges of a charset cover more glyphs than there are, there are no glyphs, or the format is not the one expected
 abbrev pub malformed_char_set : Refusal
 malformed_char_set = Numbered 10
 
--- no char set has the format
+-- no charset has the format
 abbrev pub unknown_char_set_format : Refusal
 unknown_char_set_format = Numbered 11
 
--- char strings of another type than 2
+-- the charstrings are not of type 2
 abbrev pub unknown_char_string_format : Refusal
 unknown_char_string_format = Numbered 12
 
--- an offset that is negative, or a place that 64 bits do not count
+-- a size, an offset or a sum of offsets that is negative or does not fit in 64 bits
 abbrev pub out_of_range_offset : Refusal
 out_of_range_offset = Numbered 15
 
--- a pop of an empty stack
+-- an operator takes an operand off an empty stack
 abbrev pub expected_operand : Refusal
 expected_operand = Numbered 17
 
--- a pop of an empty stack, or of a number that is not whole
+-- an operator takes an integer off an empty stack, or the operand is not an integer
 abbrev pub expected_integer : Refusal
 expected_integer = Numbered 18
 
--- fewer operands are on the stack than an operator names
+-- the stack has fewer operands than `dup`, `index` or `roll` needs
 abbrev pub expected_more_operands : Refusal
 expected_more_operands = Numbered 19
 
--- no length that the operator takes fits on the stack
+-- the stack has too few operands for an operator that draws or declares stems
 abbrev pub malformed_operands : Refusal
 malformed_operands = Numbered 20
 
--- an operand that the operator cannot follow
+-- the count of a `roll` is negative, or the index of a stored number is not from 0 to 31
 abbrev pub invalid_operand : Refusal
 invalid_operand = Numbered 21
 
@@ -87,19 +87,19 @@ invalid_operand = Numbered 21
 abbrev pub missing_subroutine : Refusal
 missing_subroutine = Numbered 22
 
--- a return in the outermost code
+-- the outermost code returns
 abbrev pub return_without_caller : Refusal
 return_without_caller = Numbered 23
 
--- bytes follow in a routine that EndChar ends
+-- `endchar` is in a subroutine, and bytes follow in it or in one of the subroutines that led to it
 abbrev pub trailing_data : Refusal
 trailing_data = Numbered 24
 
--- one nested call more than may be
+-- calls are nested too deep
 abbrev pub too_deep : Refusal
 too_deep = Numbered 25
 
--- a number beyond the range of operands
+-- a number is out of the range of operands
 abbrev pub overflow : Refusal
 overflow = Numbered 26
 
@@ -107,14 +107,14 @@ overflow = Numbered 26
 abbrev pub zero_divisor : Refusal
 zero_divisor = Numbered 27
 
--- the root of a negative number
+-- the square root of a negative number
 abbrev pub negative_root : Refusal
 negative_root = Numbered 28
 
--- more stems than 32 bits count
+-- more stems than 32 bits can count
 abbrev pub too_many_stems : Refusal
 too_many_stems = Numbered 29
 
--- an earlier call of the program was refused
+-- an earlier call of the program failed
 abbrev pub already_failed : Refusal
 already_failed = Numbered 30

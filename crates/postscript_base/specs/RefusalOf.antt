@@ -1,10 +1,10 @@
--- The refusal that an error tells, and its number.
+-- The `Refusal` of an error, and its number.
 use Rattle.std.specs.Prelude.{ℕ}
 use Rattle.postscript_base.specs.declared.error.Error.{Error}
 use Rattle.postscript_base.specs.declared.error.Error.TheVariants as errors
 use Rattle.postscript_base.specs.Refusal.{Refusal, Numbered, OfPart, OfMalformed, OfMissing, unexpected_eof, io, memory, tape_stuck, malformed_offset, malformed_index, malformed_number, out_of_range_number, unknown_operator, malformed_char_set, unknown_char_set_format, unknown_char_string_format, out_of_range_offset, expected_operand, expected_integer, expected_more_operands, malformed_operands, invalid_operand, missing_subroutine, return_without_caller, trailing_data, too_deep, overflow, zero_divisor, negative_root, too_many_stems, already_failed}
 
--- the refusal that an error tells
+-- the `Refusal` of an error
 abbrev pub refusal_of : Error → Refusal
 refusal_of errors.UnexpectedEof = unexpected_eof
 refusal_of (errors.Io fault) = io
@@ -37,7 +37,7 @@ refusal_of errors.NegativeRoot = negative_root
 refusal_of errors.TooManyStems = too_many_stems
 refusal_of errors.AlreadyFailed = already_failed
 
--- the number of a refusal
+-- the number of an error in contracts
 abbrev pub number_of : Refusal → ℕ
 number_of (Numbered number) = number
 number_of (OfMalformed operator) = 13

@@ -11,12 +11,12 @@ use mir.ValLaws.{SFits-prop}
 abbrev pub lanes : Point → List ℤ
 lanes p = p.x ∷ p.y ∷ []
 
--- where there are no bounds, the lower one has the greatest coordinates that a lane holds, and the upper one the least
+-- without bounds, the lower corner has the greatest coordinates that fit into a lane, and the upper one the least
 abbrev pub corners : Option Bounds → Corners
 corners None = record { low = pos 2147483647 ∷ pos 2147483647 ∷ []; high = negsuc 2147483647 ∷ negsuc 2147483647 ∷ [] }
 corners (Some b) = record { low = lanes b.low; high = lanes b.high }
 
--- a lane holds each coordinate
+-- each coordinate fits into a lane
 abbrev pub FitsLanes : Point → Type 0
 FitsLanes p = FitsSigned w32 p.x × FitsSigned w32 p.y
 

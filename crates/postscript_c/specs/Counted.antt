@@ -1,4 +1,4 @@
--- What C is told of how many glyphs a variable font has: as many as its table CFF2 has charstrings (OpenType 1.9, "CFF2",
+-- The number of glyphs of a variable font, for C. It is the number of charstrings in the `CFF2` table (OpenType 1.9, "CFF2",
 -- "CharStringINDEX").
 use Rattle.std.specs.Prelude.{◌≡◌, ◌⊎◌, ℕ, ℤ, pos, length}
 use Rattle.postscript_c.specs.Varied.{HasFont, HasNoFont}
@@ -8,7 +8,7 @@ use Rattle.postscript_cff2.specs.Shown.{view_shown}
 use Rattle.postscript_cff2.specs.declared.font.Font.{Font}
 use Rattle.postscript_sfnt.specs.declared.file.FontFile.{FontFile}
 
--- on 0 the number is told; or the face has no table `CFF2`, or it is refused, and then the number is left as it was
+-- On 0 the number is stored. Otherwise the face has no `CFF2` table, or it is rejected, and the number is unchanged.
 abbrev pub TellsCountOf : FontFile → (status : ℤ) (old new : ℕ) → Type 0
 TellsCountOf file status old new =
     ((font : Font) × HasFont file font × (status ≡ pos 0) × (new ≡ length (view_shown font).char_strings))

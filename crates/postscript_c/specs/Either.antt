@@ -1,5 +1,5 @@
--- What C is told of a face with outlines in a table `CFF2` or `CFF `: an outline at a place, and how many glyphs there are. The latter
--- varies along no axis, so it is the same at each place.
+-- A face with outlines in a `CFF2` or a `CFF ` table, for C: an outline at a location, and the number of glyphs. A `CFF ` table varies
+-- along no axis, so its outlines are the same at each location.
 use Rattle.std.specs.Prelude.{◌≡◌, ◌⊎◌, ℕ, ℤ, pos, List, codes, Option, Some, None, Result, Ok, Err}
 use Rattle.postscript_base.specs.Error.{code}
 use Rattle.postscript_base.specs.Numbers.{big_endian}
@@ -35,19 +35,20 @@ within limit font = record {
   limit = limit;
 }
 
--- What C is told of what a glyph draws: a refusal by its number, and 31 where there is no such glyph. Then all is left as it was.
+-- The status and the outputs for an outline. An error has its status, and 31 means that there is no such glyph. In both cases all outputs
+-- are unchanged.
 abbrev pub TellsDrawn : Result (Option Glyph) Error → (status : ℤ) → (old new : OutlineRoom) → Type 0
 TellsDrawn (Ok (Some found)) status old new = HandsOutline found.drawn.segments status old new
 TellsDrawn (Ok None) status old new = (status ≡ pos 31) × (new ≡ old)
 TellsDrawn (Err e) status old new = (status ≡ pos (undrawn_code e)) × (new ≡ old)
 
--- what C is told of a glyph of a font, as `psf_glyph_outline` draws it
+-- the status and the outputs for a glyph of a font, as `psf_glyph_outline` draws it
 abbrev pub TellsGlyphOf : (bytes : List ℕ) (font : PsfFont) (glyph : ℕ) (status : ℤ) (old new : OutlineRoom) → Type 0
 TellsGlyphOf bytes font glyph status old new =
     TellsByPart bytes font glyph status
     (λ part. (answer : Result (Option Glyph) Error) × IsOf bytes font part glyph answer × TellsDrawn answer status old new) (new ≡ old)
 
--- the same of the font that is read from the bytes, within a limit; or why it is refused
+-- the same for the font at the beginning of the bytes, within a limit, or why it is rejected
 abbrev pub TellsGlyphIn : (bytes : List ℕ) (glyph limit : ℕ) → Result PsfFont Cause → (status : ℤ) → (old new : OutlineRoom) → Type 0
 TellsGlyphIn bytes glyph limit (Ok font) status old new = TellsGlyphOf bytes (within limit font) glyph status old new
 TellsGlyphIn bytes glyph limit (Err e) status old new = (status ≡ pos (code e)) × (new ≡ old)
@@ -56,21 +57,21 @@ abbrev pub TellsPlain : (bytes : List ℕ) (glyph limit : ℕ) (status : ℤ) (o
 TellsPlain bytes glyph limit status old new =
     (answer : Result PsfFont Cause) × OpensFont bytes answer × TellsGlyphIn bytes glyph limit answer status old new
 
--- the same of the table `CFF ` of a face, where the values name a place of it; or why they name none
+-- the same for the `CFF ` table of a face, if the values give a location of it, or why they do not
 abbrev pub TellsPlainAt : FontFile → (table : List ℕ) (values : List ℤ) (glyph limit : ℕ) (status : ℤ) (old new : OutlineRoom) → Type 0
 TellsPlainAt file table values glyph limit status old new =
     ((coordinates : List ℤ) × AreCoordinatesAt file values coordinates × TellsPlain table glyph limit status old new)
     ⊎ ((e : Unplaced) × IsUnplaced file values e × (status ≡ pos (unplaced_code e)) × (new ≡ old))
 
--- a face that has no table `CFF2`, and this table `CFF `
+-- a face without a `CFF2` table, with this `CFF ` table
 abbrev pub HasPlain : FontFile → (table : List ℕ) → Type 0
 HasPlain file table = HasNoTable file cff2 × IsTableOf file cff table
 
--- one that has a table `CFF2`, or neither
+-- a face with a `CFF2` table, or with neither
 abbrev pub HasNoPlain : FontFile → Type 0
 HasNoPlain file = HasNoTable file cff2 → HasNoTable file cff
 
--- what C is told of an outline of a face at the place that values name, by whichever table it has
+-- the status and the outputs for an outline of a face at the location with these values, by the table that it has
 abbrev pub TellsEitherOf : FontFile → (values : List ℤ) (glyph limit : ℕ) (status : ℤ) (old new : OutlineRoom) → Type 0
 TellsEitherOf file values glyph limit status old new =
     (HasNoPlain file × TellsVariedOf file values glyph limit status old new)
@@ -80,7 +81,7 @@ abbrev pub TellsEither : (bytes : List ℕ) (face : ℕ) (values : List ℤ) (gl
 TellsEither bytes face values glyph limit status old new =
     TellsOfFace bytes face status (λ file. TellsEitherOf file values glyph limit status old new) (new ≡ old)
 
--- how many glyphs the font has that is read from the bytes; or why it is refused
+-- the number of glyphs of the font at the beginning of the bytes, or why it is rejected
 abbrev pub TellsGlyphsOf : Result PsfFont Cause → (status : ℤ) → (old new : ℕ) → Type 0
 TellsGlyphsOf (Ok font) status old new = (status ≡ pos 0) × (new ≡ font.glyphs)
 TellsGlyphsOf (Err e) status old new = (status ≡ pos (code e)) × (new ≡ old)

@@ -1,4 +1,4 @@
--- What C is told of flat code.
+-- Flat (desubroutinized) code, for C.
 use Rattle.std.specs.Prelude.{◌≡◌, ◌⊎◌, ℕ, ℤ, pos, List, Option, Some, None, option_map, Result, Ok, Err}
 use Rattle.postscript_base.specs.Error.{code}
 use Rattle.postscript_base.specs.declared.error.Error.{Error}
@@ -14,13 +14,14 @@ use Rattle.postscript_c.specs.declared.part.PsfPart.{PsfPart}
 abbrev pub flat_shown : Flat → List ℕ
 flat_shown flat = flat.code.items
 
--- the flat code is handed over, or there is no such glyph, or a refusal is told by its number; then all is left as it was
+-- On 0 the flat code is stored, and on 32 only its length. Otherwise there is no such glyph (31), or the status is an error's, and all
+-- outputs are unchanged.
 abbrev pub TellsFlat : Result (Option Flat) Error → (status : ℤ) → (old new : Lent ℕ) → Type 0
 TellsFlat (Ok (Some flat)) status old new = HandsOver (flat_shown flat) status old new
 TellsFlat (Ok None) status old new = (status ≡ pos 31) × (new ≡ old)
 TellsFlat (Err e) status old new = (status ≡ pos (code e)) × (new ≡ old)
 
--- what C is told of the flat code of a glyph by its part: that its run is too long, or this code of a run that keeps to the limit
+-- The status and the outputs for the flat code of a glyph with a part. Its run is too long, or this is the code of a run within the limit.
 abbrev pub TellsFlatBy : (bytes : List ℕ) (font : PsfFont) (part : PsfPart) (glyph : ℕ) (status : ℤ) (old new : Lent ℕ) → Type 0
 TellsFlatBy bytes font part glyph status old new =
     TellsTooLong bytes font part glyph status (new ≡ old)

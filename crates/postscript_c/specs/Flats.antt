@@ -1,4 +1,4 @@
--- The flat code of a glyph of a font that is plain numbers.
+-- The flat (desubroutinized) code of a glyph of a font for C.
 use Rattle.std.specs.Prelude.{ℕ, List, Option}
 use Rattle.postscript_base.specs.Tape.Outcome.{Reading}
 use Rattle.postscript_c.specs.Glyphs.{told_at}
@@ -11,6 +11,6 @@ use Rattle.postscript_type2.specs.Program.Programs.{Pending}
 abbrev pub flattened : Pending → List ℕ
 flattened program = flat_text program.trace
 
--- the flat code of a glyph, if there is such a glyph, or what its run is refused with
+-- the flat code of a glyph, if there is such a glyph, or the error of its run
 abbrev pub flat_at : PsfFont → PsfPart → ℕ → Reading (Option (List ℕ))
 flat_at font part glyph = told_at flattened font part glyph

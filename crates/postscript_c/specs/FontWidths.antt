@@ -1,4 +1,4 @@
--- What C is told of a font besides its INDEXes: the widths of one that is not CID-keyed, and whether it is.
+-- The widths of a font that is not CID-keyed, and whether a font is CID-keyed, for C.
 use Rattle.std.specs.Prelude.{◌≡◌, ℕ, List, None}
 use Rattle.postscript_base.specs.Compact1.Defaults.{look}
 use Rattle.postscript_base.specs.Compact1.Dictionary.{Dictionary}
@@ -11,11 +11,11 @@ use Rattle.postscript_c.specs.Places.{tables}
 use Rattle.postscript_c.specs.Widths.{AreWidths}
 use Rattle.postscript_view.specs.Order.{aside, header_size}
 
--- they are those of the private dictionary that the font's dictionary names
+-- without ROS, the widths are those in the Private DICT of the Top DICT
 abbrev pub HaveWidths : List ℕ → Dictionary → PsfPart → Type 0
 HaveWidths bytes map part = look map operators.ROS ≡ None → AreWidths bytes map part.default_width part.nominal_width
 
--- they are those of the first font, which is CID-keyed or not as its dictionary says
+-- the widths of the first font, and whether it is CID-keyed, agree with its Top DICT
 pub record TellsWidths (bytes : List ℕ) (font : PsfFont) : Type 0 where
   pub size : ℕ
   pub map : Dictionary

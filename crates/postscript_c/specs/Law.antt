@@ -1,4 +1,4 @@
--- Where a font is opened in place, its INDEXes stand at the places that C is told.
+-- If a font is opened as a FontView, its INDEXes are at the offsets for C.
 use Rattle.std.specs.Prelude.{◌≡◌, ◌≢◌, ℕ, List, length, Some, Result, IfOk}
 use Rattle.postscript_base.specs.declared.compact1.operator.Operator.TheVariants as operators
 use Rattle.postscript_base.specs.Tape.Outcome.{Got, Answers}
@@ -16,12 +16,12 @@ pub record AreOf (bytes : List ℕ) (v : View) (p : Places) : Type 0 where
   pub globals : (next : ℕ) × (opened bytes p.global_subroutines ≡ Got v.tables.subroutines next)
   pub glyphs : p.glyphs ≡ length v.char_strings
 
--- FDSelect of a CID-keyed font stands where the font's dictionary names it, and FontView asks it, unless it is told at the place 0.
+-- FDSelect of a CID-keyed font is at the offset in its Top DICT, unless the offset for C is 0.
 abbrev pub NamesSelection : PsfFont → View → Type 0
 NamesSelection font v = font.is_cid ≢ 0 → font.fd_select ≢ 0 → offset_of v.tables.dictionary operators.FDSelect ≡ Some font.fd_select
 
--- The places and the widths that are read, with the limit of 20,000,000 units, or the refusal; and where the font is opened in place,
--- they are of it.
+-- The result of opening a font: its offsets and its widths, with a limit of 20,000,000 units, or an error. If the font can be opened as a
+-- FontView, they agree with it.
 pub record OpensFont (bytes : List ℕ) (answer : Result PsfFont Error) : Type 0 where
   pub reads : Answers placed answer 0 (places bytes 0)
   pub widths : IfOk answer (λ font. TellsWidths bytes font)

@@ -1,4 +1,4 @@
--- What C is told of the operations of a glyph.
+-- The operations of a glyph, for C.
 use Rattle.std.specs.Prelude.{◌≡◌, ◌⊎◌, ℕ, ◌<◌, ℤ, pos, List, ◌++◌, length, drop, Option, Some, None, option_map, Result, Ok, Err}
 use Rattle.postscript_base.specs.Error.{code}
 use Rattle.postscript_base.specs.declared.error.Error.{Error}
@@ -11,7 +11,7 @@ use Rattle.postscript_c.specs.declared.operations.Listed.{Listed}
 use Rattle.postscript_c.specs.declared.operations.PsfOperation.{PsfOperation}
 use Rattle.postscript_c.specs.declared.part.PsfPart.{PsfPart}
 
--- what C lends to a call, as it stands at one time
+-- the buffers and the outputs of the caller, at one time
 pub record Rooms : Type 0 where
   pub operations : List PsfOperation
   pub count : ℕ
@@ -27,38 +27,39 @@ rooms operations count operands operand_count = record {
       operand_count;
 }
 
--- both lists stand at the front of their rooms, and what is behind them stays
+-- both lists are at the front of their buffers, and the rest of the buffers is unchanged
 pub record Handed (listed : Listed) (status : ℤ) (old new : Rooms) : Type 0 where
   pub done : status ≡ pos 0
   pub rows : new.operations ≡ listed.rows.items ++ drop (length listed.rows.items) old.operations
   pub row_operands : new.operands ≡ listed.operands.items ++ drop (length listed.operands.items) old.operands
 
--- one of them is more than its room, and nothing is written to either
+-- at least one buffer is too small, and both are unchanged
 pub record Lacking (status : ℤ) (old new : Rooms) : Type 0 where
   pub refused : status ≡ pos 32
   pub small : (length old.operations < new.count) ⊎ (length old.operands < new.operand_count)
   pub same_rows : new.operations ≡ old.operations
   pub same_operands : new.operands ≡ old.operands
 
--- the numbers of each operation are among all numbers
+-- the numbers of each operation are inside the list of all numbers
 abbrev pub IsInside : Listed → Type 0
 IsInside listed = AllLieIn listed.operands.items listed.rows.items
 
--- how many of each there are is told, and each operation has its numbers among all
+-- the lengths of both lists are stored, and the numbers of each operation are inside the list of all numbers
 pub record HandsOperations (listed : Listed) (status : ℤ) (old new : Rooms) : Type 0 where
   pub inside : IsInside listed
   pub counted : new.count ≡ length listed.rows.items
   pub operands_counted : new.operand_count ≡ length listed.operands.items
   pub handed : Handed listed status old new ⊎ Lacking status old new
 
--- the operations are handed over, or there is no such glyph, or a refusal is told by its number; then all is left as it was
+-- On 0 the operations are stored, and on 32 only their numbers. Otherwise there is no such glyph (31), or the status is an error's, and all
+-- outputs are unchanged.
 abbrev pub TellsOperations : Result (Option Listed) Error → (status : ℤ) → (old new : Rooms) → Type 0
 TellsOperations (Ok (Some listed)) status old new = HandsOperations listed status old new
 TellsOperations (Ok None) status old new = (status ≡ pos 31) × (new ≡ old)
 TellsOperations (Err e) status old new = (status ≡ pos (code e)) × (new ≡ old)
 
--- what C is told of the operations of a glyph by its part: that its run is too long, or these operations of a run that keeps
--- to the limit
+-- The status and the outputs for the operations of a glyph with a part. Its run is too long, or these are the operations of a run within
+-- the limit.
 abbrev pub TellsOperationsBy : (bytes : List ℕ) (font : PsfFont) (part : PsfPart) (glyph : ℕ) (status : ℤ) (old new : Rooms) → Type 0
 TellsOperationsBy bytes font part glyph status old new =
     TellsTooLong bytes font part glyph status (new ≡ old)

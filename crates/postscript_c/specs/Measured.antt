@@ -1,4 +1,4 @@
--- What C is told of the advance of a glyph of a variable font at a place of its design space (OpenType 1.9, "hmtx - Horizontal Metrics
+-- The advance width of a glyph of a variable font at a location of its design space, for C (OpenType 1.9, "hmtx - Horizontal Metrics
 -- Table", "HVAR - Horizontal Metrics Variations Table").
 use Rattle.std.specs.Prelude.{◌≡◌, ◌⊎◌, ℕ, ◌≤◌, ℤ, pos, ◌+ℤ◌, List, codes, Option, Some, None, Result, Ok, Err}
 use Rattle.std.specs.Int.{saturate_signed, w64}
@@ -26,16 +26,16 @@ hmtx = big_endian (codes "hmtx")
 abbrev pub hvar : ℕ
 hvar = big_endian (codes "HVAR")
 
--- the two tables of a face that tell the advances of its default
+-- the two tables of a face with its default advance widths
 pub record HasTables (file : FontFile) (header metrics : List ℕ) : Type 0 where
   pub has_header : IsTableOf file hhea header
   pub has_metrics : IsTableOf file hmtx metrics
 
--- these advances
+-- the advance widths in these tables
 abbrev pub HasAdvances : FontFile → Advances → Type 0
 HasAdvances file advances = (header : List ℕ) × (metrics : List ℕ) × HasTables file header metrics × AreRowsOf header metrics advances
 
--- why it has none: a table lacks, or they tell none
+-- why there are none: a table is missing, or the tables have no advance widths
 abbrev pub LacksAdvances : FontFile → Unmeasured → Type 0
 LacksAdvances file NoTable = HasNoTable file hhea ⊎ HasNoTable file hmtx
 LacksAdvances file NoAdvances =
@@ -44,23 +44,24 @@ LacksAdvances file NoGlyph = ⊥
 LacksAdvances file (NoPlace e) = ⊥
 LacksAdvances file (BadVariations e) = ⊥
 
--- the variations of the advances of a face; none where it has no table `HVAR`
+-- the variations of the advance widths of a face, or `None` if it has no `HVAR` table
 abbrev pub HasVariations : FontFile → Option AdvanceVariations → Type 0
 HasVariations file None = HasNoTable file hvar
 HasVariations file (Some variations) = (table : List ℕ) × IsTableOf file hvar table × AreAdvancesOf table variations
 
--- why its table `HVAR` is refused
+-- why its `HVAR` table is rejected
 abbrev pub HasBadVariations : FontFile → Error → Type 0
 HasBadVariations file e = (table : List ℕ) × IsTableOf file hvar table × HasNoVariations e table
 
--- What is added to the advance of a glyph at normalized coordinates: what it varies by, to the nearest unit; 0 where nothing is told of it.
+-- The number that is added to the advance of a glyph at normalized coordinates. It is the variation, rounded to the nearest unit, or 0 if
+-- the table has none.
 abbrev pub IsAdded : Option AdvanceVariations → (glyph : ℕ) → (coordinates : List ℤ) → (added : ℤ) → Type 0
 IsAdded None glyph coordinates added = added ≡ pos 0
 IsAdded (Some variations) glyph coordinates added =
     ((total : ℤ) × AdvanceVariesBy variations glyph coordinates total × (added ≡ in_whole total))
     ⊎ (HasNoAdvance variations glyph × (added ≡ pos 0))
 
--- the advance of a glyph of a face at the place that values name, in units of the em, as far as 64 bits go
+-- the advance of a glyph of a face at the location with these values, in font units, limited to 64 bits
 pub record IsAdvanceAt (file : FontFile) (values : List ℤ) (glyph : ℕ) (advance : ℤ) : Type 0 where
   pub advances : Advances
   pub variations : Option AdvanceVariations
@@ -72,7 +73,7 @@ pub record IsAdvanceAt (file : FontFile) (values : List ℤ) (glyph : ℕ) (adva
   pub adds : IsAdded variations glyph coordinates added
   pub sum : advance ≡ saturate_signed w64 (pos (advance_in advances glyph) +ℤ added)
 
--- what is answered: this; or that no glyph has such a number, or why it is not told
+-- The result: the advance, or that no glyph has a number above 65535, or why there is no advance.
 abbrev pub IsMeasured : FontFile → (values : List ℤ) (glyph : ℕ) → Result ℤ Unmeasured → Type 0
 IsMeasured file values glyph (Ok advance) = IsAdvanceAt file values glyph advance
 IsMeasured file values glyph (Err NoGlyph) = 65536 ≤ glyph
@@ -81,7 +82,7 @@ IsMeasured file values glyph (Err NoAdvances) = LacksAdvances file NoAdvances
 IsMeasured file values glyph (Err (NoPlace e)) = IsUnplaced file values e
 IsMeasured file values glyph (Err (BadVariations e)) = HasBadVariations file e
 
--- the numbers of refusals
+-- the statuses of errors
 abbrev pub variations_code : Error → ℕ
 variations_code Cut = 58
 variations_code UnknownFormat = 59
@@ -93,7 +94,7 @@ unmeasured_code NoAdvances = 60
 unmeasured_code (NoPlace e) = unplaced_code e
 unmeasured_code (BadVariations e) = variations_code e
 
--- What C is told of an answer: the advance on 0, or a refusal by its number, which leaves what was there.
+-- The status and the output for a result: on 0 the advance. An error has its status, and the output is unchanged.
 abbrev pub TellsAdvance : Result ℤ Unmeasured → (status old new : ℤ) → Type 0
 TellsAdvance (Ok advance) status old new = (status ≡ pos 0) × (new ≡ advance)
 TellsAdvance (Err e) status old new = (status ≡ pos (unmeasured_code e)) × (new ≡ old)
@@ -102,7 +103,7 @@ abbrev pub TellsMeasuredOf : FontFile → (values : List ℤ) (glyph : ℕ) (sta
 TellsMeasuredOf file values glyph status old new =
     (answer : Result ℤ Unmeasured) × IsMeasured file values glyph answer × TellsAdvance answer status old new
 
--- what C is told of the advance of a glyph of a face of a file, at the place that values name
+-- the status and the output for the advance of a glyph of a face of a file, at the location with these values
 abbrev pub TellsMeasured : (bytes : List ℕ) (face : ℕ) (values : List ℤ) (glyph : ℕ) (status old new : ℤ) → Type 0
 TellsMeasured bytes face values glyph status old new =
     TellsOfFace bytes face status (λ file. TellsMeasuredOf file values glyph status old new) (new ≡ old)

@@ -1,4 +1,4 @@
--- What C is told of the names of glyphs (Technical Note 5176, sections 10, 13 and 18).
+-- The names of glyphs, for C (Technical Note 5176, sections 10, 13 and 18).
 use Rattle.std.specs.Prelude.{◌≡◌, ◌≢◌, ◌⊎◌, ℕ, ℤ, pos, List, length}
 use Rattle.postscript_base.specs.Error.{code}
 use Rattle.postscript_base.specs.Tape.Outcome.{Got, RefusedAs}
@@ -12,24 +12,25 @@ use Rattle.postscript_view.specs.Strings.{HasName, IsFirstWithName}
 use Rattle.postscript_view.specs.Untold.{NoCharSet}
 use Rattle.postscript_view.specs.declared.char_set.CharSetView.{CharSetView}
 
--- the char set of a font
+-- the charset of a font
 abbrev pub IsSetOf : List ℕ → View → CharSetView → Type 0
 IsSetOf bytes view set = IsCharSetOf set bytes view.tables.dictionary (length view.char_strings)
 
--- the font has no charset, for a cause that holds, and the status is the one of this error
+-- The font has no charset, and the status belongs to an error whose cause holds.
 abbrev pub LacksSet : List ℕ → View → (status : ℤ) → Type 0
 LacksSet bytes view status = (e : Error) × (status ≡ pos (code e)) × NoCharSet e bytes view.tables.dictionary (length view.char_strings)
     × ((set : CharSetView) → IsSetOf bytes view set → ⊥)
 
--- no font is opened in the bytes: the status is the error's, which may be that memory runs out
+-- no font is opened in the bytes, and the status belongs to the error, which may be `Memory`
 abbrev pub LacksFont : List ℕ → (status : ℤ) → Type 0
 LacksFont bytes status = (e : Error) × (status ≡ pos (code e)) × (e ≢ Memory → RefusedAs e (view bytes 0))
 
--- what is told of a font is told of the one that the bytes begin with; where there is none, what C lends is the same as before
+-- The result for the font at the beginning of the bytes. If there is none, all outputs are unchanged.
 abbrev pub TellsOfFirst : List ℕ → (View → Type 0) → (status : ℤ) → (same : Type 0) → Type 0
 TellsOfFirst bytes tells status same = ((v : View) × (next : ℕ) × (view bytes 0 ≡ Got v next) × tells v) ⊎ (LacksFont bytes status × same)
 
--- the name of a glyph of a font is handed over, or it has none, as each glyph of a CID-keyed font
+-- On 0 the name of a glyph is stored, and on 32 only its length. Otherwise the glyph has no name (38), as in every CID-keyed font, or the
+-- font has no charset.
 abbrev pub TellsNameIn : List ℕ → View → (glyph : ℕ) → (status : ℤ) → (old new : Lent ℕ) → Type 0
 TellsNameIn bytes view glyph status old new =
     ((set : CharSetView) × (name : List ℕ) × IsSetOf bytes view set × HasName view set glyph name × HandsOver name status old new)
@@ -40,7 +41,7 @@ TellsNameIn bytes view glyph status old new =
 abbrev pub TellsName : List ℕ → (glyph : ℕ) → (status : ℤ) → (old new : Lent ℕ) → Type 0
 TellsName bytes glyph status old new = TellsOfFirst bytes (λ view. TellsNameIn bytes view glyph status old new) status (new ≡ old)
 
--- the first glyph of a font that has a name, or none has it
+-- On 0 the first glyph of a font with this name is stored. Otherwise no glyph has the name (31), or the font has no charset.
 abbrev pub TellsNamedIn : List ℕ → View → (name : List ℕ) → (status : ℤ) → (old new : ℕ) → Type 0
 TellsNamedIn bytes view name status old new =
     ((set : CharSetView) × IsSetOf bytes view set × (status ≡ pos 0) × IsFirstWithName view set name new)

@@ -1,4 +1,4 @@
--- Places of the design space that C names by a user coordinate for each axis (OpenType 1.9, "OpenType Font Variations Overview",
+-- Locations of the design space, which C gives by a user coordinate for each axis (OpenType 1.9, "OpenType Font Variations Overview",
 -- "Coordinate scales and normalization").
 use Rattle.std.specs.Prelude.{◌≡◌, ℕ, ◌<◌, ◌≤◌, ℤ, List, [], codes, length, slice_get, Option, Some, None}
 use Rattle.postscript_base.specs.Numbers.{big_endian}
@@ -22,39 +22,39 @@ use Rattle.postscript_variation.specs.declared.maps.Maps.{Maps}
 abbrev pub avar : ℕ
 avar = big_endian (codes "avar")
 
--- the segment maps of a face; none where it has no table `avar`
+-- the segment maps of a face, or `None` if it has no `avar` table
 abbrev pub HasMaps : FontFile → Option Maps → Type 0
 HasMaps file None = HasNoTable file avar
 HasMaps file (Some maps) = (table : List ℕ) × IsTableOf file avar table × AreMapsOf table maps
 
--- why its table `avar` is refused
+-- why its `avar` table is rejected
 abbrev pub HasBadMaps : FontFile → Error → Type 0
 HasBadMaps file e = (table : List ℕ) × IsTableOf file avar table × NoMaps e table
 
--- the value along an axis: the one that stands in its place, or its default where the values end before it
+-- the value for an axis, or its default if there are too few values
 abbrev pub value_along : Axis → Option ℤ → ℤ
 value_along axis None = axis.default
 value_along axis (Some value) = value
 
--- the normalized coordinate along an axis, behind `avar` where there is one, by the values of the axes in their order
+-- the normalized coordinate along an axis, after `avar` if there is one, with the values in the order of the axes
 abbrev pub coordinate_of : Axes → Option Maps → (values : List ℤ) → (axis : ℕ) → ℤ
 coordinate_of axes maps values axis =
     let found = axis_at (bytes_of axes) (axis_place axes axis) in
     let value = value_along found (slice_get values axis) in
     shortened (mapped_with maps axis (normalized found.minimum found.default found.maximum value))
 
--- those along the first so many axes
+-- the same along the first `count` axes
 pub record AreAlong (axes : Axes) (maps : Option Maps) (values : List ℤ) (count : ℕ) (coordinates : List ℤ) : Type 0 where
   pub counted : length coordinates ≡ count
   pub each : (axis : ℕ) → axis < count → slice_get coordinates axis ≡ Some (coordinate_of axes maps values axis)
 
--- those along all axes, for no more values than axes
+-- the same along all axes, if there are not more values than axes
 abbrev pub AreNormalized : Option Axes → Option Maps → (values coordinates : List ℤ) → Type 0
 AreNormalized None maps values coordinates = (values ≡ []) × (coordinates ≡ [])
 AreNormalized (Some axes) maps values coordinates =
     (length values ≤ axis_count axes) × AreAlong axes maps values (axis_count axes) coordinates
 
--- the normalized coordinates of a place of a face
+-- the normalized coordinates of a location of a face
 pub record AreCoordinatesAt (file : FontFile) (values coordinates : List ℤ) : Type 0 where
   pub axes : Option Axes
   pub maps : Option Maps
@@ -62,19 +62,19 @@ pub record AreCoordinatesAt (file : FontFile) (values coordinates : List ℤ) : 
   pub has_maps : HasMaps file maps
   pub normalized : AreNormalized axes maps values coordinates
 
--- how many axes a face has
+-- the number of axes of a face
 abbrev pub axes_in : Option Axes → ℕ
 axes_in None = 0
 axes_in (Some axes) = axis_count axes
 
--- Why a place is not named: a table is refused, there are more values than axes, or memory runs out.
+-- Why values give no location: a table is rejected, there are more values than axes, or memory runs out.
 abbrev pub IsUnplaced : FontFile → (values : List ℤ) → Unplaced → Type 0
 IsUnplaced file values (BadAxes e) = HasBadAxes file e
 IsUnplaced file values (BadMaps e) = HasBadMaps file e
 IsUnplaced file values TooMany = (axes : Option Axes) × HasAxes file axes × (axes_in axes < length values)
 IsUnplaced file values Memory = Unit {0}
 
--- the numbers of these refusals
+-- the statuses of these errors
 abbrev pub maps_code : Error → ℕ
 maps_code Cut = 56
 maps_code UnknownFormat = 57

@@ -1,4 +1,4 @@
--- Where the parts of the first font of a font set stand, in the order in which they are read (Technical Note 5176).
+-- The offsets of the parts of the first font in a FontSet, in the order of reading (Technical Note 5176).
 use Rattle.std.specs.Prelude.{ℕ, if◌then◌else◌, length, slice_get}
 use Rattle.std.specs.Option.{is_none}
 use Rattle.postscript_base.specs.Compact1.Defaults.{look, first_of, first_two_of}
@@ -11,7 +11,7 @@ use Rattle.postscript_compact1.specs.Kinds.{map_of}
 use Rattle.postscript_base.specs.Index.{opened}
 use Rattle.postscript_view.specs.Order.{aside, map_from, header_size, slice_at}
 
--- the dictionary of the first font, and the place of the global subroutines
+-- the Top DICT of the first font, and the offset of the global subroutines
 unfoldable pub tables : Reading (Dictionary × ℕ)
 tables = do
   names ← opened
@@ -22,7 +22,7 @@ tables = do
   dictionary ← map_from (slice_get dictionaries 0)
   pure (dictionary, there)
 
--- the place of the local subroutines of a private dictionary at an offset; 0 where they are lacking
+-- the offset of the local subroutines of a Private DICT at an offset, or 0 if there are none
 unfoldable pub subroutines : ℕ → Dictionary → Reading ℕ
 subroutines offset local = if is_none (first_of (look local operators.Subrs)) then pure 0 else place_at 0 offset local operators.Subrs
 
@@ -33,15 +33,15 @@ own_part map = do
   local ← map_of text
   subroutines bounds.1 local
 
--- the place of the local subroutines of the private dictionary that a dictionary names; 0 where either is lacking
+-- the offset of the local subroutines of the Private DICT in a DICT, or 0 if either is missing
 unfoldable pub part : Dictionary → Reading ℕ
 part map = if is_none (first_two_of (look map operators.Private)) then pure 0 else own_part map
 
--- of a CID-keyed font there is none
+-- the offset of the local subroutines of a font, or 0 if it is CID-keyed
 unfoldable pub local : Dictionary → Reading ℕ
 local map = if is_none (look map operators.ROS) then part map else pure 0
 
--- the place of the char strings, and how many they are
+-- the offset of the charstrings, and their number
 unfoldable pub codes : Dictionary → Reading (ℕ × ℕ)
 codes map = do
   there ← place_at 0 0 map operators.CharStrings
@@ -63,7 +63,7 @@ placed font = record {
   glyphs = font.glyphs;
 }
 
--- of a dictionary, and the place of the global subroutines
+-- the offsets of the parts, by a Top DICT and the offset of the global subroutines
 unfoldable pub places_of : Dictionary → ℕ → Reading Places
 places_of map global = do
   codes ← codes map

@@ -1,4 +1,4 @@
--- The part of a glyph is the same for C and for the font that is opened in place.
+-- The part of a glyph is the same for C and for the opened font (FontView).
 use Rattle.std.specs.Prelude.{◌≡◌, ◌≢◌, ◌⊎◌, ◌↔◌, ℕ, ◌<◌, ◌≤◌, ℤ, pos, List, length, slice_get, Some, Ok}
 use Rattle.postscript_base.specs.Compact1.Defaults.{look, first_of}
 use Rattle.postscript_base.specs.Tape.Outcome.{Got}
@@ -20,7 +20,7 @@ use Rattle.postscript_view.specs.declared.font.FontView.{FontView}
 use Rattle.postscript_view.specs.declared.private_dict.PrivateDict.{PrivateDict}
 use Rattle.postscript_c.specs.AtStart.{NamesSubroutinesOf, NamesNoStart}
 
--- The number of a glyph's part for C: 0 in a font that is not CID-keyed, else the number of its font dictionary, which stands in FDArray.
+-- The number of a glyph's part for C. It is 0 in a font that is not CID-keyed, and otherwise the number of its Font DICT in FDArray.
 abbrev pub IsNumberIn : List ℕ → PsfFont → (glyph fd : ℕ) → Type 0
 IsNumberIn bytes font glyph fd =
     ((font.is_cid ≡ 0) × (fd ≡ 0))
@@ -31,41 +31,41 @@ pub record HasNumberIn (bytes : List ℕ) (font : PsfFont) (glyph fd : ℕ) : Ty
   pub there : glyph < font.glyphs
   pub number : IsNumberIn bytes font glyph fd
 
--- for C a glyph has no part: there is no such glyph, or it has no font dictionary
+-- a glyph has no part for C: there is no such glyph, or it has no Font DICT
 abbrev pub HasNoPart : List ℕ → PsfFont → (glyph : ℕ) → Type 0
 HasNoPart bytes font glyph = (font.glyphs ≤ glyph) ⊎ ((font.is_cid ≢ 0) × LacksDictionary bytes font glyph)
 
--- the INDEX at the place that C is told has the local subroutines of a part; at 0 there are none
+-- the INDEX at the offset for C has the local subroutines of a part; at offset 0 there are none
 abbrev pub HasSameSubroutines : List ℕ → PrivateDict → PsfPart → Type 0
 HasSameSubroutines bytes part told = index_at told.local_subroutines bytes 0 ≡ Got (items_of part.subroutines) 0
 
--- the widths that C is told are those of the private dictionary of a part, in 65536ths of a unit, cut towards zero
+-- the widths for C are the widths in the Private DICT of a part, in 65536ths of a unit, rounded towards zero
 pub record HasSameWidths (part : PrivateDict) (told : PsfPart) : Type 0 where
   pub default : IsWidth (first_of (look part.dictionary operators.DefaultWidthX)) told.default_width
   pub nominal : IsWidth (first_of (look part.dictionary operators.NominalWidthX)) told.nominal_width
 
--- In place a glyph has this part, and C has that one of it.
+-- A glyph has the first part in the FontView, and the second part for C.
 abbrev pub AreBoth : (bytes : List ℕ) (font : PsfFont) (view : FontView) (glyph : ℕ) → PrivateDict → PsfPart → Type 0
 AreBoth bytes font view glyph part told =
     (fd : ℕ) × HasPartNumber view glyph fd × (slice_get view.parts.items fd ≡ Some part) × IsPartIn bytes font glyph told
 
--- the font in place has no part for a glyph
+-- the FontView has no part for a glyph
 abbrev pub IsNoneIn : FontView → (glyph : ℕ) → Type 0
 IsNoneIn view glyph = (fd : ℕ) → HasPartNumber view glyph fd → ⊥
 
--- What each status tells of a glyph that C has no part of: there is no such glyph, it has no part, or memory runs out.
+-- Why a glyph has no part for C, by status. There is no such glyph (31), the FontView has no part for it (42), or memory runs out (3).
 abbrev pub IsToldNone : PsfFont → FontView → (glyph : ℕ) (status : ℤ) → Type 0
 IsToldNone font view glyph status =
     ((status ≡ pos 31) × (font.glyphs ≤ glyph))
     ⊎ (((status ≡ pos 42) × (glyph < font.glyphs) × IsNoneIn view glyph)
     ⊎ (status ≡ pos 3))
 
--- the program of a code over the subroutines of a font in place and of a part of it
+-- the program of a charstring with the subroutines of a FontView and of a part of it
 abbrev pub program_in : FontView → List ℕ → PrivateDict → Pending
 program_in view code part = begun (run_of (lent (items_of view.global_subroutines) (items_of part.subroutines)) code)
 
--- What C has of a glyph is so in place: its number, and the widths and the subroutines of the part of that number, unless these are to
--- stand at 0. Where the glyph has no part in place, it has none for C.
+-- The part of a glyph for C agrees with the part in the FontView. The number and the widths are the same, and so are the subroutines,
+-- unless their offset is 0. If the glyph has no part in the FontView, it has none for C.
 pub record TellsPart (bytes : List ℕ) (font : PsfFont) (view : FontView) (glyph : ℕ) : Type 0 where
   pub number : (fd : ℕ) → HasNumberIn bytes font glyph fd → HasPartNumber view glyph fd
   pub only : (told : PsfPart) → IsPartIn bytes font glyph told → glyph < font.glyphs → (fd : ℕ) × HasPartNumber view glyph fd
@@ -74,8 +74,8 @@ pub record TellsPart (bytes : List ℕ) (font : PsfFont) (view : FontView) (glyp
       → HasSameSubroutines bytes part told
   pub none : IsNoneIn view glyph → HasNoPart bytes font glyph
 
--- For C a glyph has the number that it has in place, the part of that number and its program; and it has none where it has none in place.
--- The program is lacking, which C tells by 31, where there is no such glyph.
+-- For C a glyph has the same number, part and program as in the FontView. It has no part exactly if it has none there. It has no program
+-- exactly if there is no such glyph.
 pub record SamePart (bytes : List ℕ) (font : PsfFont) (view : FontView) (glyph : ℕ) : Type 0 where
   pub number : (fd : ℕ) → HasNumberIn bytes font glyph fd ↔ HasPartNumber view glyph fd
   pub has : (fd : ℕ) → HasPartNumber view glyph fd → (told : PsfPart) × IsPartIn bytes font glyph told
@@ -88,16 +88,16 @@ pub record SamePart (bytes : List ℕ) (font : PsfFont) (view : FontView) (glyph
   pub status : (status : ℤ) → IsPartless bytes font glyph status → IsToldNone font view glyph status
   pub missing : (told : PsfPart) → HasNone bytes font told glyph ↔ (font.glyphs ≤ glyph)
 
--- The numbers are those that C is told of the font that bytes begin with, but for the limit, which a caller may change.
+-- The numbers are those of the font at the beginning of the bytes, except for the limit, which a caller may change.
 abbrev pub AreNumbersOf : List ℕ → PsfFont → Type 0
 AreNumbersOf bytes font = (limit : ℕ) × OpensFont bytes (Ok (record font { limit = limit }))
 
--- A law: so it is with each glyph of a font that C is told, where the same bytes begin with a font in place.
+-- A law. Parts agree for each glyph of a font for C, if the same bytes begin with a FontView.
 abbrev pub TellsParts : Type 0
 TellsParts = (bytes : List ℕ) (font : PsfFont) (view : FontView) (glyph : ℕ) → AreNumbersOf bytes font → IsFirst bytes view
     → TellsPart bytes font view glyph
 
--- A law: where besides nothing is named at 0, C and the font in place have the same parts.
+-- A law. If, in addition, the DICTs give nothing the offset 0, C and the FontView have the same parts.
 abbrev pub KeepsParts : Type 0
 KeepsParts = (bytes : List ℕ) (font : PsfFont) (view : FontView) (glyph : ℕ) → AreNumbersOf bytes font → IsFirst bytes view
     → NamesNoStart view → SamePart bytes font view glyph

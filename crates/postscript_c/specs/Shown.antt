@@ -1,4 +1,4 @@
--- What the values of private types are seen as.
+-- Values of private types, converted for the specification.
 use Rattle.std.specs.Prelude.{map, Option, option_map, Result, Ok, Err}
 use Rattle.postscript_drawing.specs.declared.error.Error.{Error}
 use Rattle.postscript_c.specs.Glyphs.{Drawn, Glyph}

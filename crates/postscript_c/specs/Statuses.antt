@@ -84,7 +84,7 @@ abbrev pub text_of : (status : ℤ) → Option (List ℕ)
 text_of (pos n) = slice_get texts n
 text_of (negsuc n) = None
 
--- the text of a status is copied to the buffer, or the status has none
+-- on 0 the text of a status is stored, and on 32 only its length, or the status has no text (39)
 abbrev pub TellsText : (of status : ℤ) → (old new : Lent ℕ) → Type 0
 TellsText of status old new =
     ((text : List ℕ) × (text_of of ≡ Some text) × HandsOver text status old new)

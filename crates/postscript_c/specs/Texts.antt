@@ -1,7 +1,7 @@
--- What C is handed.
+-- Items that are copied to a buffer of the caller.
 use Rattle.std.specs.Prelude.{◌≡◌, ◌⊎◌, ℕ, ◌<◌, ℤ, pos, List, ◌++◌, length, drop}
 
--- what C lends to be filled with items, as it stands at one time
+-- the buffer and the count of the caller, at one time
 pub record Lent (A : Type 0) : Type 0 where
   pub room : List A
   pub count : ℕ
@@ -9,8 +9,8 @@ pub record Lent (A : Type 0) : Type 0 where
 abbrev pub lent : {A : Type 0} → List A → ℕ → Lent A
 lent room count = record { room = room; count = count }
 
--- How many items there are is told. On 0 they stand at the front of the room, and what is behind them stays; on 32 they are more than
--- the room, which stays.
+-- The count is the number of items. On 0 they are at the front of the buffer, and the rest of the buffer is unchanged. On 32 there are more
+-- items than the buffer has space for, and it is unchanged.
 pub record HandsOver {A : Type 0} (items : List A) (status : ℤ) (old new : Lent A) : Type 0 where
   pub counted : new.count ≡ length items
   pub handed : ((status ≡ pos 0) × (new.room ≡ items ++ drop (length items) old.room))

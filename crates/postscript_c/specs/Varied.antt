@@ -1,5 +1,4 @@
--- What C is told of the outline of a glyph of a variable font at a place of its design space (OpenType 1.9, "CFF2 - Compact Font Format
--- (CFF) version 2").
+-- The outline of a glyph of a variable font at a location of its design space (OpenType 1.9, "CFF2 - Compact Font Format (CFF) version 2").
 use Rattle.std.specs.Prelude.{◌≡◌, ◌≢◌, ℕ, ℤ, List, [], codes, Option, Some, None, Result, Ok, Err, IfOk, IfErr}
 use Rattle.postscript_base.specs.Numbers.{big_endian}
 use Rattle.postscript_c.specs.Costs.{CostsBeyond, CostsWithin}
@@ -25,27 +24,27 @@ use Rattle.postscript_variation.specs.declared.store.Store as stores
 abbrev pub cff2 : ℕ
 cff2 = big_endian (codes "CFF2")
 
--- the font of a face is that of its table `CFF2`
+-- the font in the `CFF2` table of a face
 pub record HasFont (file : FontFile) (font : Font) : Type 0 where
   pub table : List ℕ
   pub there : IsTableOf file cff2 table
   pub lent : font.bytes.now ≡ table
   pub laid_out : IsLaidOut table (view_shown font)
 
--- a place has the scalars of all item variation data of a store, which cost no more than a limit; none where there is no store
+-- A location has the scalars of all item variation data of a store, which cost at most the limit. Without a store it has none.
 abbrev pub IsPlaceIn : (limit : ℕ) → Option stores.Store → (coordinates : List ℤ) → Place → Type 0
 IsPlaceIn limit None coordinates place = place.tables.items ≡ []
 IsPlaceIn limit (Some store) coordinates place =
     CostsWithin store limit × AreTables store coordinates (table_count store) place.tables.items
 
--- the place of a font of a face that these values name
+-- the location of a font of a face with these values
 pub record IsPlaceAt (limit : ℕ) (file : FontFile) (font : Font) (values : List ℤ) (place : Place) : Type 0 where
   pub coordinates : List ℤ
   pub are : AreCoordinatesAt file values coordinates
   pub is : IsPlaceIn limit font.store coordinates place
 
--- Within a limit a glyph draws these segments at a place, or why it does not. What was read of its charstring is paid, all of it where
--- it is drawn; and where its run costs less than the limit, it is not too long.
+-- Within a limit a glyph draws these segments at a location, or fails for this reason. The items that were read are paid for, and on
+-- success these are all items. If the run costs less than the limit, it is not too long.
 pub record IsDrawnWithin (limit : ℕ) (font : Font) (glyph : ℕ) (place : Place) (answer : Result (List Segment) Error) : Type 0 where
   pub left : ℕ
   pub drawn : IfOk answer (λ segments. DrawsGlyph font glyph place segments)
@@ -53,13 +52,13 @@ pub record IsDrawnWithin (limit : ℕ) (font : Font) (glyph : ℕ) (place : Plac
   pub spends : SpendsOnGlyph font glyph place limit left answer
   pub suffices : IfErr answer (λ e. SufficesFor font glyph place limit → e ≢ TooLong)
 
--- so it is with a glyph of a face at the place that values name
+-- the same for a glyph of a face at the location with these values
 abbrev pub IsDrawnAt : FontFile → (values : List ℤ) (glyph limit : ℕ) → Result (List Segment) Error → Type 0
 IsDrawnAt file values glyph limit answer =
     (font : Font) × (place : Place) × HasFont file font × IsPlaceAt limit file font values place
     × IsDrawnWithin limit font glyph place answer
 
--- why a face has no font: it has no table `CFF2`, or this is refused
+-- why a face has no font: it has no `CFF2` table, or this table is rejected
 abbrev pub HasNoFont : FontFile → Unvaried → Type 0
 HasNoFont file NoTable = HasNoTable file cff2
 HasNoFont file (BadTable e) = (table : List ℕ) × IsTableOf file cff2 table × NoFont e table
@@ -68,7 +67,7 @@ HasNoFont file (NoData number) = ⊥
 HasNoFont file FarPlace = ⊥
 HasNoFont file (Undrawn e) = ⊥
 
--- why a store has no place: memory runs out, item variation data do not stand, or all scalars cost more than the limit
+-- why a store has no location: memory runs out, item variation data are missing, or all scalars cost more than the limit
 abbrev pub HasNoPlaceIn : (limit : ℕ) → stores.Store → Unvaried → Type 0
 HasNoPlaceIn limit store NoTable = ⊥
 HasNoPlaceIn limit store (BadTable e) = ⊥
@@ -77,7 +76,7 @@ HasNoPlaceIn limit store (NoData number) = LacksData store number
 HasNoPlaceIn limit store FarPlace = CostsBeyond store limit
 HasNoPlaceIn limit store (Undrawn e) = ⊥
 
--- why values name no place of a font: they name none of the face, or the store of the font has none
+-- why values give no location of a font: they give none of the face, or the store of the font has none
 abbrev pub NamesNoPlace : (limit : ℕ) → FontFile → Font → (values : List ℤ) → Unvaried → Type 0
 NamesNoPlace limit file font values NoTable = ⊥
 NamesNoPlace limit file font values (BadTable e) = ⊥
@@ -86,7 +85,7 @@ NamesNoPlace limit file font values (NoData number) = (store : stores.Store) × 
 NamesNoPlace limit file font values FarPlace = (store : stores.Store) × (font.store ≡ Some store) × CostsBeyond store limit
 NamesNoPlace limit file font values (Undrawn e) = ⊥
 
--- What is answered: what the glyph draws; or why it does not, or there is no font, or no place.
+-- The result: the segments of the glyph, or why it is not drawn. Other errors are a missing font or location.
 abbrev pub IsVaried : FontFile → (values : List ℤ) (glyph limit : ℕ) → Result (List Segment) Unvaried → Type 0
 IsVaried file values glyph limit (Ok segments) = IsDrawnAt file values glyph limit (Ok segments)
 IsVaried file values glyph limit (Err NoTable) = HasNoFont file NoTable

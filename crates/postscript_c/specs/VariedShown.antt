@@ -1,4 +1,4 @@
--- What drawn segments are seen as.
+-- Drawn segments, converted for the specification.
 use Rattle.std.specs.Prelude.{List, map, Result, Ok, Err}
 use Rattle.postscript_c.specs.Segments.{meant}
 use Rattle.postscript_c.specs.declared.segments.Segments.{Segments}

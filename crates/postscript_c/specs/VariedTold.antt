@@ -1,4 +1,4 @@
--- What C is told of the outline of a glyph of a variable font.
+-- The outline of a glyph of a variable font, for C.
 use Rattle.std.specs.Prelude.{◌≡◌, ◌⊎◌, ℕ, ◌<◌, ℤ, pos, List, ◌++◌, drop, length, map, Result, Ok, Err}
 use Rattle.postscript_c.specs.Answers.{undrawn_code}
 use Rattle.postscript_c.specs.BoundsTold.{AreZeros, sides_of}
@@ -15,7 +15,7 @@ use Rattle.postscript_outline.specs.declared.segment.Segment.{Segment}
 use Rattle.postscript_sfnt.specs.declared.file.FontFile.{FontFile}
 use Rattle.postscript_c.specs.Varied.{IsVaried}
 
--- the numbers of refusals
+-- the statuses of errors
 abbrev pub table_code : tables.Error → ℕ
 table_code Header = 61
 table_code Version = 62
@@ -34,7 +34,7 @@ unvaried_code (NoData number) = 69
 unvaried_code FarPlace = 46
 unvaried_code (Undrawn e) = undrawn_code e
 
--- what C lends to be told of an outline, as it stands at one time
+-- the buffer and the outputs for an outline, at one time
 pub record OutlineRoom : Type 0 where
   pub segments : List PsfSegment
   pub count : ℕ
@@ -43,8 +43,8 @@ pub record OutlineRoom : Type 0 where
 abbrev pub outline_room : List PsfSegment → ℕ → PsfBounds → OutlineRoom
 outline_room segments count bounds = record { segments = segments; count = count; bounds = bounds }
 
--- The number of segments is told, and the bounds of their points. On 0 they stand at the front of the room, and what is behind them stays;
--- on 32 they are more than the room, which stays.
+-- The count is the number of segments, and the bounds are the bounds of their points. On 0 the segments are at the front of the buffer, and
+-- the rest of the buffer is unchanged. On 32 there are more segments than the buffer has space for, and it is unchanged.
 pub record HandsOutline (segments : List Segment) (status : ℤ) (old new : OutlineRoom) : Type 0 where
   pub counted : new.count ≡ length segments
   pub bounds : IsBoundsOf (sides_of new.bounds) (points segments)
@@ -53,7 +53,7 @@ pub record HandsOutline (segments : List Segment) (status : ℤ) (old new : Outl
       ((status ≡ pos 0) × (new.segments ≡ map shown segments ++ drop new.count old.segments))
       ⊎ ((status ≡ pos 32) × (length old.segments < new.count) × (new.segments ≡ old.segments))
 
--- What C is told of an answer: a refusal by its number, and then all is left as it was.
+-- The status and the outputs for a result. An error has its status, and all outputs are unchanged.
 abbrev pub TellsAnswer : Result (List Segment) Unvaried → (status : ℤ) → (old new : OutlineRoom) → Type 0
 TellsAnswer (Ok segments) status old new = HandsOutline segments status old new
 TellsAnswer (Err e) status old new = (status ≡ pos (unvaried_code e)) × (new ≡ old)

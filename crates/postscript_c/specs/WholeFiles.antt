@@ -1,4 +1,4 @@
--- Font files that are written: what a call gives back.
+-- The result of a call that writes a font file.
 use Rattle.std.specs.Prelude.{◌≡◌, ◌≢◌, ◌⊎◌, ℕ, ℤ, pos, List, [], Bool, true, false, Result, Ok, Err, IfOk, IfErr, Vec}
 use Rattle.std.specs.declared.alloc.Global.{Global}
 use Rattle.postscript_c.specs.Files.{file_code}
@@ -45,7 +45,7 @@ whole_refusal Overlap = refusal 0 (pos 0)
 whole_refusal Cut = refusal 0 (pos 0)
 whole_refusal TooLarge = refusal 0 (pos 0)
 
--- The file is written to the buffer, or an error sets the details. The other outputs are unchanged.
+-- On 0 the file is stored, and on 32 only its size. An error sets the details. The other outputs are unchanged.
 abbrev pub TellsFile : Result (Vec ℕ Global) Error → (status : ℤ) → (old new : Lent ℕ) → (was told : PsfRefusal) → Type 0
 TellsFile (Ok file) status old new was told = HandsOver file.items status old new × (told ≡ was)
 TellsFile (Err e) status old new was told = (status ≡ pos (whole_code e)) × (told ≡ whole_refusal e) × (new ≡ old)
@@ -57,7 +57,7 @@ pub data RunsEnd (bytes : List ℕ) (face limit : ℕ) : Type 0 where
   no_table : (file : FontFile) → IsFaceOf bytes face file → HasNoTable file cff_tag → RunsEnd bytes face limit
   no_face : (e : FileError) → NoFace e bytes face → RunsEnd bytes face limit
 
--- why they do not: the limit is too small, or the font is malformed
+-- why the runs do not end within the limit: it is too small, memory runs out, or the font is malformed
 pub record IsBeyond (bytes : List ℕ) (face limit : ℕ) (status : ℤ) : Type 0 where
   pub file : FontFile
   pub cff : List ℕ
@@ -67,7 +67,7 @@ pub record IsBeyond (bytes : List ℕ) (face limit : ℕ) (status : ℤ) : Type 
   pub told : TellsFits cff limit status left
   pub failed : status ≢ pos 0
 
--- If the runs end within the limit, an answer is given. Otherwise nothing is written, and the details are 0.
+-- If the runs end within the limit, the result satisfies `IsAnswer`. Otherwise nothing is written, and the details are 0.
 abbrev pub TellsFileWithin : (bytes : List ℕ) (face limit : ℕ) (status : ℤ) (IsAnswer : Result (Vec ℕ Global) Error → Type 0)
     (old new : Lent ℕ) (was told : PsfRefusal) → Type 0
 TellsFileWithin bytes face limit status IsAnswer old new was told =
@@ -79,15 +79,16 @@ pub record IsFlatFile (bytes : List ℕ) (face : ℕ) (answer : Result (Vec ℕ 
   pub flat : IfOk answer (λ file. IsFlatOf bytes face file.items)
   pub refused : IfErr answer (λ e. NoFlatOf bytes face e)
 
--- a number is 0, or it is not
+-- the number is not 0 exactly if the value is `true`
 abbrev pub IsSet : (number : ℕ) → Bool → Type 0
 IsSet number true = number ≢ 0
 IsSet number false = number ≡ 0
 
--- the choice that a caller makes
+-- the choice of characters and glyphs that a caller makes
 pub record IsChoice (chars glyphs copied : List ℕ) (lenient keeps : ℕ) (choice : Choice) : Type 0 where
   pub chars_are : choice.chars.now ≡ chars
   pub glyphs_are : choice.glyphs.now ≡ glyphs
+  pub none_unmapped : choice.unmapped.now ≡ []
   pub copied_are : choice.copied.now ≡ copied
   pub leaves_out : IsSet lenient choice.lenient
   pub retains : IsSet keeps choice.retain_gids

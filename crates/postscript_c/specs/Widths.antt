@@ -1,4 +1,4 @@
--- The widths that a private dictionary tells (Technical Note 5176, Table 23, "defaultWidthX" and "nominalWidthX").
+-- The widths in a Private DICT (Technical Note 5176, Table 23, "defaultWidthX" and "nominalWidthX").
 use Rattle.std.specs.Prelude.{◌≡◌, ◌⊎◌, ℕ, suc, ◌+◌, ◌*◌, ◌^◌, ◌<◌, ◌≤◌, ℤ, pos, negsuc, int_lt, List, Option, Some, None}
 use Rattle.std.specs.Int.{saturate_signed, w64}
 use Rattle.std.specs.Int.RustNames.{unsigned_abs}
@@ -11,7 +11,7 @@ use Rattle.postscript_compact1.specs.FontSet.Operands.{bounds}
 use Rattle.postscript_compact1.specs.Kinds.{map_of}
 use Rattle.postscript_view.specs.Order.{slice_at}
 
--- ten to an exponent is the first of these two by the second
+-- ten to the power of an exponent is the quotient of these two
 abbrev pub over : ℤ → ℕ
 over (pos n) = 10 ^ n
 over (negsuc n) = 1
@@ -20,23 +20,23 @@ abbrev pub under : ℤ → ℕ
 under (pos n) = 1
 under (negsuc n) = 10 ^ suc n
 
--- so many 65536ths, and not one more, are in mantissa * 10 ^ exponent
+-- the number of whole 65536ths in mantissa * 10 ^ exponent
 pub record AreIn (mantissa : ℕ) (exponent : ℤ) (bits : ℕ) : Type 0 where
   pub at_least : bits * under exponent ≤ mantissa * 65536 * over exponent
   pub less_than : mantissa * 65536 * over exponent < (bits + 1) * under exponent
 
--- a decimal in 65536ths, cut towards zero: so many as are in it without its sign, with its sign
+-- a decimal in 65536ths, rounded towards zero, with its sign
 pub record IsCut (width : Decimal) (bits : ℤ) : Type 0 where
   pub magnitude : ℕ
   pub are_in : AreIn (unsigned_abs width.mantissa) width.exponent magnitude
   pub has_sign : bits ≡ signed (int_lt width.mantissa (pos 0)) magnitude
 
--- a width in 65536ths of a unit, cut towards zero, as far as 64 bits go; 0 where there is none
+-- a width in 65536ths of a unit, rounded towards zero and limited to 64 bits, or 0 if there is none
 abbrev pub IsWidth : Option Decimal → ℤ → Type 0
 IsWidth None bits = bits ≡ pos 0
 IsWidth (Some width) bits = (cut : ℤ) × IsCut width cut × (bits ≡ saturate_signed w64 cut)
 
--- the widths of the private dictionary that a dictionary names
+-- the widths of the Private DICT in a DICT
 pub record HasWidths (bytes : List ℕ) (map : Dictionary) (default_bits nominal_bits : ℤ) : Type 0 where
   pub size : ℕ
   pub offset : ℕ
@@ -49,7 +49,7 @@ pub record HasWidths (bytes : List ℕ) (map : Dictionary) (default_bits nominal
   pub default : IsWidth (first_of (look local operators.DefaultWidthX)) default_bits
   pub nominal : IsWidth (first_of (look local operators.NominalWidthX)) nominal_bits
 
--- the same, or 0 where it names none
+-- the same, or 0 if there is no Private DICT
 abbrev pub AreWidths : List ℕ → Dictionary → (default_bits nominal_bits : ℤ) → Type 0
 AreWidths bytes map default_bits nominal_bits =
     ((first_two_of (look map operators.Private) ≡ None) × (default_bits ≡ pos 0) × (nominal_bits ≡ pos 0))

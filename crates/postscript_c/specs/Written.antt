@@ -1,4 +1,4 @@
--- What C is told of fonts that are written.
+-- Written fonts, for C.
 use Rattle.std.specs.Prelude.{◌≡◌, ◌≢◌, ◌⊎◌, ℕ, ℤ, pos, List, [], length, Result, Ok, Err, IfOk, IfErr, OnOk, Vec}
 use Rattle.std.specs.declared.alloc.Global.{Global}
 use Rattle.postscript_base.specs.Error.{code}
@@ -24,7 +24,7 @@ use Rattle.postscript_write.specs.Whole.{IsWholeFont}
 use Rattle.postscript_write.specs.declared.error.Error.{Error}
 use Rattle.postscript_write.specs.declared.error.Error.TheVariants.{Refused, Glyph, SeveralFonts, MissingGlyph, MissingPart, MissingName, LongGlyph, NoGlyphs, TooLarge}
 
--- the number of a refusal: that of the cause where the font is refused
+-- the status of an error; if the font is rejected, it is the status of the cause
 abbrev pub written_code : Error → ℕ
 written_code (Refused cause) = code cause
 written_code (Glyph glyph cause) = 40
@@ -39,7 +39,7 @@ written_code TooLarge = 45
 abbrev pub refusal : (glyph : ℕ) → (cause : ℤ) → PsfRefusal
 refusal glyph cause = record { glyph = glyph; cause = cause }
 
--- the glyph that it names, and the number of what its run is refused with
+-- the glyph of an error, and the status of the error of its run
 abbrev pub refusal_of : Error → PsfRefusal
 refusal_of (Glyph glyph cause) = refusal glyph (pos (code cause))
 refusal_of (MissingGlyph glyph) = refusal glyph (pos 0)
@@ -51,21 +51,23 @@ refusal_of SeveralFonts = refusal 0 (pos 0)
 refusal_of NoGlyphs = refusal 0 (pos 0)
 refusal_of TooLarge = refusal 0 (pos 0)
 
--- the font is handed over, or a refusal is told by its number, its glyph and its cause; what is not told is as it was
+-- On 0 the font is stored, and on 32 only its size. Otherwise the status is an error's, and the glyph and the cause of the error are
+-- stored. The other outputs are unchanged.
 abbrev pub TellsWritten : Result (Vec ℕ Global) Error → (status : ℤ) → (old new : Lent ℕ) → (was told : PsfRefusal) → Type 0
 TellsWritten (Ok flat) status old new was told = HandsOver flat.items status old new × (told ≡ was)
 TellsWritten (Err e) status old new was told = (status ≡ pos (written_code e)) × (told ≡ refusal_of e) × (new ≡ old)
 
--- Within a limit: where all runs of the font come to their ends within it, an answer is told; else why nothing is asked for, with glyph and
--- cause 0, and what was lent stays.
+-- If the runs of all glyphs of the font end within the limit, the result satisfies `IsAnswer`. Otherwise the status says why there is none,
+-- the glyph and the cause are 0, and the other outputs are unchanged.
 abbrev pub TellsWithin : (bytes : List ℕ) (limit : ℕ) (status : ℤ) (IsAnswer : Result (Vec ℕ Global) Error →
     Type 0) (old new : Lent ℕ) (was told : PsfRefusal) → Type 0
 TellsWithin bytes limit status IsAnswer old new was told =
     (FirstFits bytes limit × ((answer : Result (Vec ℕ Global) Error) × IsAnswer answer × TellsWritten answer status old new was told))
     ⊎ (((left : ℕ) × TellsFits bytes limit status left) × (status ≢ pos 0) × (told ≡ refusal 0 (pos 0)) × (new ≡ old))
 
--- A font that is written has no byte beside its parts, each operator once in its Top DICT and Font DICTs, with ROS first, and an FDSelect
--- and charstrings that readers take; it is not too large, and is read leniently if the one that it is made of is.
+-- A written font has no bytes outside its parts. No operator occurs twice in its Top DICT or in a Font DICT, and ROS is first. FDSelect
+-- gives each glyph one of its Font DICTs, and no charstring has more than 65,535 bytes. The font is not too large, and is read leniently if
+-- its source is. The source has exactly one font.
 pub record IsSound (bytes flat : List ℕ) : Type 0 where
   pub whole : IsWholeFont flat
   pub once : TellsOnce flat
@@ -76,7 +78,7 @@ pub record IsSound (bytes flat : List ℕ) : Type 0 where
   pub lenient : HasLenientFont bytes → HasLenientFont flat
   pub one : fonts bytes 0 ≡ Got 1 0
 
--- the font made of all glyphs, or why there is none
+-- the font with all glyphs, or why there is none
 pub record IsFlat (bytes : List ℕ) (answer : Result (Vec ℕ Global) Error) : Type 0 where
   pub drawn : IfOk answer (λ flat. KeepsDrawings every bytes flat.items)
   pub same : IfOk answer (λ flat. KeepsGlyphs every bytes flat.items)
@@ -84,13 +86,14 @@ pub record IsFlat (bytes : List ℕ) (answer : Result (Vec ℕ Global) Error) : 
   pub sound : IfOk answer (λ flat. IsSound bytes flat.items)
   pub refused : IfErr answer (λ e. IsRefusedBy every bytes e)
 
--- the font made of the glyphs that are named, which are glyphs of the font, and of those that these are drawn with, or why there is none;
--- refused where none is named
-pub record IsSubset (is_made : Making) (sources : (closed : List ℕ) (glyphs : ℕ) →
+-- The font with the named glyphs and their components, or why there is none. If it is written, the old font has the named glyphs, and each
+-- glyph in the list of `kept_glyphs` has its number by `numbers`. Naming no glyph is an error.
+pub record IsSubset (is_made : Making) (numbers : (named bytes flat : List ℕ) → Type 0) (sources : (closed : List ℕ) (glyphs : ℕ) →
     Sources) (bytes named : List ℕ) (answer : Result (Vec ℕ Global) Error) : Type 0 where
   pub written : IfOk answer (λ flat. IsSubsetFont is_made sources named bytes flat.items)
   pub drawn : IfOk answer (λ flat. DrawsKept sources named bytes flat.items)
   pub same : IfOk answer (λ flat. GlyphsKept sources named bytes flat.items)
+  pub kept : IfOk answer (λ flat. numbers named bytes flat.items)
   pub sound : IfOk answer (λ flat. IsSound bytes flat.items)
   pub refused : IfErr answer (λ e. IsSubsetRefusedBy named sources bytes e)
   pub there : OnOk answer ((font : View) → IsLaidOut bytes 0 font → AreThere named (length font.char_strings))

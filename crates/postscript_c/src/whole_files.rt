@@ -102,6 +102,7 @@ pub(crate) fn subset_of(
     let choice = Choice {
         chars,
         glyphs,
+        unmapped: &[],
         lenient: lenient != 0,
         retain_gids: keeps != 0,
         copied,

@@ -2,6 +2,7 @@
 ghost use Rattle.std.specs.Prelude.{◌≡◌, ◌≢◌, true, false, pos};
 ghost use Rattle.postscript_c.specs.Texts.{lent};
 ghost use Rattle.postscript_c.specs.Written.{IsFlat, IsSubset, TellsWritten, refusal as no_refusal, refusal_of as the_refusal, written_code};
+ghost use Rattle.postscript_write.specs.Kept.{HasAllInPlace, HasAllKept};
 ghost use Rattle.postscript_write.specs.Making.{IsCutFont, IsKeptFont};
 ghost use Rattle.postscript_write.specs.Sources.{chosen, keeping};
 
@@ -102,8 +103,8 @@ pub(crate) fn subset_of(
     glyphs: &[usize],
     keeps: u32,
 ) -> Result<Vec<u8>>
-    ensures anew { keeps ≡ 0 → IsSubset IsCutFont chosen bytes.now glyphs.now result }
-    ensures kept { keeps ≢ 0 → IsSubset IsKeptFont keeping bytes.now glyphs.now result }
+    ensures anew { keeps ≡ 0 → IsSubset IsCutFont HasAllKept chosen bytes.now glyphs.now result }
+    ensures kept { keeps ≢ 0 → IsSubset IsKeptFont HasAllInPlace keeping bytes.now glyphs.now result }
 {
     if keeps == 0 {
         subset(alloc, bytes, glyphs)

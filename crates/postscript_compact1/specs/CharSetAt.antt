@@ -1,4 +1,4 @@
--- Where a char set stands: identifiers, or ranges, one behind the other (Technical Note 5176, "Charsets").
+-- The layout of a charset: SIDs or ranges, one after the other (Technical Note 5176, "Charsets").
 use Rattle.std.specs.Prelude.{◌≡◌, ℕ, ◌+◌, List, [], ◌∷◌, length, sum_by}
 use Rattle.postscript_base.specs.Numbers.{number}
 use Rattle.postscript_base.specs.Tape.Outcome.{Got, Reading}
@@ -9,12 +9,12 @@ use Rattle.postscript_compact1.specs.declared.char_set.CharSet.TheVariants.{ISOA
 use Rattle.postscript_compact1.specs.declared.char_set.range.Range1.{Range1}
 use Rattle.postscript_compact1.specs.declared.char_set.range.Range2.{Range2}
 
--- values one behind the other, from a place to the next
+-- values one after the other, from the offset `place` to the offset `next`
 abbrev pub StandAt : {A : Type 0} → Reading A → List ℕ → ℕ → List A → ℕ → Type 0
 StandAt one bytes place [] next = next ≡ place
 StandAt one bytes place (value ∷ values) next = (at : ℕ) × (one bytes place ≡ Got value at) × StandAt one bytes at values next
 
--- Behind the byte 0 an identifier of two bytes stands for each glyph but the first.
+-- After the byte 0 there is an SID of two bytes for each glyph except the first.
 pub record ListsGlyphs (bytes : List ℕ) (place glyphs : ℕ) (set : Listed) (next : ℕ) : Type 0 where
   pub format : set.format ≡ 0
   pub behind : ℕ
@@ -22,8 +22,8 @@ pub record ListsGlyphs (bytes : List ℕ) (place glyphs : ℕ) (set : Listed) (n
   pub identifiers : StandAt (number 2) bytes behind set.glyphs next
   pub each : 1 + length set.glyphs ≡ glyphs
 
--- Behind the byte of a format of ranges, by how many glyphs a range covers and how one is read, stand ranges that cover
--- each glyph but the first, and no more. A range covers a glyph at least, so that no fewer ranges do.
+-- After the format byte there are ranges that together cover each glyph except the first, and no more. `size` gives the number of glyphs in
+-- a range, and `one` reads a range. A range covers at least one glyph, so fewer ranges do not cover them.
 pub record CoversGlyphs {A : Type 0} (format : ℕ) (size : A → ℕ) (one : Reading A) (bytes : List ℕ) (place glyphs : ℕ) (set : Covered A)
     (next : ℕ) : Type 0 where
   pub same : set.format ≡ format
@@ -32,14 +32,14 @@ pub record CoversGlyphs {A : Type 0} (format : ℕ) (size : A → ℕ) (one : Re
   pub ranges : StandAt one bytes behind set.ranges next
   pub each : 1 + sum_by size set.ranges ≡ glyphs
 
--- ranges of three bytes, and of four
+-- ranges of three bytes and of four bytes
 abbrev pub CoversGlyphs1 : List ℕ → ℕ → ℕ → Covered Range1 → ℕ → Type 0
 CoversGlyphs1 bytes place glyphs set next = CoversGlyphs 1 glyphs_of_1 range_1 bytes place glyphs set next
 
 abbrev pub CoversGlyphs2 : List ℕ → ℕ → ℕ → Covered Range2 → ℕ → Type 0
 CoversGlyphs2 bytes place glyphs set next = CoversGlyphs 2 glyphs_of_2 range_2 bytes place glyphs set next
 
--- at the place stands this char set for so many glyphs; the predefined sets stand nowhere
+-- at the offset there is this charset for a number of glyphs; a predefined charset is not at any offset
 abbrev pub IsCharSet : List ℕ → ℕ → ℕ → CharSet → ℕ → Type 0
 IsCharSet bytes place glyphs ISOAdobe next = ⊥
 IsCharSet bytes place glyphs Expert next = ⊥

@@ -1,4 +1,4 @@
--- A char set in its own words: identifiers, or ranges, one behind the other (Technical Note 5176, "Charsets").
+-- A charset, defined without a parser: SIDs or ranges, one after the other (Technical Note 5176, "Charsets").
 use Rattle.std.specs.Prelude.{◌≡◌, ◌≢◌, ℕ, List}
 use Rattle.postscript_base.specs.Refusal.{Refusal}
 use Rattle.postscript_base.specs.Tape.Outcome.{Got, Fault, Past}
@@ -10,8 +10,8 @@ use Rattle.postscript_compact1.specs.declared.char_set.range.Range2.{Range2}
 use Rattle.postscript_compact1.specs.CharSetCauses.{NoCharSet, NoCharSet0, NoCharSet1, NoCharSet2}
 use Rattle.postscript_compact1.specs.CharSetAt.{ListsGlyphs, CoversGlyphs1, CoversGlyphs2, IsCharSet}
 
--- What is read is the char set that stands there, with its next place, and every char set is read. A refusal says why there
--- is none.
+-- A law: reading returns a charset exactly if it is there, with the offset after it. It fails exactly for one of the causes in `NoCharSet`.
+-- It never seeks past the end. The same is true for each single format.
 pub record ReadsCharSets : Type 0 where
   pub all : (glyphs : ℕ) (bytes : List ℕ) (place : ℕ) (set : CharSet) (next : ℕ) → IsCharSet bytes place glyphs set next →
       char_set glyphs bytes place ≡ Got set next

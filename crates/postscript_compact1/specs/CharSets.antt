@@ -1,4 +1,4 @@
--- Char sets: which string names each glyph (Technical Note 5176, "Charsets").
+-- Charsets: the SID of the name of each glyph (Technical Note 5176, "Charsets").
 pub mod Formats
 pub mod Predefined
 use Rattle.std.specs.Prelude.{ℕ, ◌+◌, ◌-◌, List, [], ◌∷◌, ◌==◌, Bool, nat_lt, if◌then◌else◌}
@@ -12,7 +12,7 @@ use Rattle.postscript_compact1.specs.declared.char_set.CharSet.TheVariants.{Form
 use Rattle.postscript_compact1.specs.declared.char_set.range.Range1.{Range1}
 use Rattle.postscript_compact1.specs.declared.char_set.range.Range2.{Range2}
 
--- a range: the identifier of its first glyph, and, in so many bytes, how many glyphs are left in it
+-- a range: the SID of its first glyph in two bytes, and the number of glyphs after it in `size` bytes
 unfoldable pub range : {A : Type 0} → (ℕ → ℕ → A) → ℕ → Reading A
 range make size = do
   first ← number 2
@@ -25,39 +25,39 @@ range_1 = range (λ first left. record { first = first; left = left }) 1
 abbrev pub range_2 : Reading Range2
 range_2 = range (λ first left. record { first = first; left = left }) 2
 
--- how many glyphs a range covers
+-- the number of glyphs that a range covers
 abbrev pub glyphs_of_1 : Range1 → ℕ
 glyphs_of_1 range = range.left + 1
 
 abbrev pub glyphs_of_2 : Range2 → ℕ
 glyphs_of_2 range = range.left + 1
 
--- a range that covers no more glyphs than are still to be covered
+-- a range that covers at most `wanting` glyphs, those still to be covered
 unfoldable pub covering : {A : Type 0} → (A → ℕ) → Reading A → ℕ → Reading A
 covering size one wanting = one >>= λ range. if nat_lt wanting (size range) then fault malformed_char_set else pure range
 
--- how many are to be covered behind it
+-- the number of glyphs left to cover after a range
 abbrev pub uncovered : {A : Type 0} → (A → ℕ) → ℕ → A → ℕ
 uncovered size wanting range = wanting - size range
 
 abbrev pub none_wanting : ℕ → Bool
 none_wanting wanting = wanting == 0
 
--- ranges until no glyph is left to cover
+-- ranges until all glyphs are covered
 abbrev pub ranges : {A : Type 0} → (A → ℕ) → Reading A → ℕ → Reading (List A)
 ranges size one wanting = until none_wanting (covering size one) (uncovered size) wanting
 
--- Behind the byte of the format, for so many glyphs: the first glyph, .notdef, is not told, so that one glyph there must be.
+-- The data after the format byte: an SID for each glyph except the first, .notdef. There must be at least one glyph.
 unfoldable pub listed : ℕ → Reading Listed
 listed glyphs = if glyphs == 0 then fault malformed_char_set else (do
   identifiers ← many (number 2) (glyphs - 1)
   pure (record { format = 0; glyphs = identifiers }))
 
--- a reading for so many glyphs, where there are any
+-- a reading that fails if there are no glyphs
 unfoldable pub if_any : {A : Type 0} → ℕ → Reading A → Reading A
 if_any glyphs reading = if glyphs == 0 then fault malformed_char_set else reading
 
--- behind the byte of a format of ranges, by its number, how many glyphs a range covers, and how one is read
+-- the data after the format byte of a format with ranges: its number, the glyphs of a range, and how one is read
 unfoldable pub covered : {A : Type 0} → ℕ → (A → ℕ) → Reading A → ℕ → Reading (Covered A)
 covered format size one glyphs = do
   ranges ← if_any glyphs (ranges size one (glyphs - 1))
@@ -69,7 +69,7 @@ covered_1 glyphs = covered 1 glyphs_of_1 range_1 glyphs
 abbrev pub covered_2 : ℕ → Reading (Covered Range2)
 covered_2 glyphs = covered 2 glyphs_of_2 range_2 glyphs
 
--- char sets of one format
+-- charsets of one format
 unfoldable pub char_set_0 : ℕ → Reading Listed
 char_set_0 glyphs = number 1 >>= λ format. if format == 0 then listed glyphs else fault malformed_char_set
 
@@ -83,7 +83,7 @@ char_set_1 glyphs = char_set_of 1 glyphs_of_1 range_1 glyphs
 abbrev pub char_set_2 : ℕ → Reading (Covered Range2)
 char_set_2 glyphs = char_set_of 2 glyphs_of_2 range_2 glyphs
 
--- a char set of the format that its first byte names
+-- a charset of the format in its first byte
 abbrev pub of_format : ℕ → ℕ → Reading CharSet
 of_format format glyphs =
     if format == 0 then listed glyphs >>= (λ set. pure (Format0 set))

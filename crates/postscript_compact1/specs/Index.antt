@@ -1,22 +1,22 @@
--- An INDEX: a count, offsets, and the items that they bound (Technical Note 5176, "INDEX Data").
+-- An INDEX: a count, offsets, and the items between them (Technical Note 5176, "INDEX Data").
 use Rattle.std.specs.Prelude.{ℕ, ◌+◌, ◌-◌, List, [], ◌∷◌, None, ◌==◌, if◌then◌else◌}
 use Rattle.postscript_base.specs.Numbers.{number, slice}
 use Rattle.postscript_base.specs.Tape.Outcome.{Reading, ◌>>=◌, pure}
 use Rattle.postscript_base.specs.Tape.Loops.{chain, each}
 use Rattle.postscript_base.specs.Compact1.Offset.{rising, behind}
 
--- what is seen of an INDEX
+-- an INDEX as contracts see it
 pub record Index : Type 0 where
   pub count : ℕ
   pub offset_size : ℕ
   pub offsets : List ℕ
   pub items : List (List ℕ)
 
--- an INDEX without items: nothing follows the count
+-- an INDEX without items: only its count
 abbrev pub empty : Index
 empty = record { count = 0; offset_size = 0; offsets = []; items = [] }
 
--- an item is as long as the difference of the offset behind it and its own
+-- the length of an item is the difference between the offset after it and its own
 abbrev pub lengths_from : ℕ → List ℕ → List ℕ
 lengths_from low [] = []
 lengths_from low (high ∷ offsets) = (high - low) ∷ lengths_from high offsets
@@ -25,12 +25,12 @@ abbrev pub lengths : List ℕ → List ℕ
 lengths [] = []
 lengths (low ∷ offsets) = lengths_from low offsets
 
--- So many offsets of this size, the first of which is 1 and each next greater than the last.
+-- A number of offsets of this size. The first one is 1, and each next one is greater than the last.
 unfoldable pub offsets : ℕ → ℕ → Reading (List ℕ)
 offsets size count = chain rising behind (size, None) count
 
--- What follows a count that is not 0: the size of the offsets, one offset more than there are items, and the items one
--- behind the other.
+-- The rest of an INDEX after a count that is not 0: the offset size, the offsets (one more than there are items), and the items one after
+-- the other.
 unfoldable pub filled : ℕ → Reading Index
 filled count = do
   size ← number 1

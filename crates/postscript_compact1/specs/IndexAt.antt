@@ -1,4 +1,4 @@
--- Where an INDEX stands: slices of one list of bytes (Technical Note 5176, "INDEX Data").
+-- The layout of an INDEX: slices of one list of bytes (Technical Note 5176, "INDEX Data").
 use Rattle.std.specs.Prelude.{◌≡◌, ◌⊎◌, ℕ, ◌+◌, ◌-◌, ◌*◌, ◌<◌, ◌≤◌, List, [], ◌∷◌, length, take, drop, map}
 use Rattle.postscript_base.specs.Numbers.{big_endian}
 use Rattle.postscript_compact1.specs.Index.{Index, empty, lengths, index}
@@ -8,13 +8,13 @@ abbrev pub RisesFrom : ℕ → List ℕ → Type 0
 RisesFrom last [] = Unit {0}
 RisesFrom last (next ∷ offsets) = (last < next) × RisesFrom next offsets
 
--- offsets begin with 1 and rise
+-- the offsets begin with 1 and increase
 abbrev pub AreOffsets : List ℕ → Type 0
 AreOffsets [] = ⊥
 AreOffsets (first ∷ offsets) = (first ≡ 1) × RisesFrom first offsets
 
--- An INDEX that is not empty has as many items as it counts, and one offset more. The offsets begin with 1 and rise, and
--- item i is as long as offset i + 1 less offset i.
+-- An INDEX that is not empty has the number of items that its count says, and one offset more. The offsets begin with 1 and increase. The
+-- length of item i is the difference between offsets i + 1 and i.
 pub record IsFilled (index : Index) : Type 0 where
   pub some : 0 < index.count
   pub items : length index.items ≡ index.count
@@ -22,20 +22,20 @@ pub record IsFilled (index : Index) : Type 0 where
   pub rise : AreOffsets index.offsets
   pub lengths : map length index.items ≡ lengths index.offsets
 
--- what every INDEX is that was read
+-- An INDEX is empty, or its count, offsets and items agree. This is true of every INDEX that was read.
 abbrev pub IsWhole : Index → Type 0
 IsWhole index = (index ≡ empty) ⊎ IsFilled index
 
--- so many bytes stand at a place, and are this number
+-- the `size` bytes at an offset exist, and are this number
 abbrev pub NumberAt : List ℕ → ℕ → ℕ → ℕ → Type 0
 NumberAt bytes place size n = (place + size ≤ length bytes) × (n ≡ big_endian (take size (drop place bytes)))
 
--- offsets of this size, one behind the other
+-- offsets of this size, one after the other
 abbrev pub OffsetsAt : List ℕ → ℕ → ℕ → List ℕ → Type 0
 OffsetsAt bytes place size [] = Unit {0}
 OffsetsAt bytes place size (offset ∷ offsets) = NumberAt bytes place size offset × OffsetsAt bytes (place + size) size offsets
 
--- Each item is the slice from its offset to the one behind it. Offsets count from the byte before the data.
+-- Each item is the slice from its offset to the next one. Offsets are relative to the byte before the data.
 abbrev pub ItemsFrom : List ℕ → ℕ → ℕ → List ℕ → List (List ℕ) → Type 0
 ItemsFrom bytes before low [] [] = Unit {0}
 ItemsFrom bytes before low (high ∷ offsets) (item ∷ items) =
@@ -47,16 +47,16 @@ abbrev pub ItemsAt : List ℕ → ℕ → List ℕ → List (List ℕ) → Type 
 ItemsAt bytes before [] items = ⊥
 ItemsAt bytes before (low ∷ offsets) items = ItemsFrom bytes before low offsets items
 
--- the last of numbers, the first of which is this one
+-- the last number of a list with this first number
 abbrev pub last_of : ℕ → List ℕ → ℕ
 last_of n [] = n
 last_of n (next ∷ ns) = last_of next ns
 
--- the place of the byte before the data: behind the count, the size and the offsets, less one
+-- the offset of the byte before the data, which is the last byte of the offsets
 abbrev pub before_data : ℕ → Index → ℕ
 before_data place index = place + 2 + (index.count + 1) * index.offset_size
 
--- At the place stands an INDEX with items, and the next place is behind the last one.
+-- At the offset `place` there is an INDEX with items, and `next` is the offset after the last one.
 pub record IsFilledAt (bytes : List ℕ) (place : ℕ) (index : Index) (next : ℕ) : Type 0 where
   pub some : 0 < index.count
   pub count : NumberAt bytes place 2 index.count
@@ -69,7 +69,7 @@ pub record IsFilledAt (bytes : List ℕ) (place : ℕ) (index : Index) (next : �
   pub items : ItemsAt bytes (before_data place index) index.offsets index.items
   pub behind : next ≡ before_data place index + last_of 0 index.offsets
 
--- at the place stands a count of 0, and nothing follows it
+-- at the offset `place` there is a count of 0, and `next` is the offset after it
 abbrev pub IsEmptyAt : List ℕ → ℕ → Index → ℕ → Type 0
 IsEmptyAt bytes place index next = NumberAt bytes place 2 0 × (index ≡ empty) × (next ≡ place + 2)
 

@@ -1,4 +1,4 @@
--- An INDEX in its own words: slices of one list of bytes (Technical Note 5176, "INDEX Data").
+-- An INDEX, defined without a parser: slices of one list of bytes (Technical Note 5176, "INDEX Data").
 use Rattle.std.specs.Prelude.{◌≡◌, ◌⊎◌, ℕ, List}
 use Rattle.postscript_base.specs.Refusal.{Refusal, unexpected_eof, malformed_offset, malformed_index}
 use Rattle.postscript_base.specs.Tape.At.{NeedsBytes}
@@ -8,8 +8,8 @@ use Rattle.postscript_compact1.specs.Index.{Index, index}
 use Rattle.postscript_compact1.specs.IndexCauses.{IsNoIndex}
 use Rattle.postscript_compact1.specs.IndexAt.{IsWhole, IsIndex}
 
--- What is read is the INDEX that stands there, with its next place, and every INDEX is read. Past the end the
--- input ends early. Other bytes are refused for the cause that they give.
+-- A law: reading returns an INDEX exactly if it is there, with the offset after it. It fails exactly for one of the causes in `IsNoIndex`.
+-- Past the end it fails because the input ends early.
 pub record ReadsIndices : Type 0 where
   pub all : (bytes : List ℕ) (place : ℕ) (i : Index) (next : ℕ) → IsIndex bytes place i next → index bytes place ≡ Got i next
   pub only : (bytes : List ℕ) (place : ℕ) (i : Index) (next : ℕ) → index bytes place ≡ Got i next → IsIndex bytes place i next

@@ -1,4 +1,4 @@
--- Items that are dictionaries, in their own words (Technical Note 5176, "Top DICT INDEX").
+-- Items that are dictionaries, defined without a parser (Technical Note 5176, "Top DICT INDEX").
 use Rattle.std.specs.Prelude.{◌≡◌, ◌≢◌, ◌⊎◌, ℕ, List, [], ◌∷◌}
 use Rattle.postscript_base.specs.Compact1.Dictionary.{Dictionary}
 use Rattle.postscript_base.specs.Compact1.DictionaryLaw.{IsDictionary, IsRefused}
@@ -6,19 +6,20 @@ use Rattle.postscript_base.specs.Refusal.{Refusal}
 use Rattle.postscript_base.specs.Tape.Outcome.{Got, Fault, Past}
 use Rattle.postscript_compact1.specs.Kinds.{maps_of}
 
--- each item is a dictionary, with the map in its place
+-- each item is the dictionary in the list of maps
 abbrev pub AreDictionaries : List (List ℕ) → List Dictionary → Type 0
 AreDictionaries [] [] = Unit {0}
 AreDictionaries (item ∷ items) (map ∷ maps) = IsDictionary item 0 map × AreDictionaries items maps
 AreDictionaries [] (map ∷ maps) = ⊥
 AreDictionaries (item ∷ items) [] = ⊥
 
--- an item is refused, and those before it are dictionaries
+-- an item is rejected with this error, and those before it are dictionaries
 abbrev pub HasRefused : List (List ℕ) → Refusal → Type 0
 HasRefused [] refusal = ⊥
 HasRefused (item ∷ items) refusal = IsRefused item 0 refusal ⊎ ((map : Dictionary) × IsDictionary item 0 map × HasRefused items refusal)
 
--- The maps are those of the items, or the first item that is no dictionary is refused.
+-- A law: reading returns these maps exactly if they are the dictionaries of the items. It fails exactly with the error of the first item
+-- that is not a dictionary. It does not move.
 pub record ReadsItems : Type 0 where
   pub all : (items : List (List ℕ)) (maps : List Dictionary) (bytes : List ℕ) (place : ℕ) → AreDictionaries items maps →
       maps_of items bytes place ≡ Got maps place

@@ -1,6 +1,6 @@
--- What contracts say of fonts and their parts (Technical Note 5176). The relations in the words of the Note are the layout and the
--- causes of FontSet, and the modules that end in Law; the others spell out what these name. Computed is behind the clauses
--- `exact` and `value`: definitions that compute the same, for those who prove.
+-- The definitions that the contracts use for fonts and their parts (Technical Note 5176). The relations in the words of the Note are the
+-- layout and the causes of FontSet, and the modules with names that end in Law. The others define the names in these. Computed has
+-- definitions that compute the same, for the clauses `exact` and `value` and for proofs.
 pub mod StandardStrings
 pub mod FontSet
 pub mod Index

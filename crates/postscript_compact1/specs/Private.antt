@@ -1,2 +1,2 @@
--- What private contracts and the proofs alone name: no public clause needs it.
+-- Definitions for private contracts and proofs only.
 pub mod Passed

@@ -1,7 +1,7 @@
 -- The standard strings (Technical Note 5176, Appendix A).
 use Rattle.std.specs.Prelude.{ℕ, List, [], ◌∷◌, Option, slice_get, codes}
 
--- by their identifiers, from 0 to 390
+-- the strings of the SIDs from 0 to 390
 abbrev pub standard_strings : List (List ℕ)
 standard_strings =
     codes ".notdef" ∷ codes "space" ∷ codes "exclam" ∷ codes "quotedbl" ∷ codes "numbersign" ∷ codes "dollar" ∷
@@ -76,6 +76,6 @@ standard_strings =
     codes "001.001" ∷ codes "001.002" ∷ codes "001.003" ∷ codes "Black" ∷ codes "Bold" ∷ codes "Book" ∷
     codes "Light" ∷ codes "Medium" ∷ codes "Regular" ∷ codes "Roman" ∷ codes "Semibold" ∷ []
 
--- the standard string of an identifier, if it is one's
+-- the standard string of an SID, if it has one
 abbrev pub standard_string : ℕ → Option (List ℕ)
 standard_string sid = slice_get standard_strings sid

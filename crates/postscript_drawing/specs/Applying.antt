@@ -1,4 +1,4 @@
--- What an operator draws, where it takes so many operands.
+-- The drawing after an operator. It fails if the operator takes another number of operands.
 use Rattle.std.specs.Prelude.{ℤ, List, Result, Err, if◌then◌else◌}
 use Rattle.postscript_base.specs.Refusal.{Refusal, malformed_operands}
 use Rattle.postscript_drawing.specs.Drawing.{Drawing, drawing}

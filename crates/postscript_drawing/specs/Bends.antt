@@ -1,4 +1,4 @@
--- Curves from a point, in a drawing whose pen stands there.
+-- Curves from a point, in a drawing whose pen is there.
 use Rattle.std.specs.Prelude.{◌≡◌, Bool, List, Ok, Err}
 use Rattle.postscript_base.specs.Refusal.{overflow}
 use Rattle.postscript_outline.specs.declared.segment.Segment.{Segment}
@@ -15,7 +15,7 @@ standing at is_open segments = record { place = at; is_open = is_open; segments 
 abbrev pub IsCurveRefused : (from : Point) (a b c : Vector) → Type 0
 IsCurveRefused from a b c = (is_open : Bool) (segments : List Segment) → drawn (Curve a b c) (standing from is_open segments) ≡ Err overflow
 
--- these are its control points and its end
+-- these are the control points and the end of the curve
 abbrev pub IsDrawnBy : (from : Point) (a b c : Vector) (first second to : Point) → Type 0
 IsDrawnBy from a b c first second to =
     (is_open : Bool) (segments : List Segment)

@@ -1,4 +1,4 @@
--- How a glyph is drawn: plain, or with a base and an accent (Technical Note 5177, Appendix C).
+-- The drawing of a glyph: plain, or with a base and an accent (Technical Note 5177, Appendix C).
 use Rattle.std.specs.Prelude.{◌≡◌, ◌⊎◌, ℕ, ℤ, pos, List, ◌++◌, Option, Ok}
 use Rattle.postscript_outline.specs.Contours.{AreContours}
 use Rattle.postscript_outline.specs.Points.{point}
@@ -17,15 +17,15 @@ use Rattle.postscript_drawing.specs.declared.accent.Accent.{Accent}
 abbrev pub zero_point : Point
 zero_point = point (pos 0) (pos 0)
 
--- A sink has taken segments, one after another, of which this holds.
+-- A sink has received segments with this property, one after another.
 abbrev pub Takes : {T : Type 0} (after : T → Segment → T → Type 0) (old new : T) → (List Segment → Type 0) → Type 0
 Takes after old new Holds = (segments : List Segment) × Holds segments × Receives after old segments new
 
--- The run draws these segments, where the origin of the glyph is put at a point.
+-- The run draws these segments, with the origin of the glyph at a point.
 abbrev pub DrawsAt : Point → Run → List Segment → Type 0
 DrawsAt origin run segments = outlined_at origin run.answers run.end ≡ Ok segments
 
--- A glyph of the font by itself: the segments of its run, its width, and what its endchar names.
+-- A glyph of the font without its components: the segments of its run, its width, and the operands of its `endchar`.
 pub record HasOwn (font : FontView) (glyph : ℕ) (origin : Point) (segments : List Segment) (width : Option ℤ)
     (accent : Option Accent) : Type 0 where
   pub part : PrivateDict
@@ -35,7 +35,7 @@ pub record HasOwn (font : FontView) (glyph : ℕ) (origin : Point) (segments : L
   pub width_is : width ≡ width_of run
   pub told : IsTold accent run
 
--- A component is a plain glyph, and these are the segments of its run.
+-- A component is a plain glyph. It draws the segments of its run.
 pub record DrawsComponent (font : FontView) (code : ℕ) (origin : Point) (segments : List Segment) : Type 0 where
   pub glyph : ℕ
   pub part : PrivateDict
@@ -50,7 +50,7 @@ pub record DrawsPlain (run : Run) (segments : List Segment) : Type 0 where
   pub plain : IsPlain run
   pub draws : DrawsAt zero_point run segments
 
--- The components: the base, and then the accent, whose origin is put at (adx, ady).
+-- The components: the base, and then the accent, whose origin is at (adx, ady).
 pub record DrawsComponents (font : FontView) (accent : Accent) (segments : List Segment) : Type 0 where
   pub base : List Segment
   pub above : List Segment
@@ -58,7 +58,7 @@ pub record DrawsComponents (font : FontView) (accent : Accent) (segments : List 
   pub draws_accent : DrawsComponent font accent.accent (point accent.dx accent.dy) above
   pub all : segments ≡ base ++ above
 
--- An accented glyph draws the segments of its run, and then its components.
+-- A `seac` glyph draws the segments of its run, and then its components.
 pub record DrawsAccented (font : FontView) (run : Run) (segments : List Segment) : Type 0 where
   pub accent : Accent
   pub own : List Segment
@@ -81,7 +81,7 @@ abbrev pub DrawsGlyph : {T : Type 0} (after : T → Segment → T → Type 0) (o
     (width : Option ℤ) → Type 0
 DrawsGlyph after old new font glyph width = Takes after old new (λ segments. IsDrawnAs font glyph segments width)
 
--- A law of the definitions: what a glyph draws is contours.
+-- A law: the segments of a glyph are contours.
 abbrev pub DrawsContours : Type 0
 DrawsContours = (font : FontView) (glyph : ℕ) (segments : List Segment) (width : Option ℤ) → IsDrawnAs font glyph segments width →
     AreContours segments

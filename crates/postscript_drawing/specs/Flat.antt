@@ -7,17 +7,17 @@ use Rattle.postscript_type2.specs.Program.Inlined.{inlined_text}
 use Rattle.postscript_type2.specs.Program.Routines.{Lists}
 use Rattle.postscript_type2.specs.Program.Runs.{Run, fault_of, width_of}
 
--- two runs with the same outline and the same width
+-- two runs with the same outline and width
 pub record SameGlyph (run other : Run) : Type 0 where
   pub outline : outline_of run ≡ outline_of other
   pub width : width_of run ≡ width_of other
 
--- A law of the definitions: over any lists the flat text of a run that no fault ends draws what the run draws.
+-- A law: if a run ends without a fault, its flat text draws the same over any lists.
 abbrev pub FlatTextDrawsTheSame : Type 0
 FlatTextDrawsTheSame = (lists other : Lists) (code : List ℕ) → fault_of (run_of lists code).end ≡ None →
     SameGlyph (run_of other (flat_text (run_of lists code).trace)) (run_of lists code)
 
--- and so does its inlined text
+-- A law: if a run ends without a fault, its inlined text draws the same over any lists.
 abbrev pub InlinedTextDrawsTheSame : Type 0
 InlinedTextDrawsTheSame = (lists other : Lists) (code : List ℕ) → fault_of (run_of lists code).end ≡ None →
     SameGlyph (run_of other (inlined_text (run_of lists code).trace)) (run_of lists code)

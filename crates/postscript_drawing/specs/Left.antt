@@ -1,4 +1,4 @@
--- The strokes that are left of those of an operation.
+-- The strokes of an operation that are left to draw.
 use Rattle.std.specs.Prelude.{◌≡◌, List, [], ◌∷◌, ◌++◌, Option, Some, None}
 use Rattle.postscript_drawing.specs.declared.stroke.Strokes.{Strokes}
 use Rattle.postscript_drawing.specs.declared.stroke.Strokes.TheVariants as shapes
@@ -17,7 +17,7 @@ left (shapes.CurvesInTurn axis operands) = curves_in_turn axis operands.now
 left (shapes.CurvesThenLines these those) = curves these.now ++ lines those.now
 left (shapes.LinesThenCurves these those) = lines these.now ++ curves those.now
 
--- the first stroke and those behind it, or none
+-- the first stroke and the rest, or none
 abbrev pub Begins : List Stroke → Option (Stroke × Strokes) → Type 0
 Begins all None = all ≡ []
 Begins all (Some (first, rest)) = all ≡ first ∷ left rest

@@ -1,4 +1,4 @@
--- What each operator draws with its operands (Technical Note 5177, "Path Construction Operators").
+-- The strokes of each operator with its operands (Technical Note 5177, "Path Construction Operators").
 use Rattle.std.specs.Prelude.{ℤ, List, []}
 use Rattle.postscript_drawing.specs.declared.stroke.Axis.TheVariants.{Horizontal, Vertical}
 use Rattle.postscript_drawing.specs.declared.stroke.Stroke.{Stroke}
@@ -24,5 +24,5 @@ strokes Flex xs = flex xs
 strokes HFlex xs = hflex xs
 strokes HFlex1 xs = hflex1 xs
 strokes Flex1 xs = flex1 xs
--- stems, masks and the operators of which no run tells
+-- stems and masks draw nothing, nor do operators that are not operations of a run
 strokes op xs = []

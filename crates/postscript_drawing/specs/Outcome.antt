@@ -1,4 +1,4 @@
--- What comes of a drawing: it is what is to be drawn, or is refused as that is.
+-- The result of drawing: the expected drawing, or the expected error.
 use Rattle.std.specs.Prelude.{◌≡◌, ◌⊎◌, List, [], ◌++◌, length, take, Result, Ok, Err, IfOk, OnErr}
 use Rattle.postscript_base.specs.declared.error.Error.{Error}
 use Rattle.postscript_base.specs.declared.error.Error.TheVariants as errors
@@ -12,37 +12,38 @@ use Rattle.postscript_drawing.specs.declared.undrawn.Undrawn.{Undrawn}
 use Rattle.postscript_drawing.specs.declared.undrawn.Undrawn.TheVariants.{Overflow, Full}
 use Rattle.postscript_drawing.specs.Drawing.{drawing, Drawing, held}
 
--- the code gives what it is to give, or refuses likewise
+-- the code returns the expected value or the expected error
 abbrev pub Gives : {A : Type 0} → Result A Refusal → Result A Error → Type 0
 Gives wanted (Ok value) = wanted ≡ Ok value
 Gives wanted (Err e) = wanted ≡ Err (refusal_of e)
 
--- the code draws what is to be drawn, or refuses likewise; running out of memory may come in place of either
+-- The code gives the expected drawing or the expected error. Running out of memory may be the error at any time.
 abbrev pub Draws : (wanted : Result Drawing Refusal) → Result (Unit {0}) Error → (new : Drawing) → Type 0
 Draws wanted (Ok done) new = wanted ≡ Ok new
 Draws wanted (Err e) new = (e ≡ errors.Memory) ⊎ (wanted ≡ Err (refusal_of e))
 
--- the first list is a front of the second
+-- the first list is a prefix of the second
 abbrev pub IsFront : {A : Type 0} → List A → List A → Type 0
 IsFront xs ys = take (length xs) ys ≡ xs
 
--- the code draws what is to be drawn, or refuses likewise; that the sink takes no more may come in place of either
+-- The code gives the expected drawing or the expected error. That the sink is full may be the error at any time.
 abbrev pub DrawsInto : (wanted : Result Drawing Refusal) → Result (Unit {0}) Undrawn → (new : Drawing) → Type 0
 DrawsInto wanted (Ok done) new = wanted ≡ Ok new
 DrawsInto wanted (Err Overflow) new = wanted ≡ Err overflow
 DrawsInto wanted (Err Full) new = Unit {0}
 
--- What comes of a drawing that is to be drawn: these segments have been given, all of them where it is drawn, and else a front.
+-- The result of drawing into a sink. On success it has received all segments. On an error it has received a prefix of the expected ones, if
+-- there are any.
 pub record DrawsTo (wanted : Result Drawing Refusal) (answered : Result (Unit {0}) Undrawn) (new : Drawing) : Type 0 where
   pub exact : DrawsInto wanted answered new
   pub front : OnErr answered (IfOk wanted (λ d. IsFront new.segments d.segments))
 
--- the sink takes no more only where it may refuse, by what it holds then
+-- the sink is full only in a state in which it may be full (`refuses`)
 abbrev pub IsFullWhere : {T : Type 0} (refuses : T → Type 0) → Result (Unit {0}) Undrawn → (new : T) → Type 0
 IsFullWhere refuses (Err Full) new = refuses new
 IsFullWhere refuses answered new = Unit {0}
 
--- Segments are a front of what the first of these strokes draw, which leave no range, whatever those behind them do.
+-- These segments are a prefix of the segments of the first strokes. These strokes stay in the range, whatever the ones after them do.
 pub record AreOfFirst (strokes : List Stroke) (from : Drawing) (given : List Segment) : Type 0 where
   pub first : List Stroke
   pub rest : List Stroke
@@ -51,7 +52,7 @@ pub record AreOfFirst (strokes : List Stroke) (from : Drawing) (given : List Seg
   pub draws : drawing first from ≡ Ok to
   pub front : IsFront given to.segments
 
--- A pen draws strokes from where it stands, and a sink has taken the segments, one after another.
+-- A pen draws strokes from its current point into a sink, which receives the segments one after another.
 pub record DrawsStrokes {T : Type 0} (after : T → Segment → T → Type 0) (refuses : T → Type 0) (strokes : List Stroke) (pen : Pen) (old : T)
     (answered : Result (Unit {0}) Undrawn) (pen' : Pen) (new : T) : Type 0 where
   pub given : List Segment

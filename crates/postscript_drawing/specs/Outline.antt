@@ -13,23 +13,23 @@ abbrev pub drawing_of : List Answer → Drawing → Result Drawing Refusal
 drawing_of [] d = Ok d
 drawing_of (answer ∷ answers) d = drawing (strokes answer.operator answer.operands) d >>= drawing_of answers
 
--- the segments at the end of a run, where the contour is ended too, or the refusal there
+-- the segments at the end of a run, where the contour is also closed, or the fault there
 abbrev pub finished : End → Drawing → Result (List Segment) Refusal
 finished (Fault e) d = Err e
 finished end d = Ok (closed d).segments
 
--- what these operations and this end draw, from the origin
+-- the segments that these operations and this end draw, from the origin
 abbrev pub outlined : List Answer → End → Result (List Segment) Refusal
 outlined answers end = drawing_of answers blank >>= finished end
 
--- the same, where the origin of the glyph is put here
+-- the same with the origin of the glyph at a point
 abbrev pub outlined_at : Point → List Answer → End → Result (List Segment) Refusal
 outlined_at origin answers end = drawing_of answers (blank_at origin) >>= finished end
 
 abbrev pub outline_of : Run → Result (List Segment) Refusal
 outline_of run = outlined run.answers run.end
 
--- the outline of a run, and its width
+-- a run has this outline, and its width
 pub record Outlines (outline : Outline) (run : Run) : Type 0 where
   pub segments : outline_of run ≡ Ok outline.segments.items
   pub width : outline.width_difference ≡ width_of run

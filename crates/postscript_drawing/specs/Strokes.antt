@@ -1,5 +1,5 @@
--- Strokes, and the patterns in which operands spell them (Technical Note 5177, "Path Construction Operators"). Operands that
--- are too few for one more stroke draw nothing.
+-- Strokes, and the patterns of operands that spell them (Technical Note 5177, "Path Construction Operators"). Operands that are too few for
+-- one more stroke draw nothing.
 use Rattle.std.specs.Prelude.{◌%◌, ◌-◌, ◌==◌, nat_lt, nat_abs, ℤ, pos, neg_ℤ, ◌+ℤ◌, List, [], ◌∷◌, ◌++◌, length, take, drop, if◌then◌else◌}
 use Rattle.postscript_drawing.specs.declared.stroke.Axis.{Axis}
 use Rattle.postscript_drawing.specs.declared.stroke.Axis.TheVariants.{Horizontal, Vertical}
@@ -10,7 +10,7 @@ use Rattle.postscript_drawing.specs.declared.stroke.Vector.{Vector}
 abbrev pub by : (dx dy : ℤ) → Vector
 by dx dy = record { dx = dx; dy = dy }
 
--- so far along an axis, and so far aside of it
+-- a vector of d along an axis and `off` along the other axis
 abbrev pub aside : Axis → (d off : ℤ) → Vector
 aside Horizontal d off = by d off
 aside Vertical d off = by off d
@@ -37,7 +37,7 @@ abbrev pub lines : List ℤ → List Stroke
 lines (dxa ∷ dya ∷ rest) = Line (by dxa dya) ∷ lines rest
 lines _ = []
 
--- {da}+: along one axis and the other in turn
+-- {da}+: along one axis and the other alternately
 abbrev pub lines_in_turn : Axis → List ℤ → List Stroke
 lines_in_turn axis (da ∷ rest) = Line (along axis da) ∷ lines_in_turn (other axis) rest
 lines_in_turn axis [] = []
@@ -47,24 +47,24 @@ abbrev pub curves : List ℤ → List Stroke
 curves (dxa ∷ dya ∷ dxb ∷ dyb ∷ dxc ∷ dyc ∷ rest) = Curve (by dxa dya) (by dxb dyb) (by dxc dyc) ∷ curves rest
 curves _ = []
 
--- {da dxb dyb dc}+: each begins and ends along the axis, but the first begins so far aside of it
+-- {da dxb dyb dc}+: each curve begins and ends along the axis, except that the first begins with `first` along the other axis
 abbrev pub curves_along : Axis → (first : ℤ) → List ℤ → List Stroke
 curves_along axis first (da ∷ dxb ∷ dyb ∷ dc ∷ rest) =
     Curve (aside axis da first) (by dxb dyb) (along axis dc) ∷ curves_along axis (pos 0) rest
 curves_along axis first _ = []
 
--- d1? {da dxb dyb dc}+: of an odd number of operands the first is how far aside the first curve begins
+-- d1? {da dxb dyb dc}+: if the number of operands is odd, the first curve begins with d1 along the other axis
 abbrev pub curves_level : Axis → List ℤ → List Stroke
 curves_level axis [] = []
 curves_level axis (d ∷ rest) = if length rest % 2 == 0 then curves_along axis d rest else curves_along axis (pos 0) (d ∷ rest)
 
--- an operand alone
+-- the operand if it is the only one, otherwise zero
 abbrev pub alone : List ℤ → ℤ
 alone (d ∷ []) = d
 alone _ = pos 0
 
--- {da dxb dyb dc}+ de?: each begins along one axis and ends along the other, in turn; an operand alone behind the last one is how
--- far aside that ends
+-- {da dxb dyb dc}+ de?: each curve begins along one axis and ends along the other, alternately. If only one operand is left after the last
+-- curve, that curve ends with it along the other axis.
 abbrev pub curves_in_turn : Axis → List ℤ → List Stroke
 curves_in_turn axis (da ∷ dxb ∷ dyb ∷ dc ∷ rest) = Curve (along axis da) (by dxb dyb) (aside (other axis) dc (alone rest))
     ∷ curves_in_turn (other axis) rest
@@ -100,8 +100,8 @@ hflex1 (dx1 ∷ dy1 ∷ dx2 ∷ dy2 ∷ dx3 ∷ dx4 ∷ dx5 ∷ dy5 ∷ dx6 ∷ 
     two (by dx1 dy1) (by dx2 dy2) (by dx3 (pos 0)) (by dx4 (pos 0)) (by dx5 dy5) (by dx6 (neg_ℤ (dy1 +ℤ dy2 +ℤ dy5)))
 hflex1 _ = []
 
--- the last vector behind those with this sum: d6 along the axis along which they went further, and back to the start along the
--- other; upwards where they went as far along both
+-- The last vector after vectors with this sum. It is d6 along the axis on which they went further, and goes back to the start on the other
+-- axis. If they went equally far on both, d6 is vertical.
 abbrev pub back : (dx dy d6 : ℤ) → Vector
 back dx dy d6 = if nat_lt (nat_abs dy) (nat_abs dx) then by d6 (neg_ℤ dy) else by (neg_ℤ dx) d6
 

@@ -1,4 +1,4 @@
--- The errors that tell why strokes are not drawn.
+-- The conversion of the errors of drawing strokes.
 use Rattle.postscript_base.specs.declared.error.Error.{Error as Cause}
 use Rattle.postscript_base.specs.declared.error.Error.TheVariants as causes
 use Rattle.postscript_drawing.specs.declared.error.Error.{Error}

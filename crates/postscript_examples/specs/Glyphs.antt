@@ -1,4 +1,4 @@
--- What a charstring draws, and what a call answers of it.
+-- The operations and the width of a charstring, and the results of calls for it.
 use Rattle.std.specs.Prelude.{◌≡◌, ℕ, ℤ, List, [], ◌∷◌, map, Vec, Option, None, Some, slice_get}
 use Rattle.std.specs.Option.{option_or}
 use Rattle.std.specs.declared.alloc.Global.{Global}
@@ -15,27 +15,27 @@ use Rattle.postscript_type2.specs.Program.RunAnswers.{operation_of}
 abbrev pub Drawn : Type 0
 Drawn = List (Operator × List ℤ) × Option ℤ
 
--- what the run of a code draws
+-- the operations and the width of a code's run
 abbrev pub drawn_by : Lists → List ℕ → Drawn
 drawn_by lists code = (map operation (run_of lists code).answers, width_of (run_of lists code))
 
 abbrev pub drawn : Vec (Operator × Vec ℤ Global) Global × Option ℤ → Drawn
 drawn glyph = (map operation_of glyph.0.items, glyph.1)
 
--- the subroutines of two indices
+-- the subroutines of two INDEXes
 abbrev pub lists : (global local : Index) → Lists
 lists global local = record { global = global.items; local = local.items }
 
--- what the run of a code is refused with, if it is
+-- the error of a code's run, if it fails
 abbrev pub refused_by : Lists → List ℕ → Option Refusal
 refused_by lists code = fault_of (run_of lists code).end
 
--- what the first of these runs that is refused is refused with
+-- the error of the first of these runs that fails
 abbrev pub first_refused_by : Lists → List (List ℕ) → Option Refusal
 first_refused_by lists [] = None
 first_refused_by lists (code ∷ codes) = option_or (refused_by lists code) (first_refused_by lists codes)
 
--- one of a font's dictionaries, counted from 0, has these char strings and these local subroutines
+-- one of a font's dictionaries, counted from 0, has these charstrings and these local subroutines
 abbrev pub HasGlyphs : Font → ℕ → (codes local : Index) → Type 0
 HasGlyphs font dictionary codes local = (slice_get font.char_strings dictionary ≡ Some codes)
     × (slice_get font.local_subroutines dictionary ≡ Some local)

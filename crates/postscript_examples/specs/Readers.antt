@@ -1,4 +1,5 @@
--- A format of one's own: rising offsets, runs that cover so many glyphs, and what stands at an offset.
+-- User-defined readings: increasing offsets, ranges that cover a number of glyphs, texts up to a maximum size, and the size of a Private
+-- DICT.
 use Rattle.std.specs.Prelude.{ℕ, ◌+◌, ◌-◌, Bool, List, nat_lt, ◌==◌, if◌then◌else◌}
 use Rattle.postscript_base.specs.Refusal.{OfMissing, malformed_offset}
 use Rattle.postscript_base.specs.Numbers.{number, slice}
@@ -9,11 +10,11 @@ use Rattle.postscript_base.specs.declared.compact1.operator.Operator.TheVariants
 abbrev pub rising : ℕ → Reading ℕ
 rising last = number 2 >>= λ offset. if nat_lt last offset then pure offset else fault malformed_offset
 
--- the next offset has to be greater than this one
+-- the next offset is compared with this one
 abbrev pub greatest : ℕ → ℕ → ℕ
 greatest last offset = offset
 
--- a run of a byte covers one glyph more than it says
+-- a range covers one glyph more than its byte says
 abbrev pub uncovered : ℕ → ℕ → ℕ
 uncovered glyphs run = glyphs - (run + 1)
 
@@ -23,10 +24,10 @@ covers glyphs = number 1
 abbrev pub is_covered : ℕ → Bool
 is_covered glyphs = glyphs == 0
 
--- a text of so many bytes
+-- a text of a given size, which is at most `longest`
 abbrev pub text_of : ℕ → ℕ → Reading (List ℕ)
 text_of longest size = if nat_lt longest size then fault malformed_offset else slice size
 
--- a private dictionary's size: 0 says that there is none
+-- the size of a Private DICT, where 0 is an error
 abbrev pub private_size : Reading ℕ
 private_size = number 2 >>= λ size. if size == 0 then fault (OfMissing Private) else pure size

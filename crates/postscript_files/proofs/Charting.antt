@@ -9,7 +9,7 @@ use Rattle.std.proofs.lemmas.Option.{get_or_from_slice_get, slice_get-get_or, sl
 use Rattle.postscript_sfnt.specs.declared.character_map.CharacterMap.{CharacterMap}
 use Rattle.postscript_sfnt_write.specs.Mappings.{IsMapping}
 use Rattle.postscript_sfnt_write.specs.declared.mapping.Mapping.{Mapping}
-use Rattle.postscript_files.specs.Choices.{AreKeptPairs, IsKept, glyph_of, named_of}
+use Rattle.postscript_files.specs.Choices.{AreKeptPairs, IsKept, glyph_of, glyphs_of, named_of}
 use Rattle.postscript_files.specs.Renumbered.{AreNumbersOf, AreRenumbered, IsNumbered, IsOrigin, renumber}
 use Rattle.postscript_files.specs.declared.choice.Choice.{Choice}
 
@@ -66,8 +66,8 @@ glyph-named glyphs pairs k pair h =
 
 -- each named glyph is chosen, or it is that of a character
 pub named-for : (choice : Choice) (charmap : CharacterMap) (pairs : List Mapping) → AreKeptPairs choice charmap pairs → (glyph : ℕ) →
-    Contains (named_of choice.glyphs.now pairs) glyph → Contains choice.glyphs.now glyph ⊎ ((char : ℕ) × IsKept choice charmap char glyph)
-named-for choice charmap pairs kept glyph h = elim (Contains-append_cases choice.glyphs.now (map glyph_of pairs) glyph h) [
+    Contains (named_of (glyphs_of choice) pairs) glyph → Contains (glyphs_of choice) glyph ⊎ ((char : ℕ) × IsKept choice charmap char glyph)
+named-for choice charmap pairs kept glyph h = elim (Contains-append_cases (glyphs_of choice) (map glyph_of pairs) glyph h) [
   | inl chosen ↦ inl chosen
   | inr of_char ↦
       let as_many : length (map glyph_of pairs) ≡ length pairs = length-map pairs glyph_of in

@@ -23,7 +23,7 @@ use Rattle.postscript_write.specs.Refusals.{IsSubsetRefusedBy}
 use Rattle.postscript_write.specs.SameGlyphs.{IsSameGlyph}
 use Rattle.postscript_write.specs.Sources.{choice_by}
 use Rattle.postscript_write.specs.declared.error.Error.{Error as Refusal}
-use Rattle.postscript_files.specs.Choices.{AreKeptPairs, IsFirstMissing, IsKept, NoneIsMissing, glyph_of, named_of}
+use Rattle.postscript_files.specs.Choices.{AreKeptPairs, IsFirstMissing, IsKept, NoneIsMissing, glyph_of, glyphs_of, named_of}
 use Rattle.postscript_files.specs.Faces.{IsBestMap, IsFaceIn, cff_tag, cmap_tag, hhea_tag, hmtx_tag, maxp_tag}
 use Rattle.postscript_files.specs.Listed.{HasParts, IsFileOfParts, IsUnmade, NoFileOfParts}
 use Rattle.postscript_files.specs.Made.{AreBytes, AreOrigins, HasNoOrigins, IsHmtxOf, IsMade, IsMapOf, IsSubsetFile}
@@ -47,8 +47,8 @@ pub record Known (choice : Choice) (old new : Face) : Type 0 where
   pub pairs : List Mapping
   pub origins : List ℕ
   pub kept : AreKeptPairs choice old.map pairs
-  pub font : IsSubsetFont choice.retain_gids (named_of choice.glyphs.now pairs) old.cff.now new.cff.now
-  pub are : AreOrigins choice.retain_gids (named_of choice.glyphs.now pairs) old.cff.now origins
+  pub font : IsSubsetFont choice.retain_gids (named_of (glyphs_of choice) pairs) old.cff.now new.cff.now
+  pub are : AreOrigins choice.retain_gids (named_of (glyphs_of choice) pairs) old.cff.now origins
   pub cmap : IsMapOf pairs origins new.cmap.now
   pub hhea : IsWord new.hhea.now 34 (length origins)
   pub hmtx : IsHmtxOf old origins new.hmtx.now
@@ -62,31 +62,31 @@ keeps-number true named cff origins i glyph are h = own-number named cff origins
 keeps-number false named cff origins i glyph are h = tt
 
 has-same : (choice : Choice) (old new : Face) (w : Known choice old new) (glyph i : ℕ) →
-    Contains (named_of choice.glyphs.now w.pairs) glyph → IsOrigin w.origins i glyph → HasSame choice old new glyph i
+    Contains (named_of (glyphs_of choice) w.pairs) glyph → IsOrigin w.origins i glyph → HasSame choice old new glyph i
 has-same choice old new w glyph i asked h = (
   record {
     drawn = λ was is opened made.
-        origin-like DrawsTheSame choice.retain_gids (named_of choice.glyphs.now w.pairs) old.cff.now new.cff.now w.origins w.are w.font.drawn
+        origin-like DrawsTheSame choice.retain_gids (named_of (glyphs_of choice) w.pairs) old.cff.now new.cff.now w.origins w.are w.font.drawn
         glyph i asked h was is opened made;
     told = λ was is opened made.
-        origin-like IsSameGlyph choice.retain_gids (named_of choice.glyphs.now w.pairs) old.cff.now new.cff.now w.origins w.are w.font.same
+        origin-like IsSameGlyph choice.retain_gids (named_of (glyphs_of choice) w.pairs) old.cff.now new.cff.now w.origins w.are w.font.same
         glyph i asked h was is opened made;
     advance = same-advance old new w.origins i glyph w.hmtx w.hhea w.advances h;
     bearing = same-bearing old new w.origins i glyph w.hmtx w.hhea h;
   },
-  keeps-number choice.retain_gids (named_of choice.glyphs.now w.pairs) old.cff.now w.origins i glyph w.are h,
+  keeps-number choice.retain_gids (named_of (glyphs_of choice) w.pairs) old.cff.now w.origins i glyph w.are h,
 )
 
 origin-there : (choice : Choice) (old new : Face) (w : Known choice old new) (glyph : ℕ) →
-    Contains (named_of choice.glyphs.now w.pairs) glyph → (i : ℕ) × IsOrigin w.origins i glyph
+    Contains (named_of (glyphs_of choice) w.pairs) glyph → (i : ℕ) × IsOrigin w.origins i glyph
 origin-there choice old new w glyph asked =
-    has-origin choice.retain_gids (named_of choice.glyphs.now w.pairs) old.cff.now new.cff.now w.origins w.font w.are glyph asked
+    has-origin choice.retain_gids (named_of (glyphs_of choice) w.pairs) old.cff.now new.cff.now w.origins w.font w.are glyph asked
 
-glyphs-there : (choice : Choice) (old new : Face) (w : Known choice old new) (glyph : ℕ) → Contains choice.glyphs.now glyph →
+glyphs-there : (choice : Choice) (old new : Face) (w : Known choice old new) (glyph : ℕ) → Contains (glyphs_of choice) glyph →
     (i : ℕ) × HasSame choice old new glyph i
 glyphs-there choice old new w glyph chosen =
-    let asked : Contains (named_of choice.glyphs.now w.pairs) glyph =
-    Contains-append_left choice.glyphs.now (map glyph_of w.pairs) glyph chosen in
+    let asked : Contains (named_of (glyphs_of choice) w.pairs) glyph =
+    Contains-append_left (glyphs_of choice) (map glyph_of w.pairs) glyph chosen in
     let h = origin-there choice old new w glyph asked in
     (h.0, has-same choice old new w glyph h.0 asked h.1)
 
@@ -103,14 +103,14 @@ char-kept choice old new w char glyph kept =
     let told = char-in choice old new w char some.0 some.1 in
     let here = mapping-there w.pairs w.cmap.mappings w.cmap.numbers w.cmap.are at.0 at.1 at.2 in
     let is : some.0 ≡ get_or w.cmap.numbers at.1.glyph 0 = told.given at.0 _ here at.3 in
-    let asked : Contains (named_of choice.glyphs.now w.pairs) glyph =
-    subst (λ g. Contains (named_of choice.glyphs.now w.pairs) g) at.4 (glyph-named choice.glyphs.now w.pairs at.0 at.1 at.2) in
+    let asked : Contains (named_of (glyphs_of choice) w.pairs) glyph =
+    subst (λ g. Contains (named_of (glyphs_of choice) w.pairs) g) at.4 (glyph-named (glyphs_of choice) w.pairs at.0 at.1 at.2) in
     let number : some.0 ≡ get_or w.cmap.numbers glyph 0 = is ∙ ap (λ g. get_or w.cmap.numbers g 0) at.4 in
     let origin : IsOrigin w.origins some.0 glyph =
     subst (λ n. IsOrigin w.origins n glyph) (sym number)
     (numbered w.origins w.cmap.numbers glyph w.cmap.numbered (origin-there choice old new w glyph asked)) in (
       some.0,
-      above-zero choice.retain_gids (named_of choice.glyphs.now w.pairs) old.cff.now w.origins some.0 glyph w.are origin kept.has.some,
+      above-zero choice.retain_gids (named_of (glyphs_of choice) w.pairs) old.cff.now w.origins some.0 glyph w.are origin kept.has.some,
       some.1,
       has-same choice old new w glyph some.0 asked origin,
     )
@@ -128,14 +128,14 @@ char-only choice old new w char i some maps =
 
 -- a new face whose tables these are
 pub known : (choice : Choice) (old new : Face) (pairs : List Mapping) (origins font : List ℕ) (made : Made) →
-    AreKeptPairs choice old.map pairs → IsSubsetFont choice.retain_gids (named_of choice.glyphs.now pairs) old.cff.now font →
-    AreOrigins choice.retain_gids (named_of choice.glyphs.now pairs) old.cff.now origins → IsMade old pairs origins made →
+    AreKeptPairs choice old.map pairs → IsSubsetFont choice.retain_gids (named_of (glyphs_of choice) pairs) old.cff.now font →
+    AreOrigins choice.retain_gids (named_of (glyphs_of choice) pairs) old.cff.now origins → IsMade old pairs origins made →
     HasParts choice old.file font made new.file → (file : List ℕ) → IsFaceIn file 0 new → Known choice old new
 known choice old new pairs origins font made kept is are m has file read = record {
   pairs = pairs;
   origins = origins;
   kept = kept;
-  font = subst (λ (xs : List ℕ). IsSubsetFont choice.retain_gids (named_of choice.glyphs.now pairs) old.cff.now xs)
+  font = subst (λ (xs : List ℕ). IsSubsetFont choice.retain_gids (named_of (glyphs_of choice) pairs) old.cff.now xs)
       (one-table new.file cff_tag font new.cff.now has.cff read.cff) is;
   are = are;
   cmap = subst (λ (xs : List ℕ). IsMapOf pairs origins xs) (one-table new.file cmap_tag made.cmap.items new.cmap.now has.cmap read.cmap) m.cmap;
@@ -149,14 +149,14 @@ known choice old new pairs origins font made kept is are m has file read = recor
 }
 
 pub subset-face : (choice : Choice) (old new : Face) (pairs : List Mapping) (origins font : List ℕ) (made : Made) →
-    AreKeptPairs choice old.map pairs → IsSubsetFont choice.retain_gids (named_of choice.glyphs.now pairs) old.cff.now font →
-    AreOrigins choice.retain_gids (named_of choice.glyphs.now pairs) old.cff.now origins → IsMade old pairs origins made →
+    AreKeptPairs choice old.map pairs → IsSubsetFont choice.retain_gids (named_of (glyphs_of choice) pairs) old.cff.now font →
+    AreOrigins choice.retain_gids (named_of (glyphs_of choice) pairs) old.cff.now origins → IsMade old pairs origins made →
     HasParts choice old.file font made new.file → (file : List ℕ) → IsFaceIn file 0 new → IsSubsetFace choice old new
 unfolding known
 subset-face choice old new pairs origins font made kept is are m has file read =
     let w = known choice old new pairs origins font made kept is are m has file read in
     record {
-      named = named_of choice.glyphs.now pairs;
+      named = named_of (glyphs_of choice) pairs;
       are = λ glyph h. named-for choice old.map pairs kept glyph h;
       font = w.font;
       glyphs = λ glyph h. glyphs-there choice old new w glyph h;
@@ -167,7 +167,7 @@ subset-face choice old new pairs origins font made kept is are m has file read =
       counted = (
         length origins,
         record {
-          font = λ view laid. many-glyphs choice.retain_gids (named_of choice.glyphs.now pairs) old.cff.now new.cff.now origins w.font are view laid;
+          font = λ view laid. many-glyphs choice.retain_gids (named_of (glyphs_of choice) pairs) old.cff.now new.cff.now origins w.font are view laid;
           maxp = w.maxp;
           hhea = w.hhea;
           hmtx = w.hmtx.size ∙ ap (λ n. n * 4) (many-metrics old origins new.hmtx.now w.hmtx);
@@ -297,14 +297,14 @@ opened choice old pairs origins font made file some m it =
     )
 
 pub if-subset : (r : Result (Vec ℕ Global) Error) (choice : Choice) (old : Face) (pairs : List Mapping) (named origins font : List ℕ)
-    (made : Made) → AreKeptPairs choice old.map pairs → named ≡ named_of choice.glyphs.now pairs →
+    (made : Made) → AreKeptPairs choice old.map pairs → named ≡ named_of (glyphs_of choice) pairs →
     IsSubsetFont choice.retain_gids named old.cff.now font → AreOrigins choice.retain_gids named old.cff.now origins →
     IsMade old pairs origins made → IfOk r (λ file. IsFileOfParts choice old.file font made file.items) →
     IfOk r (λ file. IsSubsetFile choice old file.items)
 if-subset (Ok file) choice old pairs named origins font made kept same is are m it =
-    let font-is : IsSubsetFont choice.retain_gids (named_of choice.glyphs.now pairs) old.cff.now font =
+    let font-is : IsSubsetFont choice.retain_gids (named_of (glyphs_of choice) pairs) old.cff.now font =
     subst (λ (xs : List ℕ). IsSubsetFont choice.retain_gids xs old.cff.now font) same is in
-    let origins-are : AreOrigins choice.retain_gids (named_of choice.glyphs.now pairs) old.cff.now origins =
+    let origins-are : AreOrigins choice.retain_gids (named_of (glyphs_of choice) pairs) old.cff.now origins =
     subst (λ (xs : List ℕ). AreOrigins choice.retain_gids xs old.cff.now origins) same are in
     record {
       opens = it.opens;
@@ -392,7 +392,7 @@ no-written-so (Err e) choice old h = unwritten-so e choice old h
 
 -- the font of the named glyphs is refused
 pub no-font-so : (e : Error) (choice : Choice) (old : Face) (pairs : List Mapping) (named all : List ℕ) → AreKeptPairs choice old.map pairs →
-    named ≡ named_of choice.glyphs.now pairs → all ≡ named →
+    named ≡ named_of (glyphs_of choice) pairs → all ≡ named →
     (fault : Refusal) × (e ≡ errors.Font fault) × IsSubsetRefusedBy all (choice_by choice.retain_gids) old.cff.now fault →
     NoSubsetFrom choice old e
 no-font-so e choice old pairs named all kept is same h =
@@ -403,7 +403,7 @@ no-font-so e choice old pairs named all kept is same h =
     )
 
 pub no-origins-so : (e : Error) (choice : Choice) (old : Face) (pairs : List Mapping) (named all : List ℕ) →
-    AreKeptPairs choice old.map pairs → named ≡ named_of choice.glyphs.now pairs → all ≡ named →
+    AreKeptPairs choice old.map pairs → named ≡ named_of (glyphs_of choice) pairs → all ≡ named →
     HasNoOrigins choice.retain_gids all old.cff.now e → NoSubsetFrom choice old e
 no-origins-so e choice old pairs named all kept is same h = elim h [
   | inl memory ↦ subst (λ (x : Error). NoSubsetFrom choice old x) (sym memory) tt

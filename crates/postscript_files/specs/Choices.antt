@@ -15,7 +15,7 @@ pub record HasGlyph (map : CharacterMap) (char glyph : ℕ) : Type 0 where
   pub maps : Maps map char glyph
   pub some : 0 < glyph
 
--- A character is kept with its glyph if it is asked for, or if its glyph is.
+-- A character is kept with its glyph if it is asked for, or if its glyph is chosen with its characters.
 pub record IsKept (choice : Choice) (map : CharacterMap) (char glyph : ℕ) : Type 0 where
   pub has : HasGlyph map char glyph
   pub asked : Contains choice.chars.now char ⊎ Contains choice.glyphs.now glyph
@@ -45,6 +45,10 @@ pub record IsFirstOf (map : CharacterMap) (chars : List ℕ) (char : ℕ) : Type
 abbrev pub IsFirstMissing : CharacterMap → List ℕ → Error → Type 0
 IsFirstMissing map chars (MissingCharacter char) = IsFirstOf map chars char
 IsFirstMissing map chars _ = ⊥
+
+-- the chosen glyphs, with and without their characters
+abbrev pub glyphs_of : Choice → List ℕ
+glyphs_of choice = choice.glyphs.now ++ choice.unmapped.now
 
 -- these glyphs, and the glyphs of characters
 abbrev pub glyph_of : Mapping → ℕ

@@ -19,7 +19,7 @@ use Rattle.postscript_write.specs.Refusals.{IsSubsetRefusedBy}
 use Rattle.postscript_write.specs.SameGlyphs.{GlyphsKept, IsSameGlyph}
 use Rattle.postscript_write.specs.Sources.{AreThere, choice_by}
 use Rattle.postscript_write.specs.Whole.{IsWholeFont}
-use Rattle.postscript_files.specs.Choices.{AreKeptPairs, IsFirstOf, IsKept, NoneIsMissing, named_of}
+use Rattle.postscript_files.specs.Choices.{AreKeptPairs, IsFirstOf, IsKept, NoneIsMissing, glyphs_of, named_of}
 use Rattle.postscript_files.specs.Copies.{HasCopy}
 use Rattle.postscript_files.specs.Faces.{IsFaceIn, IsNeeded, NoFaceIn, cff_tag, cmap_tag, hhea_tag, hmtx_tag, maxp_tag, post_tag}
 use Rattle.postscript_files.specs.Measures.{bearing_in}
@@ -32,7 +32,7 @@ use Rattle.postscript_files.specs.declared.face.Face.{Face}
 -- The glyphs that a subset is made for: each is chosen, or it is that of a kept character.
 abbrev pub AreNamed : Choice → (old : Face) → (named : List ℕ) → Type 0
 AreNamed choice old named = (glyph : ℕ) → Contains named glyph →
-    Contains choice.glyphs.now glyph ⊎ ((char : ℕ) × IsKept choice old.map char glyph)
+    Contains (glyphs_of choice) glyph ⊎ ((char : ℕ) × IsKept choice old.map char glyph)
 
 -- The new `CFF ` table is one that `subset` writes, or `subset_keeping` if glyphs keep their numbers.
 pub record IsSubsetFont (retain : Bool) (named cff new : List ℕ) : Type 0 where
@@ -100,7 +100,7 @@ pub record IsSubsetFace (choice : Choice) (old new : Face) : Type 0 where
   pub named : List ℕ
   pub are : AreNamed choice old named
   pub font : IsSubsetFont choice.retain_gids named old.cff.now new.cff.now
-  pub glyphs : (glyph : ℕ) → Contains choice.glyphs.now glyph → (i : ℕ) × HasSame choice old new glyph i
+  pub glyphs : (glyph : ℕ) → Contains (glyphs_of choice) glyph → (i : ℕ) × HasSame choice old new glyph i
   pub characters : AreCharacters choice old new
   pub counted : (count : ℕ) × AreCounted new count
   pub hhea : KeepsBut 34 old.hhea.now new.hhea.now
@@ -146,7 +146,7 @@ NoSubsetFrom choice old Cut = length old.maxp.now < 6
 NoSubsetFrom choice old (MissingCharacter char) = (choice.lenient ≡ false) × IsFirstOf old.map choice.chars.now char
 NoSubsetFrom choice old (SameTag tag) = IsTwice choice old.file tag
 NoSubsetFrom choice old (Font e) = (pairs : List Mapping) × AreKeptPairs choice old.map pairs
-    × IsSubsetRefusedBy (named_of choice.glyphs.now pairs) (choice_by choice.retain_gids) old.cff.now e
+    × IsSubsetRefusedBy (named_of (glyphs_of choice) pairs) (choice_by choice.retain_gids) old.cff.now e
 NoSubsetFrom choice old _ = ⊥
 
 -- There is no such face, or no subset of it.

@@ -1,7 +1,7 @@
 //! The characters and glyphs of a subset.
 ghost use Rattle.std.specs.Prelude.{◌≡◌, ℕ, ◌++◌, ◌<◌, true, false, slice_index_or, slice_set, length, IfOk, IfErr, OnOk, IsTrue, ◌↔◌};
 ghost use Rattle.std.specs.List.{All};
-ghost use Rattle.postscript_files.specs.Choices.{AreKeptPairs, AreMarks, IsFirstMissing, IsMissing, NoneIsMissing, filtered as the_filtered, keeps as the_keeps, kept_if, named_of};
+ghost use Rattle.postscript_files.specs.Choices.{AreKeptPairs, AreMarks, IsFirstMissing, IsMissing, NoneIsMissing, filtered as the_filtered, glyphs_of, keeps as the_keeps, kept_if, named_of};
 ghost use Rattle.postscript_files.specs.declared.error.Error.TheVariants as errors;
 
 use crate::error::{Error, Result};
@@ -31,6 +31,8 @@ pub struct Choice<'t> {
     pub chars: &'t [u32],
     /// Glyph numbers, in any order. Each glyph is kept with all its characters.
     pub glyphs: &'t [usize],
+    /// Further glyph numbers, in any order. Each glyph is kept, but its characters are not.
+    pub unmapped: &'t [usize],
     /// Characters without a glyph are left out if this is set. Otherwise they are an error.
     pub lenient: bool,
     /// Glyphs keep their numbers if this is set, with empty glyphs between them.
@@ -167,12 +169,22 @@ pub(crate) fn refuse_missing(map: &CharacterMap<'_>, chars: &[u32]) -> Result<()
     Ok(())
 }
 
-/// Returns these glyphs, and the glyphs of characters.
-pub(crate) fn named(alloc: Global, glyphs: &[usize], pairs: &[Mapping]) -> Result<Vec<usize>>
-    ensures named { IfOk result (λ named. named.items ≡ named_of glyphs.now pairs.now) }
+/// Returns the chosen glyphs.
+fn chosen(alloc: Global, choice: &Choice<'_>) -> Result<Vec<usize>>
+    ensures chosen { IfOk result (λ chosen. chosen.items ≡ glyphs_of choice.now) }
     ensures memory { IfErr result (λ e. e ≡ errors.Memory) }
 {
-    let mut named = Vec::from_slice(alloc, glyphs)?;
+    let mut chosen = Vec::from_slice(alloc, choice.glyphs)?;
+    chosen.extend_from_slice(choice.unmapped)?;
+    Ok(chosen)
+}
+
+/// Returns the chosen glyphs, and the glyphs of characters.
+pub(crate) fn named(alloc: Global, choice: &Choice<'_>, pairs: &[Mapping]) -> Result<Vec<usize>>
+    ensures named { IfOk result (λ named. named.items ≡ named_of (glyphs_of choice.now) pairs.now) }
+    ensures memory { IfErr result (λ e. e ≡ errors.Memory) }
+{
+    let mut named = chosen(alloc, choice)?;
     for pair in pairs {
         named.push(usize::from(pair.glyph))?;
     }

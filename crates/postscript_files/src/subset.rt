@@ -319,7 +319,7 @@ fn subset_of(alloc: Global, face: &Face<'_>, choice: &Choice<'_>) -> Result<Vec<
     ensures refused { IfErr result (λ e. NoSubsetFrom choice.now face.now e) }
 {
     let pairs = kept_pairs(alloc, &face.map, choice)?;
-    let named = named(alloc, choice.glyphs, &pairs)?;
+    let named = named(alloc, choice, &pairs)?;
     let cff = font_of(alloc, face.cff, &named, choice.retain_gids)?;
     let origins = origins_of(alloc, face.cff, &named, choice.retain_gids)?;
     let made = made_of(alloc, face, &pairs, &origins)?;
@@ -329,8 +329,8 @@ fn subset_of(alloc: Global, face: &Face<'_>, choice: &Choice<'_>) -> Result<Vec<
 /// Writes a file with only some characters and glyphs of a face, desubroutinized.
 ///
 /// A character is kept if it is in `choice.chars` or if its glyph is in `choice.glyphs`, and if the face has a glyph for it.
-/// The glyphs of the new file are `.notdef`, the glyphs of all kept characters, the glyphs in `choice.glyphs`, and the
-/// components of `seac` glyphs among them. Each is drawn, named and measured as before. The glyphs are in their old order.
+/// The glyphs of the new file are `.notdef`, the glyphs of all kept characters, the glyphs in `choice.glyphs` and in
+/// `choice.unmapped`, and the components of `seac` glyphs among them. Each is drawn, named and measured as before. The glyphs are in their old order.
 ///
 /// The new file has the tables `CFF `, `cmap`, `hhea`, `hmtx`, `maxp` and `post` (without glyph names), copies of the tables
 /// in `choice.copied`, and the tables in `choice.given`. There are no other tables, and so no kerning and no ligatures

@@ -1,5 +1,5 @@
--- The axes along which the operands of path operators go (Technical Note 5177, "Path Construction Operators"). Named by private contracts
--- and proofs alone.
+-- The axes of the operands of path operators (Technical Note 5177, "Path Construction Operators"). Only private contracts and proofs use
+-- these names.
 use Rattle.std.specs.Prelude.{◌≡◌, ◌%◌, ◌==◌, ℤ, pos, ◌+ℤ◌, Bool, true, false, List, [], ◌∷◌, ◌++◌, length, if◌then◌else◌}
 use Rattle.postscript_drawing.specs.Operators.{strokes}
 use Rattle.postscript_drawing.specs.Strokes.{other}
@@ -17,28 +17,29 @@ use Rattle.postscript_instance.specs.declared.axes.Step.{Step}
 use Rattle.postscript_instance.specs.Far.{IsStep, AreEdges}
 use Rattle.postscript_instance.specs.Nearest.{rounded}
 
--- so far along an axis
+-- a distance along an axis
 abbrev pub so_far : Axis → ℤ → Step
 so_far axis distance = record { axis = axis; distance = distance }
 
--- one axis and the other in turn
+-- distances along one axis and the other in turn
 abbrev pub in_turn : Axis → List ℤ → List Step
 in_turn axis [] = []
 in_turn axis (d ∷ rest) = so_far axis d ∷ in_turn (other axis) rest
 
--- {da dxb dyb dc}+ de?: each begins and ends along these axes, and the next the other way round; an operand alone goes aside of the end
+-- {da dxb dyb dc}+ de?: each curve begins and ends along these axes, and the next one has them swapped. A single last operand is along the
+-- axis where the next curve would end.
 abbrev pub bows : (begin end : Axis) → List ℤ → List Step
 bows begin end (da ∷ dxb ∷ dyb ∷ dc ∷ rest) = so_far begin da ∷ so_far Horizontal dxb ∷ so_far Vertical dyb ∷ so_far end dc
     ∷ bows end begin rest
 bows begin end (de ∷ []) = so_far end de ∷ []
 bows begin end _ = []
 
--- d1? {da dxb dyb dc}+: the first of an odd number goes aside
+-- d1? {da dxb dyb dc}+: if the number of operands is odd, the first one is along the other axis
 abbrev pub level : Axis → List ℤ → List Step
 level axis [] = []
 level axis (d ∷ rest) = if length rest % 2 == 0 then so_far (other axis) d ∷ bows axis axis rest else bows axis axis (d ∷ rest)
 
--- all coordinates of vectors, and of strokes
+-- all coordinates of vectors and of strokes
 abbrev pub vector_steps : Vector → List Step
 vector_steps v = so_far Horizontal v.dx ∷ so_far Vertical v.dy ∷ []
 
@@ -51,7 +52,7 @@ abbrev pub coordinates : List Stroke → List Step
 coordinates [] = []
 coordinates (s ∷ strokes) = stroke_steps s ++ coordinates strokes
 
--- The operands of an operator, each along its axis; of a flex, all coordinates. Hints go nowhere.
+-- The operands of an operator, each along its axis. A flex has all of its coordinates, and hints have no steps.
 abbrev pub steps_of : Operator → List ℤ → List Step
 steps_of HStem xs = []
 steps_of VStem xs = []
@@ -71,7 +72,7 @@ steps_of HFlex1 xs = coordinates (strokes HFlex1 xs)
 steps_of Flex1 xs = coordinates (strokes Flex1 xs)
 steps_of op xs = in_turn Horizontal xs
 
--- where a place is along an axis, and the place so far on
+-- the coordinate of a point along an axis, and the point moved along an axis
 abbrev pub at : Axis → Point → ℤ
 at Horizontal p = p.x
 at Vertical p = p.y
@@ -80,7 +81,7 @@ abbrev pub moved : Axis → Point → ℤ → Point
 moved Horizontal p d = point (p.x +ℤ d) p.y
 moved Vertical p d = point p.x (p.y +ℤ d)
 
--- steps from a place on, each between the nearest whole units, and the place behind them
+-- steps from a point on, each between the nearest whole units of its start and its end, and the point after them
 abbrev pub rounded_steps : Point → List Step → List ℤ
 rounded_steps p [] = []
 rounded_steps p (s ∷ steps) = rounded (at s.axis p) s.distance ∷ rounded_steps (moved s.axis p s.distance) steps
@@ -89,7 +90,7 @@ abbrev pub behind_steps : Point → List Step → Point
 behind_steps p [] = p
 behind_steps p (s ∷ steps) = behind_steps (moved s.axis p s.distance) steps
 
--- 16.16 bits hold each of them
+-- each of them fits into 16.16 bits
 abbrev pub AreSteps : Point → List Step → Type 0
 AreSteps p [] = Unit {0}
 AreSteps p (s ∷ steps) = IsStep (at s.axis p) s.distance × AreSteps (moved s.axis p s.distance) steps
@@ -104,13 +105,13 @@ is_hint HintMask = true
 is_hint CntrMask = true
 is_hint op = false
 
--- all that is said at an operator is held in whole units
+-- in whole units, all numbers of the operation fit into 16.16 bits
 pub record IsNear (p : Point) (x : Phrase) : Type 0 where
   pub steps : AreSteps p (steps_of x.operator x.operands)
   pub edges : is_hint x.operator ≡ true → AreEdges (pos 0) x.operands
   pub stems : AreEdges (pos 0) x.stems
 
--- something that is said is not
+-- some operation does not fit
 pub data LeadsTooFar : Point → List Phrase → Type 0 where
   here : (p : Point) (x : Phrase) (xs : List Phrase) → ¬ IsNear p x → LeadsTooFar p (x ∷ xs)
   later : (p : Point) (x : Phrase) (xs : List Phrase) → LeadsTooFar (behind_steps p (steps_of x.operator x.operands)) xs →

@@ -1,4 +1,4 @@
--- What a stack does not hold is cut into pieces. Named by private contracts and proofs alone.
+-- Operations that do not fit on a stack are split into pieces. Only private contracts and proofs use these names.
 use Rattle.std.specs.Prelude.{◌≡◌, ◌⊎◌, ℕ, ◌+◌, ◌%◌, ◌<◌, ◌≤◌, Bool, true, false, List, [], ◌∷◌, length, take, drop}
 use Rattle.postscript_type2.specs.declared.operation.Operator.{Operator}
 use Rattle.postscript_type2.specs.declared.operation.Operator.TheVariants.{RLineTo, HLineTo, VLineTo, RRCurveTo, RCurveLine, RLineCurve, VVCurveTo, HHCurveTo, VHCurveTo, HVCurveTo}
@@ -6,7 +6,7 @@ use Rattle.postscript_variable.specs.Sayings.{Phrase}
 use Rattle.postscript_instance.specs.declared.pieces.Piece.{Piece}
 use Rattle.postscript_instance.specs.Pieces.{stack_limit}
 
--- a piece, as what is said
+-- a piece as an operation
 abbrev pub said_by : Piece → Phrase
 said_by piece = record {
   operator = piece.operator;
@@ -15,7 +15,7 @@ said_by piece = record {
   mask = piece.mask.now;
 }
 
--- the operators that are cut where a stack does not hold their operands
+-- the operators that are split if their operands do not fit on a stack
 abbrev pub is_cut : Operator → Bool
 is_cut RLineTo = true
 is_cut HLineTo = true
@@ -29,8 +29,8 @@ is_cut VHCurveTo = true
 is_cut HVCurveTo = true
 is_cut op = false
 
--- The operator of the first piece, and how many operands it takes: whole strokes, and of those that turn so many that the rest begins along
--- the same axis. Of a line behind curves, and of a curve behind lines, the rest has the last.
+-- The operator of the first piece, and the number of its operands, which are whole strokes. If strokes alternate between the axes, the rest
+-- begins along the same axis. The rest has the line after curves, or the curve after lines.
 abbrev pub first_operator : Operator → Operator
 first_operator RCurveLine = RRCurveTo
 first_operator RLineCurve = RLineTo
@@ -45,7 +45,7 @@ first_count RCurveLine n = 42
 first_count RLineCurve n = 42
 first_count op n = 48
 
--- the first piece, and what is behind it
+-- the first piece, and the rest
 abbrev pub front_of : Phrase → Phrase
 front_of x = record {
   operator = first_operator x.operator;
@@ -62,14 +62,14 @@ rest_of x = record {
   mask = x.mask;
 }
 
--- it is cut, and it is not
+-- the operation is split, or is not
 abbrev pub IsTooLong : Phrase → Type 0
 IsTooLong x = (is_cut x.operator ≡ true) × (stack_limit < length x.operands)
 
 abbrev pub IsWhole : Phrase → Type 0
 IsWhole x = (is_cut x.operator ≡ false) ⊎ (length x.operands ≤ stack_limit)
 
--- all that is said, piece by piece
+-- all operations in pieces
 pub data AreCut : List Phrase → List Phrase → Type 0 where
   none : AreCut [] []
   whole : (x : Phrase) (xs written : List Phrase) → IsWhole x → AreCut xs written → AreCut (x ∷ xs) (x ∷ written)

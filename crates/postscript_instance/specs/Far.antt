@@ -1,4 +1,4 @@
--- What leads too far in whole units, so that no charstring is written.
+-- Coordinates that are out of range in whole units, so that no charstring is written.
 use Rattle.std.specs.Prelude.{ℤ, pos, ◌+ℤ◌, List, [], ◌∷◌, Option}
 use Rattle.postscript_drawing.specs.Operators.{strokes}
 use Rattle.postscript_drawing.specs.declared.stroke.Stroke.{Stroke}
@@ -16,14 +16,14 @@ use Rattle.postscript_instance.specs.Refusals.{IsHint, NotWritten}
 use Rattle.postscript_instance.specs.Rounded.{origin}
 use Rattle.postscript_instance.specs.Nearest.{nearest, rounded, led, behind}
 
--- 16.16 bits hold where a step ends, its start and its end at the nearest whole units, and how far it is between these
+-- The end of a step fits into 16.16 bits. So do its start and its end, rounded to whole units, and the distance between these two.
 pub record IsStep (from distance : ℤ) : Type 0 where
   pub start : IsHeld (nearest from)
   pub place : IsHeld (from +ℤ distance)
   pub end : IsHeld (nearest (from +ℤ distance))
   pub way : IsHeld (rounded from distance)
 
--- so of a vector, along both axes, and of all vectors of strokes
+-- the same for a vector, along both axes, and for all vectors of strokes
 abbrev pub IsWay : Point → Vector → Type 0
 IsWay p v = IsStep p.x v.dx × IsStep p.y v.dy
 
@@ -36,24 +36,24 @@ AreWays p (Curve a b c ∷ strokes) =
     let r = led q b in
     IsWay p a × IsWay q b × IsWay r c × AreWays (led r c) strokes
 
--- and of the edges of stems
+-- the same for the edges of stems
 abbrev pub AreEdges : (from : ℤ) → List ℤ → Type 0
 AreEdges from [] = Unit {0}
 AreEdges from (d ∷ ds) = IsStep from d × AreEdges (from +ℤ d) ds
 
--- all that is said where the pen stands is held
+-- all coordinates of the operation are in range, if it starts at this point
 pub record IsWithin (p : Point) (x : Phrase) : Type 0 where
   pub ways : AreWays p (strokes x.operator x.operands)
   pub edges : IsHint (kind x.operator) → AreEdges (pos 0) x.operands
   pub stems : AreEdges (pos 0) x.stems
 
--- something that is said is not
+-- some operation is out of range
 pub data LeadsOut : Point → List Phrase → Type 0 where
   here : (p : Point) (x : Phrase) (xs : List Phrase) → ¬ IsWithin p x → LeadsOut p (x ∷ xs)
   later : (p : Point) (x : Phrase) (xs : List Phrase) → LeadsOut (behind p (strokes x.operator x.operands)) xs → LeadsOut p (x ∷ xs)
 
--- The run is refused, a hint operator has too many numbers before it, the first may not have a width before its own, or something leads out
--- of the range; or memory runs out.
+-- The run fails, a hint operator has too many numbers before it, or the first operator cannot have a width before its operands. Other
+-- causes are a coordinate out of range and `Memory`.
 abbrev pub NotRounded : Charstring → (width : Option ℤ) → Error → Type 0
 NotRounded charstring width errors.TooFar = (says : List Phrase) × Says charstring says × LeadsOut origin says
 NotRounded charstring width e = NotWritten charstring width e

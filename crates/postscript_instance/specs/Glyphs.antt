@@ -1,4 +1,4 @@
--- Glyphs of variable fonts at a place, as static ones.
+-- The glyphs of variable fonts at a location, as static glyphs.
 use Rattle.std.specs.Prelude.{◌≡◌, ◌≢◌, ◌⊎◌, ℕ, ℤ, ◌<◌, List, Option, Some, Vec, length, slice_get, IfSome, IsSome}
 use Rattle.std.specs.declared.alloc.Global.{Global}
 use Rattle.postscript_cff2.specs.Parts as parts
@@ -22,63 +22,63 @@ use Rattle.postscript_instance.specs.Rooms.{IsTooLarge}
 use Rattle.postscript_instance.specs.Rounded.{IsRoundedOf}
 use Rattle.postscript_instance.specs.Statics.{IsStaticOf}
 
--- a code that does what the charstring of a glyph does at a place, with a width
+-- a code that does the same as the charstring of a glyph at a location, with a width
 pub record IsStaticGlyph (font : Font) (glyph : ℕ) (place : Place) (width : Option ℤ) (code : List ℕ) : Type 0 where
   pub charstring : Charstring
   pub is : IsCharstringOf font glyph place charstring
   pub static : IsStaticOf charstring width code
 
--- there is none: no such glyph, or no Font DICT for it that stands; or none is written of its charstring
+-- why there is no such code: the glyph or its well-formed Font DICT is missing, or no code is written for its charstring
 abbrev pub NoStaticGlyph : Font → (glyph : ℕ) → Place → (width : Option ℤ) → Error → Type 0
 NoStaticGlyph font glyph place width (errors.NoGlyph number) =
     (number ≡ glyph) × ((part : parts.PrivateDict) → HasPart font.bytes.now (view_shown font) glyph part → ⊥)
 NoStaticGlyph font glyph place width e =
     (charstring : Charstring) × IsCharstringOf font glyph place charstring × NotWritten charstring width e
 
--- there are names, and not as many as glyphs, or not one Font DICT
+-- names are given, and their number is not the number of glyphs, or the font does not have exactly one Font DICT
 abbrev pub IsMiscounted : Font → Naming → Error → Type 0
 IsMiscounted font naming errors.OtherNames = IfSome naming.glyphs (λ names. length names.now ≢ length (view_shown font).char_strings)
     × IsSome naming.glyphs
 IsMiscounted font naming errors.NotOneDictionary = IsSome naming.glyphs × (length (view_shown font).font_dictionaries ≢ 1)
 IsMiscounted font naming e = ⊥
 
--- these are miscounted, or a glyph's advance has no room
+-- the names do not fit the font, or the advance of a glyph cannot be a width
 abbrev pub LacksWidths : Font → Naming → AdvancesAt → Error → Type 0
 LacksWidths font naming advances e = IsMiscounted font naming e ⊎ LacksRoom advances (length (view_shown font).char_strings) e
 
--- the advances of all glyphs at the place, in 16.16 bits
+-- the advances of all glyphs at the location, in 16.16 bits
 abbrev pub AreWidthsOf : Font → AdvancesAt → (widths : List ℤ) → Type 0
 AreWidthsOf font advances widths = AreAdvancesAt advances (length (view_shown font).char_strings) widths
 
--- so a code does what a glyph does at the place, with its width
+-- a code does the same as a glyph at the location, with its width
 abbrev pub DoesAt : Font → Place → (glyph : ℕ) → (width : ℤ) → (code : List ℕ) → Type 0
 DoesAt font place glyph width code = IsStaticGlyph font glyph place (Some width) code
 
--- the codes of the first so many glyphs, each of which does what it is to do, with its width
+-- the codes of the first `count` glyphs, for each of which `does` holds with its width
 pub record AreCodes (does : (glyph : ℕ) → (width : ℤ) → (code : List ℕ) → Type 0) (widths : List ℤ) (count : ℕ)
     (codes : List (Vec ℕ Global)) : Type 0 where
   pub counted : length codes ≡ count
   pub each : (glyph : ℕ) → glyph < count → (width : ℤ) × (code : Vec ℕ Global) × (slice_get widths glyph ≡ Some width) ×
       (slice_get codes glyph ≡ Some code) × does glyph width code.items
 
--- a code that does in whole units what the charstring of a glyph does at a place, with a width
+-- a code that does the same in whole units as the charstring of a glyph at a location, with a width
 pub record IsRoundedGlyph (font : Font) (glyph : ℕ) (place : Place) (width : Option ℤ) (code : List ℕ) : Type 0 where
   pub charstring : Charstring
   pub is : IsCharstringOf font glyph place charstring
   pub rounded : IsRoundedOf charstring width code
 
--- there is none: no such glyph, or no Font DICT for it that stands; or none is written of its charstring
+-- why there is no such code: the glyph or its well-formed Font DICT is missing, or no code is written for its charstring
 abbrev pub NoRoundedGlyph : Font → (glyph : ℕ) → Place → (width : Option ℤ) → Error → Type 0
 NoRoundedGlyph font glyph place width (errors.NoGlyph number) =
     (number ≡ glyph) × ((part : parts.PrivateDict) → HasPart font.bytes.now (view_shown font) glyph part → ⊥)
 NoRoundedGlyph font glyph place width e =
     (charstring : Charstring) × IsCharstringOf font glyph place charstring × NotRounded charstring width e
 
--- so a code does in whole units what a glyph does at the place, with its width
+-- a code does the same in whole units as a glyph at the location, with its width
 abbrev pub DoesRoundedAt : Font → Place → (glyph : ℕ) → (width : ℤ) → (code : List ℕ) → Type 0
 DoesRoundedAt font place glyph width code = IsRoundedGlyph font glyph place (Some width) code
 
--- so it does with numbers as they are, or in whole units; and so there is none
+-- the same with exact numbers or in whole units, and why there is no such code
 abbrev pub DoesIn : Numbers → Font → Place → (glyph : ℕ) → (width : ℤ) → (code : List ℕ) → Type 0
 DoesIn numbers.Exact = DoesAt
 DoesIn numbers.Whole = DoesRoundedAt
@@ -87,7 +87,7 @@ abbrev pub NoCodeIn : Numbers → Font → Place → (glyph : ℕ) → (width : 
 NoCodeIn numbers.Exact font place glyph width e = NoStaticGlyph font glyph place (Some width) e
 NoCodeIn numbers.Whole font place glyph width e = NoRoundedGlyph font glyph place (Some width) e
 
--- A glyph of which no code is written with its width, the first: those before it have codes that do what they are to do.
+-- The first glyph for which no code is written with its width. All glyphs before it have codes.
 pub record HasNoCode (numbers : Numbers) (font : Font) (place : Place) (widths : List ℤ) (e : Error) : Type 0 where
   pub glyph : ℕ
   pub width : ℤ
@@ -96,17 +96,17 @@ pub record HasNoCode (numbers : Numbers) (font : Font) (place : Place) (widths :
   pub are_codes : AreCodes (DoesIn numbers font place) widths glyph before
   pub refused : NoCodeIn numbers font place glyph width e
 
--- there is one; or what is written is not read back, or memory runs out
+-- there is such a glyph, the written table is not read back, or memory runs out
 abbrev pub LacksCode : Numbers → Font → Place → (widths : List ℤ) → Error → Type 0
 LacksCode numbers font place widths e = IsLate e ⊎ HasNoCode numbers font place widths e
 
--- each glyph has a code, and with these the table is too large
+-- each glyph has a code, and the table with these codes is too large
 abbrev pub HasNoRoom : Numbers → Font → Naming → Place → (widths : List ℤ) → Error → Type 0
 HasNoRoom numbers font naming place widths e = (e ≡ errors.TooLarge) × ((codes : List (Vec ℕ Global)) ×
     AreCodes (DoesIn numbers font place) widths (length widths) codes × IsTooLarge font naming codes)
 
--- There are no widths, or no place, or a glyph has no code there with its width, or the table is too large or not read back; or memory
--- runs out.
+-- Why there is no table. Widths or a location are missing, or a glyph has no code there with its width. Other causes are a table that is
+-- too large or is not read back, and `Memory`.
 abbrev pub LacksTable : Numbers → Font → Naming → AdvancesAt → Error → Type 0
 LacksTable numbers font naming advances e = LacksWidths font naming advances e ⊎ LacksPlace font.store e
     ⊎ ((place : Place) × (widths : List ℤ) × IsPlaceIn font.store advances.coordinates.now place × AreWidthsOf font advances widths
@@ -115,6 +115,6 @@ LacksTable numbers font naming advances e = LacksWidths font naming advances e �
 abbrev pub NoTable : Font → Naming → AdvancesAt → Error → Type 0
 NoTable font naming advances e = LacksTable numbers.Exact font naming advances e
 
--- the same of a table in whole units
+-- the same for a table in whole units
 abbrev pub NoRoundedTable : Font → Naming → AdvancesAt → Error → Type 0
 NoRoundedTable font naming advances e = LacksTable numbers.Whole font naming advances e

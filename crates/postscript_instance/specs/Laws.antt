@@ -20,15 +20,16 @@ use Rattle.postscript_instance.specs.Rounded.{IsRoundedOf}
 use Rattle.postscript_instance.specs.Nearest.{nearest, nearest_segment}
 use Rattle.postscript_instance.specs.Statics.{IsStaticOf}
 
--- A law of the definitions: what is written of a number that 32 bits hold spells it, and nothing shorter does.
+-- A law of the definitions: the written text of a number of 32 bits is an encoding of it, and no encoding is shorter.
 abbrev pub NumbersAreShortest : Type 0
 NumbersAreShortest = (bits : ℤ) → IsHeld bits → IsShortest (number_text bits) bits
 
--- what is said, as an operation
+-- an operation without hints and mask
 abbrev pub operation_of : Phrase → Operator × List ℤ
 operation_of x = (x.operator, x.operands)
 
--- The operations of some answers are those of others in pieces; they are the same where none has more operands than a stack holds.
+-- The operations of `pieces` are the operations of `answers`, some of them in pieces. They are the same if no operation has more operands
+-- than fit on a stack.
 pub record HavePieces (answers pieces : List Answer) : Type 0 where
   pub says : List Phrase
   pub written : List Phrase
@@ -37,39 +38,39 @@ pub record HavePieces (answers pieces : List Answer) : Type 0 where
   pub parts : map operation pieces ≡ map operation_of written
   pub same : All (λ answer. length answer.operands ≤ stack_limit) answers → map operation pieces ≡ map operation answers
 
--- A law of the definitions: over whatever subroutines, the run of a static code has the operations of the charstring's run, those in pieces
--- that a stack does not hold, and the width beside each; endchar finishes it with that width.
+-- A law of the definitions. With any subroutines, the run of a static code has the operations of the charstring's run, each with the width.
+-- Operations that do not fit on a stack are in pieces. endchar finishes the run with that width.
 abbrev pub OperationsStay : Type 0
 OperationsStay = (charstring : Charstring) (width : Option ℤ) (code : List ℕ) → IsStaticOf charstring width code →
     (answers : List Answer) (end : End) → IsRunFrom charstring answers end →
     (lists : Lists) (run : Run) → IsRunOf lists code run →
     HavePieces answers run.answers × All (λ answer. answer.width ≡ width) run.answers × (run.end ≡ Finished [] width)
 
--- A law of the definitions: over whatever subroutines, the run of a static code draws what the charstring's run draws, wherever the origin
--- is put: the same segments, or it is refused likewise.
+-- A law of the definitions. With any subroutines and from any origin, the run of a static code draws what the charstring's run draws. Both
+-- draw the same segments, or have the same error.
 abbrev pub OutlinesStay : Type 0
 OutlinesStay = (charstring : Charstring) (width : Option ℤ) (code : List ℕ) → IsStaticOf charstring width code →
     (answers : List Answer) (end : End) → IsRunFrom charstring answers end →
     (lists : Lists) (run : Run) → IsRunOf lists code run →
     (origin : Point) → outlined_at origin run.answers run.end ≡ outlined_at origin answers (end_of end)
 
--- a whole number, not more than half a unit from 16.16 bits; of two as near, the upper
+-- a whole number at most half a unit away from 16.16 bits, and the upper one if it is halfway
 pub record IsNearest (bits units : ℤ) : Type 0 where
   pub whole : (n : ℤ) × (units ≡ whole n)
   pub below : (bits -ℤ pos 32768) <ℤ units
   pub above : units ≤ℤ (bits +ℤ pos 32768)
 
--- A law of the definitions: the nearest whole units are so, of any bits.
+-- A law of the definitions: `nearest` gives this number for any bits.
 abbrev pub NearestIsNearest : Type 0
 NearestIsNearest = (bits : ℤ) → IsNearest bits (nearest bits)
 
--- what a run draws, from the origin, and the width with which it is finished
+-- the run draws these segments from the origin, and ends with this width
 pub record Drawn (width : Option ℤ) (wanted : List Segment) (run : Run) : Type 0 where
   pub segments : outlined run.answers run.end ≡ Ok wanted
   pub end : run.end ≡ Finished [] width
 
--- A law of the definitions: where the charstring's run draws segments, the run of a code in whole units draws, over whatever subroutines,
--- the same segments in the same order, each point at the nearest whole units; endchar finishes it with its width.
+-- A law of the definitions. If the charstring's run draws segments, the run of a code in whole units draws the same segments in the same
+-- order, with any subroutines. Each point is rounded to the nearest whole units. endchar finishes the run with its width.
 abbrev pub RoundedOutlines : Type 0
 RoundedOutlines = (charstring : Charstring) (width : Option ℤ) (code : List ℕ) → IsRoundedOf charstring width code →
     (answers : List Answer) (end : End) → IsRunFrom charstring answers end →

@@ -1,4 +1,4 @@
--- What contracts say of static charstrings of variable ones.
+-- The definitions that contracts use for the static charstrings of variable ones.
 pub mod Numbers
 pub mod Texts
 pub mod Pieces

@@ -1,4 +1,4 @@
--- The place of normalized coordinates (OpenType 1.9, "OpenType Font Variations Common Table Formats", "Item variation store").
+-- The location of normalized coordinates (OpenType 1.9, "OpenType Font Variations Common Table Formats", "Item variation store").
 use Rattle.std.specs.Prelude.{◌≡◌, ℤ, List, [], Option, Some, None}
 use Rattle.postscript_base.specs.declared.error.Error.TheVariants as causes
 use Rattle.postscript_instance.specs.declared.error.Error.{Error}
@@ -8,12 +8,12 @@ use Rattle.postscript_variable_font.specs.declared.place.Place.{Place}
 use Rattle.postscript_variation.specs.Lent.{table_count}
 use Rattle.postscript_variation.specs.declared.store.Store.{Store}
 
--- a place has the scalars of all item variation data of a store; none where there is no store
+-- A location has the scalars of all item variation data of a store. Without a store it has none.
 abbrev pub IsPlaceIn : Option Store → (coordinates : List ℤ) → Place → Type 0
 IsPlaceIn None coordinates place = place.tables.items ≡ []
 IsPlaceIn (Some store) coordinates place = AreTables store coordinates (table_count store) place.tables.items
 
--- item variation data of a number do not stand, the first that do not; or memory runs out
+-- the item variation data with this number are the first that are missing, or memory runs out
 abbrev pub LacksPlaceIn : Store → Error → Type 0
 LacksPlaceIn store (errors.NoData number) = LacksData store number
 LacksPlaceIn store (errors.Font e) = e ≡ causes.Memory

@@ -1,4 +1,4 @@
--- Named by private contracts and proofs alone.
+-- Only private contracts and proofs use these names.
 use Rattle.std.specs.Prelude.{◌≡◌, ◌⊎◌, ℕ, ◌+◌, ◌<◌, ◌≤◌, ℤ, ◌+ℤ◌, true, false, List, [], ◌∷◌, ◌++◌, length, Option, None, pos, if◌then◌else◌}
 use Rattle.postscript_base.specs.declared.error.Error.TheVariants as causes
 use Rattle.postscript_outline.specs.declared.point.Point.{Point}
@@ -14,19 +14,19 @@ use Rattle.postscript_instance.specs.Nearest.{rounded}
 use Rattle.postscript_instance.specs.Texts.{width_numbers, numbers_of, code_text}
 use Rattle.postscript_instance.specs.Cuts.{is_cut, AreCut}
 
--- 32 bits hold each number that is written
+-- each number that is written fits into 32 bits
 abbrev pub AreHeldIn : Option ℤ → List Phrase → Type 0
 AreHeldIn width [] = AreHeld (width_numbers width)
 AreHeldIn width (x ∷ xs) = AreHeld (numbers_of width x) × AreHeldIn None xs
 
--- what is said, written behind what stood there
+-- the operations are appended to the old bytes
 pub record IsWritten (width : Option ℤ) (says : List Phrase) (old new : List ℕ) : Type 0 where
   pub written : List Phrase
   pub cut : AreCut says written
   pub text : new ≡ old ++ code_text width written
   pub held : AreHeldIn width written
 
--- an operator that is not cut has at most as many numbers before it as a stack holds, and one has more
+-- an operator can be split, or the numbers before it fit on a stack
 abbrev pub IsHeldOrCut : Option ℤ → Phrase → Type 0
 IsHeldOrCut width x = (is_cut x.operator ≡ true) ⊎ (length (numbers_of width x) ≤ stack_limit)
 
@@ -34,24 +34,25 @@ abbrev pub AreHeldOrCut : Option ℤ → List Phrase → Type 0
 AreHeldOrCut width [] = Unit {0}
 AreHeldOrCut width (x ∷ xs) = IsHeldOrCut width x × AreHeldOrCut None xs
 
+-- some operator that cannot be split has more numbers before it than fit on a stack
 pub data HasMoreUncut : Option ℤ → List Phrase → Type 0 where
   here : (width : Option ℤ) (x : Phrase) (xs : List Phrase) → is_cut x.operator ≡ false → stack_limit < length (numbers_of width x) →
       HasMoreUncut width (x ∷ xs)
   later : (width : Option ℤ) (x : Phrase) (xs : List Phrase) → HasMoreUncut None xs → HasMoreUncut width (x ∷ xs)
 
--- why what is said is not written
+-- why operations are not written
 abbrev pub IsUnwritten : (width : Option ℤ) → List Phrase → Error → Type 0
 IsUnwritten width says (errors.Font e) = e ≡ causes.Memory
 IsUnwritten width says errors.TooManyOperands = HasMoreUncut width says
 IsUnwritten width says errors.NoMove = LacksMove width says
 IsUnwritten width says e = ⊥
 
--- the operands of stems between the nearest whole units of their edges
+-- the operands of stems between edges that are rounded to whole units
 abbrev pub rounded_edges : (from : ℤ) → List ℤ → List ℤ
 rounded_edges from [] = []
 rounded_edges from (d ∷ ds) = rounded from d ∷ rounded_edges (from +ℤ d) ds
 
--- what is said in whole units
+-- an operation in whole units
 abbrev pub operands_in_units : Point → Phrase → List ℤ
 operands_in_units p x =
     if is_hint x.operator then rounded_edges (pos 0) x.operands
@@ -73,7 +74,7 @@ abbrev pub AreNear : Point → List Phrase → Type 0
 AreNear p [] = Unit {0}
 AreNear p (x ∷ xs) = IsNear p x × AreNear (behind_steps p (steps_of x.operator x.operands)) xs
 
--- memory runs out, or this is why something leads too far
+-- the cause of `TooFar`, or out of memory
 abbrev pub IsFar : (why : Type 0) → Error → Type 0
 IsFar why (errors.Font e) = e ≡ causes.Memory
 IsFar why errors.TooFar = why

@@ -12,25 +12,25 @@ use Rattle.postscript_instance.specs.Pieces.{stack_limit}
 use Rattle.postscript_instance.specs.Statics.{bears_width}
 use Rattle.postscript_instance.specs.Texts.{numbers_of}
 
--- the hint operators: those that declare stems, and masks
+-- the hint operators: declarations of stems, and masks
 abbrev pub IsHint : Kind → Type 0
 IsHint (DeclaresStems takes) = Unit {0}
 IsHint (Masks takes) = Unit {0}
 IsHint kind = ⊥
 
--- a hint operator has more numbers before it than a stack holds
+-- a hint operator has more numbers before it than fit on a stack
 pub data HasMore : Option ℤ → List Phrase → Type 0 where
   here : (width : Option ℤ) (x : Phrase) (xs : List Phrase) → IsHint (kind x.operator) → stack_limit < length (numbers_of width x) →
       HasMore width (x ∷ xs)
   later : (width : Option ℤ) (x : Phrase) (xs : List Phrase) → HasMore None xs → HasMore width (x ∷ xs)
 
--- there is a width, and the first operator may not have it before its operands
+-- a width is given, but the first operator cannot have it before its operands
 abbrev pub LacksMove : Option ℤ → List Phrase → Type 0
 LacksMove (Some width) (x ∷ xs) = bears_width x.operator ≡ false
 LacksMove width xs = ⊥
 
--- The run is refused, a hint operator has too many numbers before it, or the first may not have a width before its own; or memory
--- runs out.
+-- The run fails, a hint operator has too many numbers before it, or the first operator cannot have a width before its operands. Any call
+-- may also fail with `Memory`.
 abbrev pub NotWritten : Charstring → (width : Option ℤ) → Error → Type 0
 NotWritten charstring width (errors.Font causes.Memory) = Unit {0}
 NotWritten charstring width (errors.Font e) = StopsWith charstring (refusal_of e)
@@ -38,7 +38,7 @@ NotWritten charstring width errors.TooManyOperands = (says : List Phrase) × Say
 NotWritten charstring width errors.NoMove = (says : List Phrase) × Says charstring says × LacksMove width says
 NotWritten charstring width e = ⊥
 
--- of laying out what is written, and of reading it back
+-- the errors of writing the table and of reading it back
 abbrev pub IsLate : Error → Type 0
 IsLate (errors.Font e) = e ≡ causes.Memory
 IsLate errors.NotReadBack = Unit {0}

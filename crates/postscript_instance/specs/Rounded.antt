@@ -1,4 +1,4 @@
--- Charstrings in whole units: each place is at the nearest whole units, and what is drawn goes from place to place (Technical Note 5177,
+-- Charstrings in whole units. Each point is rounded to the nearest whole units, and strokes join the rounded points (Technical Note 5177,
 -- "Path Construction Operators", "Hint Operators").
 use Rattle.std.specs.Prelude.{◌≡◌, ℤ, pos, ◌+ℤ◌, ℕ, List, [], ◌∷◌, map, drop, Option}
 use Rattle.postscript_drawing.specs.Operators.{strokes}
@@ -18,7 +18,7 @@ use Rattle.postscript_instance.specs.Refusals.{IsHint}
 use Rattle.postscript_instance.specs.Statics.{SaysSo, Fits, BearsWidth}
 use Rattle.postscript_instance.specs.Nearest.{nearest, rounded_strokes, behind, AreInRange}
 
--- the edges of stems: each is so far from the one before it, and the first from 0 ("Hint Operators")
+-- the edges of stems: each operand is the distance from the edge before it, and the first counts from 0 ("Hint Operators")
 abbrev pub edges_from : ℤ → List ℤ → List ℤ
 edges_from at [] = []
 edges_from at (d ∷ ds) = (at +ℤ d) ∷ edges_from (at +ℤ d) ds
@@ -31,19 +31,19 @@ abbrev pub AreWhole : List ℤ → Type 0
 AreWhole [] = Unit {0}
 AreWhole (num ∷ nums) = ((n : ℤ) × (num ≡ whole n)) × AreWhole nums
 
--- each number that is said is whole, but the depth of a flex
+-- each number of the operations is whole, except the depth of a flex
 abbrev pub AreInUnits : List Phrase → Type 0
 AreInUnits [] = Unit {0}
 AreInUnits (x ∷ xs) = AreWhole x.stems × AreWhole (used x.operator x.operands) × AreInUnits xs
 
--- a flex is spelled by all its coordinates; every other operator stays
+-- every flex operator becomes `flex`, which has all coordinates, and every other operator is unchanged
 abbrev pub rounded_operator : Operator → Operator
 rounded_operator HFlex = Flex
 rounded_operator HFlex1 = Flex
 rounded_operator Flex1 = Flex
 rounded_operator op = op
 
--- the depth of a flex stays, and is 50 where the operator has none
+-- the depth of a flex is unchanged, and is 50 if the operator has none
 abbrev pub depth_of : Operator → List ℤ → List ℤ
 depth_of Flex xs = drop 12 xs
 depth_of HFlex xs = whole (pos 50) ∷ []
@@ -51,7 +51,7 @@ depth_of HFlex1 xs = whole (pos 50) ∷ []
 depth_of Flex1 xs = whole (pos 50) ∷ []
 depth_of op xs = []
 
--- what is said where the pen stands, and the same in whole units
+-- an operation from a point, and the same operation in whole units
 pub record IsRounded (p : Point) (x y : Phrase) : Type 0 where
   pub operator : y.operator ≡ rounded_operator x.operator
   pub drawn : strokes y.operator y.operands ≡ rounded_strokes p (strokes x.operator x.operands)
@@ -69,8 +69,8 @@ AreRounded p xs ys = ⊥
 abbrev pub origin : Point
 origin = point (pos 0) (pos 0)
 
--- A charstring of CFF2, a width, and a code of Type 2 that does the same in whole units, whatever its subroutines are: it calls none. What
--- a stack does not hold of a path is written in pieces.
+-- A CFF2 charstring, a width, and a Type 2 code that does the same in whole units. It calls no subroutines, so it does so with any. Path
+-- operators that do not fit on a stack are in pieces.
 pub record IsRoundedOf (charstring : Charstring) (width : Option ℤ) (code : List ℕ) : Type 0 where
   pub says : List Phrase
   pub said : Says charstring says

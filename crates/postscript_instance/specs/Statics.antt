@@ -1,5 +1,5 @@
--- A charstring of Type 2 that does what a charstring of CFF2 does (Technical Note 5177, "Type 2 Charstring Organization", Appendix B;
--- OpenType 1.9, "CFF2 CharString Format").
+-- A Type 2 charstring that does the same as a CFF2 charstring (Technical Note 5177, "Type 2 Charstring Organization", Appendix B; OpenType
+-- 1.9, "CFF2 CharString Format").
 use Rattle.std.specs.Prelude.{◌≡◌, ℕ, ◌≤◌, ℤ, Bool, true, false, List, [], ◌∷◌, ◌++◌, length, map, Option, Some, None}
 use Rattle.postscript_type2.specs.declared.operation.Operator.{Operator}
 use Rattle.postscript_type2.specs.declared.operation.Operator.TheVariants.{EndChar, HStem, VStem, VMoveTo, HStemHM, HintMask, CntrMask, RMoveTo, HMoveTo, VStemHM}
@@ -14,8 +14,8 @@ use Rattle.postscript_variable.specs.Told.{Says}
 use Rattle.postscript_instance.specs.Pieces.{stack_limit, AreInPieces}
 use Rattle.postscript_instance.specs.Texts.{width_numbers, numbers_of}
 
--- The phrases of a run: each has the numbers and the operator of what is said, and the bytes of its mask behind them; the width is before
--- the first of them; and endchar is the last.
+-- The phrases of a run. Each one has the numbers and the operator of an operation, and then the bytes of its mask. The width is before the
+-- first one, and endchar is the last.
 pub data AreSpelled : (width : Option ℤ) → List Phrase → List runs.Phrase → Type 0 where
   finish : (width : Option ℤ) (phrase : List ℕ) → IsPhrase phrase (width_numbers width) EndChar →
       AreSpelled width [] (by EndChar phrase ∷ [])
@@ -23,12 +23,12 @@ pub data AreSpelled : (width : Option ℤ) → List Phrase → List runs.Phrase 
       IsPhrase phrase (numbers_of width x) x.operator → AreSpelled None xs trace →
       AreSpelled width (x ∷ xs) (by x.operator (phrase ++ x.mask) ∷ trace)
 
--- what is said, as an answer with its hints beside this width
+-- an operation with its hints and this width
 abbrev pub answer_with : Option ℤ → Phrase → Answer
 answer_with width x = answer x.operator x.operands (hinting x.stems x.mask) width
 
--- Over these subroutines a code answers all that is said, operand by operand and hint by hint, with this width; its phrases are those
--- of what is said; and endchar, which takes nothing, finishes it.
+-- With these subroutines, the run of a code returns all operations with their operands and hints, and with this width. Its phrases spell
+-- these operations. It ends with endchar, which takes nothing from the stack.
 pub record SaysSo (lists : Lists) (code : List ℕ) (width : Option ℤ) (says : List Phrase) : Type 0 where
   pub run : runs.Run
   pub is : IsRunOf lists code run
@@ -36,12 +36,12 @@ pub record SaysSo (lists : Lists) (code : List ℕ) (width : Option ℤ) (says :
   pub phrases : AreSpelled width says run.trace
   pub end : run.end ≡ Finished [] width
 
--- each operator has at most so many numbers before it, the width with them
+-- the numbers before each operator, including the width, fit on a stack
 abbrev pub Fits : Option ℤ → List Phrase → Type 0
 Fits width [] = Unit {0}
 Fits width (x ∷ xs) = (length (numbers_of width x) ≤ stack_limit) × Fits None xs
 
--- the operators that may have the width before their operands, endchar apart ("Type 2 Charstring Organization")
+-- the operators that may have the width before their operands, apart from endchar ("Type 2 Charstring Organization")
 abbrev pub bears_width : Operator → Bool
 bears_width HStem = true
 bears_width HStemHM = true
@@ -54,13 +54,13 @@ bears_width VMoveTo = true
 bears_width RMoveTo = true
 bears_width op = false
 
--- the first operator may have the width before its operands, where there is one
+-- if there is a width, the first operator may have it before its operands
 abbrev pub BearsWidth : Option ℤ → List Phrase → Type 0
 BearsWidth (Some width) (x ∷ xs) = bears_width x.operator ≡ true
 BearsWidth width xs = Unit {0}
 
--- A charstring of CFF2, a width, and a code of Type 2 that does the same with this width, whatever its subroutines are: it calls none. What
--- a stack does not hold of a path is written in pieces.
+-- A CFF2 charstring, a width, and a Type 2 code that does the same with this width. It calls no subroutines, so it does so with any. Path
+-- operators that do not fit on a stack are in pieces.
 pub record IsStaticOf (charstring : Charstring) (width : Option ℤ) (code : List ℕ) : Type 0 where
   pub says : List Phrase
   pub said : Says charstring says

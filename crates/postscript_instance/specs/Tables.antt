@@ -1,4 +1,4 @@
--- The table `CFF ` of a place of a variable font (Technical Note 5176).
+-- The `CFF ` table of a variable font at a location (Technical Note 5176).
 use Rattle.std.specs.Prelude.{◌≡◌, ℕ, ℤ, pos, ◌<◌, List, [], ◌∷◌, Some, Vec, length, slice_get}
 use Rattle.std.specs.declared.alloc.Global.{Global}
 use Rattle.postscript_base.specs.Compact1.Decimal.{Decimal, to_i32}
@@ -15,13 +15,13 @@ use Rattle.postscript_instance.specs.Placed.{IsPlaceIn}
 use Rattle.postscript_instance.specs.declared.advances.AdvancesAt.{AdvancesAt}
 use Rattle.postscript_instance.specs.declared.naming.Naming.{Naming}
 
--- the first so many items are codes
+-- there is an item for each code, and the first `count` items are codes
 pub record AreItems (items : List (List ℕ)) (codes : List (Vec ℕ Global)) (count : ℕ) : Type 0 where
   pub counted : length items ≡ length codes
   pub each : (number : ℕ) → number < count → (code : Vec ℕ Global) × (slice_get codes number ≡ Some code) ×
       (slice_get items number ≡ Some code.items)
 
--- a Private DICT whose nominal width is 0, so that a charstring tells the width itself
+-- a Private DICT whose nominal width is 0, so that the width in a charstring is the advance
 abbrev pub HasNoWidths : PrivateDict → Type 0
 HasNoWidths part = (width : Decimal) × (first_of (look part.dictionary NominalWidthX) ≡ Some width) × (to_i32 width ≡ Some (pos 0))
 
@@ -29,15 +29,15 @@ abbrev pub HaveNoWidths : List PrivateDict → Type 0
 HaveNoWidths [] = Unit {0}
 HaveNoWidths (part ∷ parts) = HasNoWidths part × HaveNoWidths parts
 
--- a font of these codes without subroutines, whose charstrings tell their widths themselves
+-- a font with these codes and without global subroutines, whose charstrings have their advances as widths
 pub record IsPlainFont (view : View) (codes : List (Vec ℕ Global)) : Type 0 where
   pub items : AreItems view.char_strings codes (length codes)
   pub none : view.tables.subroutines ≡ []
   pub widths : HaveNoWidths view.parts
 
--- A font stands in the bytes (Technical Note 5176, "CFF Data Layout"), which has no subroutines that its glyphs share. Each of its glyphs
--- has a code that does what it is to do, with its advance as its width, and nothing is added to that; and it has the Font DICT of the
--- number that it has in another font. The font and its glyphs are called as they are to be.
+-- The bytes contain a font without global subroutines (Technical Note 5176, "CFF Data Layout"). For each glyph, `does` holds of its advance
+-- and its code, and nothing is added to widths. Each glyph has the Font DICT with the same number as in the other font. The font and its
+-- glyphs have the given names.
 pub record IsTable (does : (glyph : ℕ) → (advance : ℤ) → (code : List ℕ) → Type 0) (font : Font) (naming : Naming) (advances : List ℤ)
     (bytes : List ℕ) : Type 0 where
   pub view : View
@@ -51,8 +51,7 @@ pub record IsTable (does : (glyph : ℕ) → (advance : ℤ) → (code : List �
   pub called : IsCalled naming bytes view
   pub dictionaries : KeepDictionaries font bytes view (length advances)
 
--- The table of a font at the place of the coordinates of its advances: each code does what it is to do there, with the glyph's advance
--- there as its width.
+-- The table of a font at the location of its advances. For each glyph, `does` holds of its code there, with its advance there as width.
 pub record IsTableAt (does : Font → Place → (glyph : ℕ) → (advance : ℤ) → (code : List ℕ) → Type 0) (font : Font) (naming : Naming)
     (advances : AdvancesAt) (bytes : List ℕ) : Type 0 where
   pub place : Place
@@ -61,7 +60,7 @@ pub record IsTableAt (does : Font → Place → (glyph : ℕ) → (advance : ℤ
   pub are_widths : AreWidthsOf font advances widths
   pub is_table : IsTable (does font place) font naming widths bytes
 
--- the table of a place: each code does what the glyph does there
+-- the table of a location: each code does the same as its glyph there
 abbrev pub IsTableOf : Font → Naming → AdvancesAt → List ℕ → Type 0
 IsTableOf font naming advances bytes = IsTableAt DoesAt font naming advances bytes
 

@@ -1,11 +1,11 @@
--- How charstrings of Type 2 are written that have no calls (Technical Note 5177, "Charstring Operator Encoding", Appendix A).
+-- The text of Type 2 charstrings without calls (Technical Note 5177, "Charstring Operator Encoding", Appendix A).
 use Rattle.std.specs.Prelude.{ℕ, ℤ, List, [], ◌∷◌, ◌++◌, Option, Some, None}
 use Rattle.postscript_type2.specs.declared.operation.Operator.{Operator}
 use Rattle.postscript_type2.specs.declared.operation.Operator.TheVariants.{HStem, VStem, VMoveTo, RLineTo, HLineTo, VLineTo, RRCurveTo, HStemHM, HintMask, CntrMask, RMoveTo, HMoveTo, VStemHM, RCurveLine, RLineCurve, VVCurveTo, HHCurveTo, VHCurveTo, HVCurveTo, HFlex, Flex, HFlex1, Flex1}
 use Rattle.postscript_variable.specs.Sayings.{Phrase}
 use Rattle.postscript_instance.specs.Numbers.{numbers_text}
 
--- The bytes of an operator that draws, declares stems or masks; none of every other.
+-- The bytes of an operator that draws, declares stems or masks. All others have none.
 abbrev pub operator_text : Operator → List ℕ
 operator_text HStem = 0x01 ∷ []
 operator_text VStem = 0x03 ∷ []
@@ -37,15 +37,15 @@ abbrev pub width_numbers : Option ℤ → List ℤ
 width_numbers (Some width) = width ∷ []
 width_numbers None = []
 
--- the numbers before an operator: the width, the stems that a mask implies, the operands
+-- the numbers before an operator: the width, the stems that a mask implies, and the operands
 abbrev pub numbers_of : Option ℤ → Phrase → List ℤ
 numbers_of width x = width_numbers width ++ (x.stems ++ x.operands)
 
--- the numbers and the operator, without the mask behind it
+-- the numbers and the operator, without the mask after it
 abbrev pub phrase_text : Option ℤ → Phrase → List ℕ
 phrase_text width x = numbers_text (numbers_of width x) ++ operator_text x.operator
 
--- what is said, the width before the first, and endchar behind the last
+-- all operations, with the width before the first one and endchar after the last
 abbrev pub code_text : Option ℤ → List Phrase → List ℕ
 code_text width [] = numbers_text (width_numbers width) ++ 0x0e ∷ []
 code_text width (x ∷ xs) = phrase_text width x ++ (x.mask ++ code_text None xs)

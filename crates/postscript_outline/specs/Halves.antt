@@ -1,4 +1,4 @@
--- A curve along one axis and its halves, in whole numbers from zero on.
+-- A curve along one axis and its halves, in whole numbers that are not negative.
 use Rattle.std.specs.Prelude.{ℕ, ◌+◌, ◌*◌, ◌<◌, ◌≤◌, min, max}
 use Rattle.postscript_outline.specs.declared.curve.Curve.{Curve}
 use Rattle.postscript_outline.specs.declared.curve.Span.{Span}
@@ -6,7 +6,7 @@ use Rattle.postscript_outline.specs.declared.curve.Span.{Span}
 abbrev pub cube : ℕ → ℕ
 cube k = k * k * k
 
--- where the curve is at the part n of m + n, times the cube of m + n (Bernstein's form)
+-- the coordinate of the curve after n of m + n parts, times the cube of m + n (Bernstein's form)
 abbrev pub height : Curve → (m n : ℕ) → ℕ
 height c m n = c.from * (m * m * m) + c.first * (3 * (m * m * n)) + c.second * (3 * (m * n * n)) + c.to * (n * n * n)
 
@@ -34,29 +34,29 @@ pub record IsCurveWithin (most : ℕ) (c : Curve) : Type 0 where
   pub second : c.second ≤ most
   pub to : c.to ≤ most
 
--- both control points lie between the ends
+-- both control points are between the ends
 pub record IsLevel (c : Curve) : Type 0 where
   pub first_low : min c.from c.to ≤ c.first
   pub first_high : c.first ≤ max c.from c.to
   pub second_low : min c.from c.to ≤ c.second
   pub second_high : c.second ≤ max c.from c.to
 
--- or at most so far beyond them
+-- both control points are at most `most` beyond the ends
 pub record IsNearLevel (most : ℕ) (c : Curve) : Type 0 where
   pub first_low : min c.from c.to ≤ c.first + most
   pub first_high : c.first ≤ max c.from c.to + most
   pub second_low : min c.from c.to ≤ c.second + most
   pub second_high : c.second ≤ max c.from c.to + most
 
--- the second differences of the coordinates, so often, are at most that
+-- the second differences of the coordinates, times `times`, are at most `most` in absolute value
 pub record IsBent (times most : ℕ) (c : Curve) : Type 0 where
   pub begin_up : times * (c.from + c.second) ≤ times * (2 * c.first) + most
   pub begin_down : times * (2 * c.first) ≤ times * (c.from + c.second) + most
   pub end_up : times * (c.first + c.to) ≤ times * (2 * c.second) + most
   pub end_down : times * (2 * c.second) ≤ times * (c.first + c.to) + most
 
--- A curve comes from the low to the high, in units of so many parts: each of its points lies between; some point lies less than two
--- units from either; and neither lies beyond its coordinates.
+-- A curve extends from low to high, in units of `unit` parts: each of its points is between them. Some point is less than two units from
+-- each. Neither is beyond the coordinates, rounded outwards to whole units.
 pub record Spans (s : Span) (unit : ℕ) (c : Curve) : Type 0 where
   pub above : (m n : ℕ) → s.low * unit * cube (m + n) ≤ height c m n
   pub below : (m n : ℕ) → height c m n ≤ s.high * unit * cube (m + n)

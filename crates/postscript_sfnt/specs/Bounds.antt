@@ -1,4 +1,4 @@
--- The box around all glyphs: from place 36 of the table `head` on (ISO/IEC 14496-22, 5.2.2).
+-- The bounding box of all glyphs: four numbers from offset 36 of the `head` table on (ISO/IEC 14496-22, 5.2.2).
 use Rattle.std.specs.Prelude.{◌≡◌, ℕ, ◌≤◌, List, length}
 use Rattle.postscript_sfnt.specs.Metrics.{signed}
 use Rattle.postscript_sfnt.specs.declared.metrics.Bounds.{Bounds}

@@ -1,7 +1,7 @@
--- The names of the glyphs of the standard Macintosh set, in its order (OpenType 1.9, "post", "Version 1.0").
+-- The names of the glyphs of the standard Macintosh set, in order (OpenType 1.9, "post", "Version 1.0").
 use Rattle.std.specs.Prelude.{ℕ, List, [], ◌∷◌, Option, slice_get, codes}
 
--- from 0 to 257
+-- names 0 to 257
 abbrev pub macintosh_names : List (List ℕ)
 macintosh_names =
     codes ".notdef" ∷ codes ".null" ∷ codes "nonmarkingreturn" ∷ codes "space" ∷ codes "exclam" ∷ codes "quotedbl" ∷ codes "numbersign" ∷
@@ -40,6 +40,6 @@ macintosh_names =
     codes "onehalf" ∷ codes "onequarter" ∷ codes "threequarters" ∷ codes "franc" ∷ codes "Gbreve" ∷ codes "gbreve" ∷ codes "Idotaccent" ∷
     codes "Scedilla" ∷ codes "scedilla" ∷ codes "Cacute" ∷ codes "cacute" ∷ codes "Ccaron" ∷ codes "ccaron" ∷ codes "dcroat" ∷ []
 
--- the name of a glyph of the set, if it has one of this number
+-- the name with an index, or `None` if the set has no such index
 abbrev pub macintosh_name : ℕ → Option (List ℕ)
 macintosh_name index = slice_get macintosh_names index

@@ -11,23 +11,24 @@ use Rattle.postscript_sfnt_write.specs.declared.error.Error.{Error}
 use Rattle.postscript_sfnt_write.specs.declared.error.Error.TheVariants.{CharactersDoNotRise, Cut, Memory, TagsDoNotRise, TooManyTables, TooLarge}
 use Rattle.postscript_sfnt_write.specs.declared.file.Table.{Table}
 
--- The file has one face, whose directory of so many tables begins it, of the version of outlines in a table `CFF `: "OTTO".
+-- The file begins with its only face, and the directory of the face has `count` tables. The version is "OTTO", for outlines in a `CFF `
+-- table.
 pub record Opens (bytes : List ℕ) (count : ℕ) : Type 0 where
   pub version : number_at bytes 0 4 ≡ 0x4f54544f
   pub face : IsFace bytes 0 0
   pub directory : IsDirectory bytes 0 count
 
--- A record tells of a table its tag, its checksum and its length. The checksum of `head` is that with a checkSumAdjustment of 0.
+-- A record has the tag, the checksum and the length of a table. The checksum of `head` is computed with a checkSumAdjustment of 0.
 pub record IsRecordOf (bytes : List ℕ) (i : ℕ) (table : Table) : Type 0 where
   pub tag : tag_at bytes 0 i ≡ table.tag
   pub sum : checksum_at bytes 0 i ≡ checksum (in_file 0 table)
   pub size : length_at bytes 0 i ≡ length table.bytes.now
 
--- each table has its record, in order
+-- the records belong to the tables, in order
 abbrev pub AreListed : (bytes : List ℕ) → List Table → Type 0
 AreListed bytes tables = (i : ℕ) (table : Table) → IsGiven tables i table → IsRecordOf bytes i table
 
--- The face has these tables and no others, in order, and each is the one of its tag: its bytes, in `head` with a checkSumAdjustment.
+-- The face has these tables and no others, in order. The table with a tag has the given bytes, apart from the checkSumAdjustment in `head`.
 pub record HasTables (face : FontFile) (tables : List Table) : Type 0 where
   pub counted : tables_of face ≡ length tables
   pub tag : (i : ℕ) (table : Table) → IsGiven tables i table → tag_of face i ≡ table.tag
@@ -35,16 +36,16 @@ pub record HasTables (face : FontFile) (tables : List Table) : Type 0 where
   pub small : adjustment < 2 ^ 32
   pub bytes : (i : ℕ) (table : Table) → IsGiven tables i table → IsTableOf face table.tag (in_file adjustment table)
 
--- A face that is read from the file has the tables.
+-- Any face 0 that is opened from the file has the tables.
 abbrev pub AreLent : (bytes : List ℕ) → List Table → Type 0
 AreLent bytes tables = (face : FontFile) → IsFaceOf bytes 0 face → HasTables face tables
 
--- where a table ends, with the zeros behind it
+-- the offset of the end of a table and its padding
 abbrev pub end_of : (bytes : List ℕ) → (i : ℕ) → ℕ
 end_of bytes i = offset_at bytes 0 i + room_of (length_at bytes 0 i)
 
--- Tables begin at multiples of four. The first stands behind the directory, each other one behind the one before it, and nothing
--- behind the last. Between them stand zeros.
+-- Tables begin at multiples of four. The first one is right after the directory, each other one is after the one before it, and the file
+-- ends after the last one. The padding is zeros.
 pub record ArePacked (bytes : List ℕ) (count : ℕ) : Type 0 where
   pub aligned : (i : ℕ) → i < count → offset_at bytes 0 i % 4 ≡ 0
   pub first : 0 < count → offset_at bytes 0 0 ≡ 12 + count * 16
@@ -52,25 +53,25 @@ pub record ArePacked (bytes : List ℕ) (count : ℕ) : Type 0 where
   pub last : (i : ℕ) → i + 1 ≡ count → length bytes ≡ end_of bytes i
   pub zeros : (i : ℕ) → i < count → All (λ byte. byte ≡ 0) (slice_range bytes (offset_at bytes 0 i + length_at bytes 0 i) (end_of bytes i))
 
--- Of the greatest power of two that is no greater than the number of tables, the header tells the logarithm, entrySelector, its
--- product with 16, searchRange, and what is left to the product of the number with 16, rangeShift.
+-- The header has the search fields of the number of tables. The field entrySelector is its logarithm to base 2, rounded down. The field
+-- searchRange is 16 times that power of two. The field rangeShift is what remains of 16 times the number.
 pub record IsSearched (bytes : List ℕ) (count : ℕ) : Type 0 where
   pub most : 2 ^ number_at bytes 8 2 ≤ count
   pub least : count < 2 * 2 ^ number_at bytes 8 2
   pub range : number_at bytes 6 2 ≡ 2 ^ number_at bytes 8 2 * 16
   pub shift : number_at bytes 10 2 + number_at bytes 6 2 ≡ count * 16
 
--- With a table `head` of 12 bytes the sum of the whole file is a constant.
+-- If there is a `head` table of at least 12 bytes, the checksum of the whole file is constant.
 abbrev pub IsAdjusted : (bytes : List ℕ) → List Table → Type 0
 IsAdjusted bytes tables = (i : ℕ) (table : Table) → IsGiven tables i table → adjusts table ≡ true → checksum bytes ≡ 0xb1b0afba
 
--- tables that a file can have
+-- the tables that a file can have
 pub record CanStand (tables : List Table) : Type 0 where
   pub rise : TagsRise tables
   pub counted : length tables < 4096
   pub fits : size_of tables < 2 ^ 32
 
--- when a refusal comes
+-- when each error is possible
 abbrev pub Refuses : Error → List Table → Type 0
 Refuses Memory tables = Unit {0}
 Refuses Cut tables = ⊥

@@ -1,4 +1,4 @@
--- Groups of characters as they are written: private contracts and proofs alone name this.
+-- Groups of characters in a written `cmap` table. Only private contracts and proofs use these names.
 use Rattle.std.specs.Prelude.{◌≡◌, ℕ, ◌+◌, ◌-◌, ◌*◌, ◌%◌, ◌^◌, ◌<◌, ◌==◌, ◌&&◌, Bool, if◌then◌else◌, List, [], ◌∷◌, ◌++◌, Some, length, slice_get}
 use Rattle.postscript_sfnt_write.specs.Headers.{IsLogarithm}
 use Rattle.postscript_sfnt_write.specs.Mappings.{IsMapping}
@@ -15,7 +15,7 @@ pub record MappingFits (mapping : Mapping) : Type 0 where
 abbrev pub MappingsFit : List Mapping → Type 0
 MappingsFit mappings = (i : ℕ) (mapping : Mapping) → IsMapping mappings i mapping → MappingFits mapping
 
--- the character goes on where the group ends
+-- the mapping extends the group: its character is the next one, and so is its glyph
 abbrev pub goes_on : Group → Mapping → Bool
 goes_on group mapping = (mapping.char == group.end + 1) && (mapping.glyph + group.start == group.glyph + mapping.char)
 
@@ -25,7 +25,7 @@ group_of mapping = record { start = mapping.char; end = mapping.char; glyph = ma
 abbrev pub longer : Group → (end : ℕ) → Group
 longer group end = record { start = group.start; end = end; glyph = group.glyph }
 
--- the groups of characters behind an open one
+-- the groups of an open group and the mappings after it
 unfoldable pub grouped : Group → List Mapping → List Group
 grouped group [] = group ∷ []
 grouped group (mapping ∷ mappings) =
@@ -46,7 +46,7 @@ pub record GroupFits (group : Group) : Type 0 where
 abbrev pub GroupsFit : List Group → Type 0
 GroupsFit groups = (i : ℕ) (group : Group) → IsGroup groups i group → GroupFits group
 
--- format 12
+-- a subtable of format 12
 unfoldable pub group_text : Group → List ℕ
 group_text group = uint32 group.start ++ (uint32 group.end ++ uint32 group.glyph)
 
@@ -58,7 +58,7 @@ unfoldable pub format12_text : List Group → List ℕ
 format12_text groups =
     uint16 12 ++ (uint16 0 ++ (uint32 (16 + length groups * 12) ++ (uint32 0 ++ (uint32 (length groups) ++ groups_text groups))))
 
--- Format 4: the rows of the last characters, of the first ones, of what is added to glyphs, and of offsets, which are none.
+-- Format 4: the arrays of last characters, first characters, deltas and glyph offsets. All glyph offsets are 0.
 abbrev pub row_number : Row → Group → ℕ
 row_number End group = group.end % 65536
 row_number Start group = group.start % 65536
@@ -78,17 +78,18 @@ head4_text count selector =
     ++ (uint16 0 ++ (uint16 (count * 2)
     ++ (uint16 (2 ^ selector * 2) ++ (uint16 selector ++ uint16 (count * 2 - 2 ^ selector * 2))))))
 
--- the character that ends all segments, with no glyph
+-- the character of the last segment, which has no glyph
 abbrev pub end : Mapping
 end = record { char = 0xffff; glyph = 0 }
 
--- a record of a platform, an encoding and a place
+-- an encoding record: a platform, an encoding and an offset
 unfoldable pub encoding_text : (platform encoding place : ℕ) → List ℕ
 encoding_text platform encoding place = uint16 platform ++ (uint16 encoding ++ uint32 place)
 
 unfoldable pub small_text : List ℕ
 small_text = uint16 0 ++ (uint16 2 ++ (encoding_text 0 3 20 ++ encoding_text 3 1 20))
 
+-- a table with a subtable of format 4
 pub record IsSmall (table : List ℕ) (segments : List Group) : Type 0 where
   pub selector : ℕ
   pub selected : IsLogarithm (length segments) selector
@@ -99,6 +100,7 @@ unfoldable pub large_text : (behind : ℕ) → List ℕ
 large_text behind = uint16 0
     ++ (uint16 4 ++ (encoding_text 0 3 36 ++ (encoding_text 0 4 behind ++ (encoding_text 3 1 36 ++ encoding_text 3 10 behind))))
 
+-- a table with a subtable of format 4 for the low characters, and one of format 12 for all of them
 pub record IsLarge (table : List ℕ) (low all : List Group) : Type 0 where
   pub selector : ℕ
   pub selected : IsLogarithm (length low) selector

@@ -1,4 +1,4 @@
--- Numbers as they are written (ISO/IEC 14496-22, 4.3, "Data types"): the high byte first.
+-- Numbers in a file (ISO/IEC 14496-22, 4.3, "Data types"): the high byte is first.
 use Rattle.std.specs.Prelude.{ℕ, List}
 use Rattle.std.specs.Int.{to_be_bytes, w16, w32}
 

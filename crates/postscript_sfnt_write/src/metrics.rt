@@ -1,4 +1,4 @@
-//! Writes metrics (ISO/IEC 14496-22, 5.2.3, 5.2.4, 5.2.6 and 5.2.8).
+//! Writes metrics (ISO/IEC 14496-22, `hhea`, `hmtx`, `maxp` and `post`).
 ghost use Rattle.std.specs.Prelude.{◌≡◌, ℕ, ◌+◌, ◌*◌, ◌<◌, ◌≤◌, ◌++◌, length, take, drop, replicate, OnOk, IfOk, IfErr};
 ghost use Rattle.postscript_base.specs.Index.{number_at as the_number};
 ghost use Rattle.postscript_sfnt.specs.Metrics.{IsGlyphs, IsWord};

@@ -1,5 +1,5 @@
--- What contracts say of charstrings (Technical Note 5177). People begin at Program/Meaning. Private is named by private
--- contracts and proofs alone.
+-- The definitions that the contracts use for charstrings (Technical Note 5177). Begin with Program/Meaning. Only private contracts and
+-- proofs use Private.
 pub mod Number
 pub mod Operation
 pub mod Program

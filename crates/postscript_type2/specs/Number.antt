@@ -1,4 +1,4 @@
--- Numbers of charstrings, and the 16.16 numbers that they stand for (Technical Note 5177, "Charstring Number Encoding").
+-- Numbers of charstrings, and the 16.16 numbers that they represent (Technical Note 5177, "Charstring Number Encoding").
 use Rattle.std.specs.Ordering.{int_eq}
 use Rattle.std.specs.Prelude.{ℕ, ℤ, pos, ◌*ℤ◌, int_div, int_rem, Option, Some, None, ◌==◌, nat_lt, if◌then◌else◌}
 use Rattle.postscript_base.specs.Numbers.{number as unsigned, two_sided, small, above, below}
@@ -9,11 +9,11 @@ use Rattle.postscript_base.specs.Refusal.{malformed_number}
 abbrev pub whole : ℤ → ℤ
 whole n = n *ℤ pos 65536
 
--- the whole number of bits that 65536 divides
+-- the whole number with these bits, if 65536 divides them
 abbrev pub to_int : ℤ → Option ℤ
 to_int bits = if int_eq (int_rem bits (pos 65536)) (pos 0) then Some (int_div bits (pos 65536)) else None
 
--- what a first byte begins
+-- the rest of a number after its first byte
 abbrev pub spelled : ℕ → Reading ℤ
 spelled first =
     if first == 0x1c then (unsigned 2 >>= λ n. pure (whole (two_sided 0x8000 n)))

@@ -1,4 +1,4 @@
--- What a program is refused with, and the error that tells it.
+-- The errors of a program, and the errors that its caller gets.
 use Rattle.std.specs.Prelude.{ℕ, List, Result, Ok, Err, MatchResult}
 use Rattle.postscript_base.specs.declared.error.Error.{Error}
 use Rattle.postscript_base.specs.declared.error.Error.TheVariants as errors
@@ -30,15 +30,15 @@ error_of cases.NegativeRoot = errors.NegativeRoot
 error_of cases.TooManyStems = errors.TooManyStems
 error_of cases.AlreadyFailed = errors.AlreadyFailed
 
--- the same answer, with the error in the place of the refusal
+-- the same result, with its error converted
 abbrev pub with_error : {A : Type 0} → Result A Refused → Result A Error
 with_error (Ok answer) = Ok answer
 with_error (Err refused) = Err (error_of refused)
 
--- the refusal that it tells
+-- the `Refusal` of an error
 abbrev pub reason : Refused → Refusal
 reason refused = refusal_of (error_of refused)
 
--- a result's refusal has one of these numbers
+-- an error of the result has one of these numbers
 abbrev pub IsListedAs : {A : Type 0} → List ℕ → Result A Refused → Type 0
 IsListedAs numbers result = MatchResult result (λ _. Unit {0}) (λ refused. IsOneOf numbers (number_of (reason refused)))

@@ -9,6 +9,7 @@ pub mod Fronts
 pub mod TokenLaws
 pub mod MeaningLaws
 pub mod SaysLaws
+pub mod CostLaws
 pub mod EndingLaws
 pub mod BlendLaws
 pub mod OperatorLaws

@@ -1,4 +1,4 @@
--- Charstrings with the subroutines that they may call, and what they blend with.
+-- Charstrings with the subroutines that they may call, and the data for blend.
 use Rattle.std.specs.Prelude.{List}
 use Rattle.postscript_type2.specs.Program.Charstrings.{lists_of}
 use Rattle.postscript_type2.specs.Program.Runs.{Answer}
@@ -8,7 +8,7 @@ use Rattle.postscript_variable.specs.Evaluation.{Run, run_of}
 use Rattle.postscript_variable.specs.Meaning.{End, IsRunOf}
 use Rattle.postscript_variable.specs.Programs.{font}
 
--- the subroutines and the scalars that a charstring is run over
+-- the subroutines and the scalars of a charstring
 abbrev pub font_from : Charstring → Font
 font_from charstring = font (lists_of charstring.subroutines) charstring.blends.tables.now
 

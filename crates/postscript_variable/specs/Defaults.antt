@@ -1,14 +1,14 @@
--- Blends at a place where no region counts, as at the default place of a font's axes.
+-- Blends at a location where all scalars are 0, as at the default location of a font.
 use Rattle.std.specs.Prelude.{◌≡◌, ℕ, ℤ, List, [], ◌∷◌, Ok}
 use Rattle.postscript_type2.specs.Program.StackRules.{IsHeld}
 use Rattle.postscript_variable.specs.Blending.{values}
 
--- no region counts
+-- all scalars are 0
 abbrev pub AreZero : (scalars : List ℕ) → Type 0
 AreZero [] = Unit {0}
 AreZero (scalar ∷ scalars) = (scalar ≡ 0) × AreZero scalars
 
--- numbers that 32 bits hold
+-- the numbers fit into 32 bits
 abbrev pub AreHeld : List ℤ → Type 0
 AreHeld [] = Unit {0}
 AreHeld (num ∷ nums) = IsHeld num × AreHeld nums

@@ -9,7 +9,7 @@ use Rattle.postscript_variable.specs.Meaning.{End, UsedUp, Stopped, answer}
 use Rattle.postscript_variable.specs.Sayings.{Phrase, said}
 use Rattle.postscript_variable.specs.Tokens.{Token, Number, Operator, NoToken, token}
 
--- a run: its answers, what is said with them, what each number and operator costs that it reads, and its end
+-- a run: its operations, the same operations with their hints, the cost of each number and operator that it reads, and its end
 pub record Run : Type 0 where
   pub answers : List Answer
   pub says : List Phrase
@@ -19,7 +19,7 @@ pub record Run : Type 0 where
 abbrev pub at_end : End → Run
 at_end end = record { answers = []; says = []; costs = []; end = end }
 
--- one more number or operator before a run, and what it answers
+-- a run with one more number or operator before it, and with one more operation
 abbrev pub with_step : (cost : ℕ) → Run → Run
 with_step cost run = record { answers = run.answers; says = run.says; costs = cost ∷ run.costs; end = run.end }
 
@@ -35,7 +35,7 @@ abbrev pub with_any_answer : Option Phrase → Run → Run
 with_any_answer None run = run
 with_any_answer (Some x) run = with_answer x run
 
--- a run, and what comes of its end
+-- a run that is continued after its end
 abbrev pub followed : Run → (End → Run) → Run
 followed run go = record {
   answers = run.answers ++ (go run.end).answers;
@@ -48,13 +48,13 @@ abbrev pub after_call : (State → Run) → End → Run
 after_call go (UsedUp st) = go st
 after_call go (Stopped e) = at_end (Stopped e)
 
--- what a number or an operator comes to. more: how many bytes are passed behind the first. cost: what it costs
+-- The result of a number or an operator. `more` is the number of its bytes after the first, and `cost` is its cost.
 pub data Stride : Type 0 where
   On : Option Phrase → State → (more : ℕ) → (cost : ℕ) → Stride
   Into : (routine : List ℕ) → State → (more : ℕ) → (cost : ℕ) → Stride
   Halts : Refusal → Stride
 
--- stack, behind: the stack that an operator moves over, and the bytes behind it. cost: that of the operator without its mask
+-- The result of an operator. `stack` is the stack before it, `behind` are the bytes after it, and `cost` is its cost without a mask.
 abbrev pub moved : (stack : List ℤ) → (behind : List ℕ) → (more : ℕ) → (cost : ℕ) → Effect → Stride
 moved stack behind more cost (Keeps st) = On None st more cost
 moved stack behind more cost (Clears op taken st mask) =
@@ -72,7 +72,7 @@ stride_by font r st (NoToken e) = Halts e
 abbrev pub stride : Font → (first : ℕ) → (r : List ℕ) → State → Stride
 stride font first r st = stride_by font r st (token first r)
 
--- what a routine means, where calls may still nest
+-- the run of a routine, if calls may still nest
 abbrev pub Callee : Type 0
 Callee = Option (List ℕ → State → Run)
 
@@ -85,7 +85,7 @@ paced callee go (On answer st more cost) = with_step cost (with_any_answer answe
 paced callee go (Into routine st more cost) = called callee cost routine st (after_call (go more))
 paced callee go (Halts e) = at_end (Stopped e)
 
--- what a routine means past its first k bytes
+-- the run of a routine after its first k bytes
 abbrev pub routine : Font → Callee → (k : ℕ) → List ℕ → State → Run
 routine font callee k [] st = at_end (UsedUp st)
 routine font callee (suc k) (b ∷ r) st = routine font callee k r st
@@ -95,7 +95,7 @@ abbrev pub callee : Font → (left : ℕ) → Callee
 callee font zero = None
 callee font (suc left) = Some (λ r st. routine font (callee font left) 0 r st)
 
--- what a rest means where so many calls may still nest
+-- the run of a rest, if `left` calls may still nest
 abbrev pub mean : Font → (left : ℕ) → List ℕ → State → Run
 mean font left r st = routine font (callee font left) 0 r st
 

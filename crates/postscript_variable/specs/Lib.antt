@@ -1,4 +1,4 @@
--- What contracts say of charstrings of CFF2 (OpenType 1.9, "CFF2 CharString Format"). People begin at Meaning.
+-- The definitions that contracts use for charstrings of CFF2 (OpenType 1.9, "CFF2 CharString Format"). Begin with Meaning.
 pub mod Commands
 pub mod Blending
 pub mod Defaults
@@ -17,6 +17,7 @@ pub mod Within
 pub mod Computed
 pub mod Endings
 pub mod Told
+pub mod CostsAlong
 pub mod OperatorRules
 pub mod Private
 pub mod BlendRules

@@ -1,4 +1,4 @@
--- Named by private contracts and proofs alone.
+-- Only private contracts and proofs use these names.
 pub mod Working
 pub mod Remaining
 pub mod Machines

@@ -1,4 +1,4 @@
--- What a program still answers, as its callers see it.
+-- The remaining operations of a program, as its callers see them.
 use Rattle.std.specs.Prelude.{ℕ, Bool, true, false, List, [], map, Vec}
 use Rattle.std.specs.declared.alloc.Global.{Global}
 use Rattle.postscript_base.specs.declared.error.Error.TheVariants.{AlreadyFailed}
@@ -14,27 +14,27 @@ use Rattle.postscript_variable.specs.Meaning.{End, UsedUp, Stopped}
 abbrev pub tables_of : List (Vec ℕ Global) → List (List ℕ)
 tables_of tables = map (λ table. table.items) tables
 
--- subroutines, and scalars to blend with
+-- subroutines, and the scalars for blend
 abbrev pub font : Lists → (tables : List (Vec ℕ Global)) → Font
 font lists tables = record { lists = lists; tables = tables_of tables }
 
--- an end as callers see it: that of Type 2 charstrings, so that one relation draws both
+-- the end as callers see it, in the form of Type 2 charstrings, so that one relation draws both
 abbrev pub end_of : End → type2.End
 end_of (UsedUp st) = type2.UsedUp
 end_of (Stopped e) = type2.Fault e
 
--- the answers that are left, what each number and operator costs that is still to be read, the end behind them, and whether it was told
+-- The remaining operations, the cost of each number and operator still to be read, the end after them, and whether the end was returned.
 pub record Pending : Type 0 where
   pub answers : List Answer
   pub costs : List ℕ
   pub end : type2.End
   pub is_told : Bool
 
--- before the first answer of a run
+-- before the first operation of a run
 abbrev pub begun : Run → Pending
 begun run = record { answers = run.answers; costs = run.costs; end = end_of run.end; is_told = false }
 
--- after an end without fault was told, and after a refusal was
+-- after an end without a fault was returned, and after an error was
 abbrev pub ended : Pending
 ended = record { answers = []; costs = []; end = type2.UsedUp; is_told = true }
 

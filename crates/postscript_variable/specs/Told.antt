@@ -1,4 +1,4 @@
--- What a charstring says, all along its run by the rules.
+-- The operations of a charstring in full, along its run by the rules.
 use Rattle.std.specs.Prelude.{◌≡◌, ℕ, List, [], ◌∷◌, ◌++◌, map}
 use Rattle.postscript_base.specs.Refusal.{Refusal}
 use Rattle.postscript_type2.specs.Program.Runs.{Answer}
@@ -11,7 +11,8 @@ use Rattle.postscript_variable.specs.Meaning as rules
 use Rattle.postscript_variable.specs.Meaning.{answer, End, Means, IsRunOf}
 use Rattle.postscript_variable.specs.Sayings.{Phrase, said}
 
--- At each operator that clears the stack something is said; a call says what its routine does, and then what follows it does.
+-- Each operator that clears the stack gives an operation. A call gives the operations of its subroutine, and then the rest of the run
+-- follows.
 abbrev pub told : {font : Font} {depth : ℕ} {rest : List ℕ} {st : State} {answers : List Answer} {end : End} →
     Means font depth rest st answers end → List Phrase
 told (rules.used_up depth st) = []
@@ -25,11 +26,12 @@ told (rules.calls_too_deep depth spelling behind command st after routine moves 
 told (rules.calls depth spelling behind command st after back routine inner answers end moves room within later) = told within ++ told later
 told (rules.calls_to_stop depth spelling behind command st after routine inner e moves room within) = told within
 
--- what is said, without the hints that masks have, is what is answered
+-- an operation in full, without the hints of a mask
 abbrev pub answer_of : Phrase → Answer
 answer_of x = answer x.operator x.operands
 
--- Laws of the definitions: what is told along a run is what is computed, so it is one thing; and it is answered.
+-- Laws of the definitions. The operations in full along a run are the computed ones, so there is only one list of them. Without the hints
+-- of masks, they are the operations of the run.
 abbrev pub ToldIsComputed : Type 0
 ToldIsComputed = (font : Font) (index : ℕ) (code : List ℕ) (answers : List Answer) (end : End) (run : IsRunOf font index code answers end) →
     (run_of font index code).says ≡ told run
@@ -38,7 +40,7 @@ abbrev pub ToldIsAnswered : Type 0
 ToldIsAnswered = (font : Font) (index : ℕ) (code : List ℕ) (answers : List Answer) (end : End) (run : IsRunOf font index code answers end) →
     answers ≡ map answer_of (told run)
 
--- what is said, as a call answers it
+-- an operation in full, converted for the specification
 abbrev pub said_of : Saying → Phrase
 said_of saying = record {
   operator = saying.operator;
@@ -47,13 +49,13 @@ said_of saying = record {
   mask = saying.mask.now;
 }
 
--- all that a charstring says, whose run ends without fault
+-- all operations of a charstring whose run ends without a fault
 pub record Says (charstring : Charstring) (says : List Phrase) : Type 0 where
   pub answers : List Answer
   pub last : State
   pub run : IsRunFrom charstring answers (rules.UsedUp last)
   pub all : says ≡ told run
 
--- the run of a charstring ends with a refusal
+-- the run of a charstring ends with an error
 abbrev pub StopsWith : Charstring → Refusal → Type 0
 StopsWith charstring e = (answers : List Answer) × IsRunFrom charstring answers (rules.Stopped e)

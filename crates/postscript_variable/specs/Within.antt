@@ -1,4 +1,4 @@
--- What a program answers within a limit.
+-- The operations that a program returns within a limit.
 use Rattle.std.specs.Prelude.{◌≡◌, ◌⊎◌, ◌<◌, false, ℕ, List, [], Some, None, Result, Ok, Err}
 use Rattle.std.specs.Borrow.{Fml, MutBor}
 use Rattle.std.specs.Io.BufRead.{Rests}
@@ -12,8 +12,8 @@ use Rattle.postscript_variable.specs.Lending.{Steps, IsHead}
 use Rattle.postscript_variable.specs.Limit.{Spends}
 use Rattle.postscript_variable.specs.Programs.{Pending}
 
--- An operation and the end are answered as `Steps` says. A pause leaves what is still answered, and comes only where nothing is left of
--- the limit. What was read is paid, and an operation costs something. Where the program is refused, all that was read before is paid.
+-- An operation or the end is returned as `Steps` says. A pause leaves the remaining operations unchanged, and the limit is then 0. The
+-- items that were read are paid for, and an operation costs something. On an error other than `Memory`, no items are left.
 abbrev pub StepsWithin : Pending → (limit : ℕ) → Result Within Error → Pending → (left : ℕ) → Type 0
 StepsWithin old limit (Ok (Operation operator operands)) new left =
     Steps old (Ok (Some (operator, operands))) new × Spends limit old.costs left new.costs × (left < limit)
@@ -23,12 +23,12 @@ StepsWithin old limit (Ok Paused) new left =
 StepsWithin old limit (Err e) new left =
     Steps old (Err e) new × ((rest : List ℕ) × Spends limit old.costs left rest × ((e ≡ Memory) ⊎ (rest ≡ [])))
 
--- The operands are lent, and once they are given back the program is as `StepsWithin` says.
+-- The operands are borrowed, and when the borrow ends the program is as `StepsWithin` says.
 abbrev pub LendsWithin : MutBor Pending → (limit : ℕ) → Result Within Error → (left : ℕ) → Fml
 LendsWithin program limit result left =
     Rests (the_row (record { mir = named 0; lft = [] })) program (λ new. StepsWithin program.now limit result new left)
 
--- the operation that is lent is the first that is still answered
+-- the returned operation is the first remaining one
 abbrev pub IsHeadWithin : Pending → Result Within Error → Type 0
 IsHeadWithin old (Ok (Operation operator operands)) = IsHead old (Ok (Some (operator, operands)))
 IsHeadWithin old (Ok End) = IsHead old (Ok None)

@@ -1,5 +1,6 @@
 //! Laws of the definitions. The functions do nothing: their clauses are the laws.
 ghost use Rattle.postscript_variable.specs.Computed.{NumberIsRead, OperatorIsRead, NothingIsRead, MeaningIsComputed, RunIsMeant, EachHasARun, NoOtherRun};
+ghost use Rattle.postscript_variable.specs.CostsAlong.{CostsAreComputed};
 ghost use Rattle.postscript_variable.specs.Defaults.{DefaultsStay};
 ghost use Rattle.postscript_variable.specs.Endings.{RunsEndSo};
 ghost use Rattle.postscript_variable.specs.Limit.{LimitIsCost, LimitLasts, LimitBoundsSteps};
@@ -52,6 +53,12 @@ pub fn runs_end_so()
 pub fn defaults_stay()
     // If all scalars are 0, blending gives the defaults, whatever the deltas are.
     ensures { DefaultsStay }
+{}
+
+/// States what each number and operator of a run costs (`specs/CostsAlong.antt`).
+pub fn costs_are_computed()
+    // The computed costs are those of the numbers and operators along a run by the rules.
+    ensures { CostsAreComputed }
 {}
 
 /// States how [`Program::step_within`] spends its limit (`specs/Limit.antt`).

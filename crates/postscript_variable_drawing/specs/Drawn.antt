@@ -1,4 +1,4 @@
--- What drawing a charstring of CFF2 comes to: as that of a Type 2 charstring of the same operations.
+-- Drawing of CFF2 charstrings. It is defined like the drawing of a Type 2 charstring with the same operations.
 use Rattle.std.specs.Prelude.{◌≡◌, ◌⊎◌, ℕ, pos, List, [], Result, Ok, Err}
 use Rattle.postscript_drawing.specs.DrawnProgram.{IsUndrawn, IsWanting}
 use Rattle.postscript_drawing.specs.Outline.{outlined_at}
@@ -14,21 +14,21 @@ use Rattle.postscript_variable.specs.Programs.{Pending}
 abbrev pub origin : Point
 origin = point (pos 0) (pos 0)
 
--- these are the segments that the operations of a program draw from a point, one after another, and its end
+-- these are the segments that the operations and the end of a program draw from a point, in order
 abbrev pub IsOutlineOf : (origin : Point) → Pending → List Segment → Type 0
 IsOutlineOf origin pending segments = outlined_at origin pending.answers pending.end ≡ Ok segments
 
--- Why they are not drawn: memory runs out, the sink takes no more, or nothing is left of the limit; or the run is refused, or a
--- coordinate leaves the range.
+-- Why drawing fails: out of memory, a full sink or a limit that is used up. Other causes are an error of the run and a coordinate out of
+-- range.
 abbrev pub IsRefused : (origin : Point) → Pending → (left : ℕ) → Error → Type 0
 IsRefused origin pending left e = IsWanting left e ⊎ IsUndrawn origin e pending.answers pending.end
 
--- What was read is paid: all of it, where all is drawn.
+-- The items that were read are paid for. On success these are all items.
 abbrev pub IsSpent : {A : Type 0} → (limit : ℕ) → (costs : List ℕ) → (left : ℕ) → Result A Error → Type 0
 IsSpent limit costs left (Ok drawn) = Spends limit costs left []
 IsSpent limit costs left (Err e) = (rest : List ℕ) × Spends limit costs left rest
 
--- a sink has taken segments of which this holds, one after another
+-- the sink received segments with this property, in order
 pub record Gives {T : Type 0} (after : T → Segment → T → Type 0) (old new : T) (are : List Segment → Type 0) : Type 0 where
   pub segments : List Segment
   pub drawn : are segments

@@ -1,4 +1,4 @@
--- What drawing a glyph of a variable font comes to.
+-- Drawing of the glyphs of variable fonts.
 use Rattle.std.specs.Prelude.{◌≡◌, ◌⊎◌, ◌<◌, ℕ, List, Result}
 use Rattle.postscript_cff2.specs.Parts as parts
 use Rattle.postscript_cff2.specs.Parts.{HasPart}
@@ -16,24 +16,25 @@ use Rattle.postscript_variable_font.specs.Glyphs.{IsCharstringOf}
 use Rattle.postscript_variable_font.specs.declared.place.Place.{Place}
 use Rattle.postscript_variable_drawing.specs.Drawn.{IsOutlineOf, IsRefused, IsSpent, origin}
 
--- these are the segments that the charstring of a glyph draws at a place
+-- these are the segments that the charstring of a glyph draws at a location
 abbrev pub DrawsGlyph : fonts.Font → (glyph : ℕ) → Place → List Segment → Type 0
 DrawsGlyph font glyph place segments =
     (charstring : Charstring) × IsCharstringOf font glyph place charstring × IsOutlineOf origin (begun (run_from charstring)) segments
 
--- a sink has taken a front of what the charstring of a glyph draws, or nothing where it has none
+-- the sink received the first segments of the charstring of a glyph, or nothing if the glyph has no charstring
 abbrev pub DrawsGlyphFront : {T : Type 0} → (after : T → Segment → T → Type 0) → (old new : T) → fonts.Font → (glyph : ℕ) → Place → Type 0
 DrawsGlyphFront after old new font glyph place =
     (((part : parts.PrivateDict) → HasPart font.bytes.now (view_shown font) glyph part → ⊥) × (new ≡ old)) ⊎
     ((charstring : Charstring) × IsCharstringOf font glyph place charstring × DrawsFront after origin old new (run_from charstring).answers)
 
--- Why a glyph is not drawn: it has no part that stands, or its charstring is not drawn.
+-- Why a glyph is not drawn: the glyph or its well-formed Font DICT is missing, or its charstring is not drawn.
 abbrev pub IsGlyphUndrawn : fonts.Font → (glyph : ℕ) → Place → (left : ℕ) → Error → Type 0
 IsGlyphUndrawn font glyph place left e =
     ((e ≡ NoSuchGlyph glyph) × ((part : parts.PrivateDict) → HasPart font.bytes.now (view_shown font) glyph part → ⊥)) ⊎
     ((charstring : Charstring) × IsCharstringOf font glyph place charstring × IsRefused origin (begun (run_from charstring)) left e)
 
--- What was read of the glyph's charstring is paid, all of it where it is drawn; nothing is taken where it has none.
+-- The items of the glyph's charstring that were read are paid for, and on success these are all items. Without a charstring the limit is
+-- unchanged.
 abbrev pub SpendsOnGlyph : {A : Type 0} → fonts.Font → (glyph : ℕ) → Place → (limit left : ℕ) → Result A Error → Type 0
 SpendsOnGlyph font glyph place limit left result =
     (((part : parts.PrivateDict) → HasPart font.bytes.now (view_shown font) glyph part → ⊥) × (left ≡ limit)) ⊎

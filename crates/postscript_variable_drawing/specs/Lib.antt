@@ -1,4 +1,4 @@
--- What contracts say of glyphs of variable fonts that are drawn.
+-- The definitions that contracts use for drawing the glyphs of variable fonts.
 pub mod Fitting
 pub mod Drawn
 pub mod Glyphs

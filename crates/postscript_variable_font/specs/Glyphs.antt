@@ -1,4 +1,4 @@
--- The charstring of a glyph at a place of the design space (OpenType 1.9, "CFF2", "CharStrings INDEX", "Font DICT INDEX, Font DICTs and
+-- The charstring of a glyph at a location of the design space (OpenType 1.9, "CFF2", "CharStrings INDEX", "Font DICT INDEX, Font DICTs and
 -- FDSelect", "Local/Global Subrs INDEXes").
 use Rattle.std.specs.Prelude.{◌≡◌, ℕ, Some, slice_get}
 use Rattle.postscript_cff2.specs.Parts as parts
@@ -10,8 +10,8 @@ use Rattle.postscript_type2.specs.Program.Routines.{lent}
 use Rattle.postscript_variable.specs.declared.charstring.Charstring.{Charstring}
 use Rattle.postscript_variable_font.specs.declared.place.Place.{Place}
 
--- a charstring of this glyph: its code, the global subroutines, and the local subroutines and vsindex of its part; it blends with the
--- scalars of the place
+-- The charstring of a glyph at a location. It has the glyph's code, the global subroutines, the local subroutines and vsindex of the
+-- glyph's part, and the scalars of the location.
 pub record IsCharstringOf (font : Font) (glyph : ℕ) (place : Place) (charstring : Charstring) : Type 0 where
   pub part : parts.PrivateDict
   pub has : HasPart font.bytes.now (view_shown font) glyph part

@@ -1,4 +1,4 @@
--- What contracts say of glyphs of variable fonts.
+-- The definitions that contracts use for glyphs of variable fonts.
 pub mod Places
 pub mod Glyphs
 pub mod OneRun

@@ -1,5 +1,5 @@
 -- Normalized coordinates along the axes of a font (OpenType 1.9, "OpenType Font Variations Overview", "Coordinate scales and
--- normalization"): the default normalization and the segment map of `avar` in units of 2 ^ -16, and units of 2 ^ -14 last.
+-- normalization"). The default normalization and the segment maps of `avar` use units of 2 ^ -16, and the result is in units of 2 ^ -14.
 use Rattle.std.specs.Prelude.{◌≡◌, ℕ, ◌<◌, nat_lt, if◌then◌else◌, ℤ, pos, List, slice_index_or, Option, Some, None}
 use Rattle.postscript_variation.specs.Asked.{asked}
 use Rattle.postscript_variation.specs.Axes.{axis_at}
@@ -11,12 +11,12 @@ use Rattle.postscript_variation.specs.declared.axes.Axis.{Axis}
 use Rattle.postscript_variation.specs.declared.coordinates.Setting.{Setting}
 use Rattle.postscript_variation.specs.declared.maps.Maps.{Maps}
 
--- a font without `avar` has no maps
+-- without an `avar` table the coordinate is unchanged
 abbrev pub mapped_with : Option Maps → (axis : ℕ) → ℤ → ℤ
 mapped_with None axis at = at
 mapped_with (Some maps) axis at = mapped_along maps axis at
 
--- along an axis, by its record
+-- the coordinate along an axis with this record
 abbrev pub coordinate_by : Axis → (axis : ℕ) → Option Maps → List Setting → ℤ
 coordinate_by found axis maps settings =
     let value = asked settings found.tag found.default in
@@ -26,7 +26,7 @@ abbrev pub coordinate_along : Axes → Option Maps → List Setting → (axis : 
 coordinate_along axes maps settings axis =
     if nat_lt axis (axis_count axes) then coordinate_by (axis_at (bytes_of axes) (axis_place axes axis)) axis maps settings else pos 0
 
--- the first so many coordinates of a list are those along the axes
+-- the first `count` entries of the list are the coordinates along the first axes
 abbrev pub AreCoordinates : Axes → Option Maps → List Setting → (coordinates : List ℤ) → (count : ℕ) → Type 0
 AreCoordinates axes maps settings coordinates count =
     (axis : ℕ) → axis < count → slice_index_or coordinates axis (pos 0) ≡ coordinate_along axes maps settings axis

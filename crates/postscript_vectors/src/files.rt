@@ -91,6 +91,7 @@ fn choice<'t>(chars: &'t [u32], retain_gids: bool, copied: &'t [u32]) -> Choice<
     Choice {
         chars,
         glyphs: &[],
+        unmapped: &[],
         lenient: false,
         retain_gids,
         copied,
@@ -136,6 +137,37 @@ fn files_of_some_characters(rt: HostRuntime) {
             row,
         );
         holds_at(&rt, face.file.tables() == 7, "tables in row", row);
+    }
+}
+
+/// Glyphs with their characters, glyphs without them, and the new glyphs of A, grave and Agrave. By hand: Agrave is kept
+/// with its components, which have no characters in the subset.
+const CHOSEN: &[(&[usize], &[usize], [u16; 3])] = &[
+    (&[3], &[], [0, 0, 3]),
+    (&[], &[3], [0, 0, 0]),
+    (&[2], &[3, 3], [0, 2, 0]),
+];
+
+#[test]
+fn glyphs_with_and_without_characters(rt: HostRuntime) {
+    let alloc = rt.alloc();
+    let bytes = file(&rt, alloc, 0, "", 0);
+    for (row, (glyphs, unmapped, numbers)) in CHOSEN.iter().enumerate() {
+        let mut asked = choice(&[], false, &[]);
+        asked.glyphs = glyphs;
+        asked.unmapped = unmapped;
+        let new = subset_file(alloc, bytes.as_slice(), 0, &asked).expect(&rt, "a file");
+        let face = Face::open(new.as_slice(), 0).expect(&rt, "a face");
+        for (k, (char, _)) in CHARS.iter().enumerate() {
+            let is = numbers.get(k) == Some(&face.map.glyph_of(*char));
+            holds_at(&rt, is, "character in row", row);
+        }
+        holds_at(
+            &rt,
+            postscript_sfnt::glyphs(face.maxp) == Some(4),
+            "glyphs in row",
+            row,
+        );
     }
 }
 

@@ -20,12 +20,12 @@ use Rattle.postscript_view.specs.declared.advance.AdvanceWithin.TheVariants.{Kno
 use Rattle.postscript_view.specs.declared.font.FontView.{FontView}
 use Rattle.postscript_view.specs.declared.private_dict.PrivateDict.{PrivateDict}
 
--- The default width, where a char string tells none; else the nominal width and the difference that it tells.
+-- The default width if a charstring has no width. Otherwise it is the sum of the nominal width and the difference in the charstring.
 abbrev pub advance_of : Dictionary → Option ℤ → Option Advance
 advance_of private None = option_map Default (first_of (look private DefaultWidthX))
 advance_of private (Some difference) = option_map (λ nominal. Nominal nominal difference) (first_of (look private NominalWidthX))
 
--- A glyph has this run: that of its code, over the subroutines that all char strings share and those of its part.
+-- A glyph has this run: the run of its charstring, over the global subroutines and the local ones of its part.
 pub record HasRun (font : FontView) (glyph : ℕ) (part : PrivateDict) (run : Run) : Type 0 where
   pub code : List ℕ
   pub has : HasGlyph font glyph code part
@@ -36,15 +36,15 @@ abbrev pub outcome_of : Option Advance → AdvanceWithin
 outcome_of (Some advance) = Known advance
 outcome_of None = Unknown
 
--- A run at this end, and with this advance, has this outcome: the advance where the run ends without a fault. Where the limit is used
--- up before its end, nothing is told of it.
+-- The outcome of a run with this end and this advance. If the run ends without a fault, it is the advance, or `Unknown` if there is none.
+-- If the limit is used up first, nothing is stated about the advance.
 abbrev pub TellsAdvance : Option Advance → End → AdvanceWithin → Type 0
 TellsAdvance advance end (Known found) = (advance ≡ Some found) × (fault_of end ≡ None)
 TellsAdvance advance end Unknown = (advance ≡ None) × (fault_of end ≡ None)
 TellsAdvance advance end TooLong = Unit {0}
 
--- How a limit is spent on the phrases of a run: on all where the run comes to its end, and on those before the phrase at which it is
--- refused. Nothing is left where it is used up.
+-- How a limit is spent on the phrases of a run. If the run ends, it is spent on all of them. If the run fails, it is spent on those before
+-- the phrase at which it fails, unless memory runs out. If the limit is used up, nothing is left of it.
 abbrev pub PaysPhrases : List Phrase → (limit : ℕ) → Result AdvanceWithin Error → (left : ℕ) → Type 0
 PaysPhrases phrases limit (Ok (Known advance)) left = Spends limit phrases left []
 PaysPhrases phrases limit (Ok Unknown) left = Spends limit phrases left []
@@ -55,18 +55,18 @@ PaysPhrases phrases limit (Err e) left = (rest : List Phrase) × Spends limit ph
 abbrev pub LacksGlyph : FontView → (glyph : ℕ) → Type 0
 LacksGlyph font glyph = (code : List ℕ) (part : PrivateDict) → HasGlyph font glyph code part → ⊥
 
--- The outcome for a glyph is that for its run. A glyph that is not there has no advance.
+-- The outcome for a glyph is the one for its run. A glyph that does not exist has no advance.
 abbrev pub TellsGlyph : FontView → (glyph : ℕ) → AdvanceWithin → Type 0
 TellsGlyph font glyph told = (LacksGlyph font glyph × (told ≡ Unknown))
     ⊎ ((part : PrivateDict) × (run : Run) × HasRun font glyph part run
     × TellsAdvance (advance_of part.dictionary (width_of run)) run.end told)
 
--- The limit is spent on the run of the glyph. A glyph that is not there costs nothing.
+-- The limit is spent on the run of the glyph. A glyph that does not exist costs nothing.
 abbrev pub PaysGlyph : FontView → (glyph limit : ℕ) → Result AdvanceWithin Error → (left : ℕ) → Type 0
 PaysGlyph font glyph limit result left = (LacksGlyph font glyph × (left ≡ limit))
     ⊎ ((part : PrivateDict) × (run : Run) × HasRun font glyph part run × PaysPhrases run.trace limit result left)
 
--- a width of a dictionary in 65536ths of a unit, where it is a whole number of 32 bits
+-- a width of a DICT in 65536ths of a unit, if it is an integer of 32 bits
 abbrev pub whole_bits : Decimal → Option ℤ
 whole_bits width = option_map (λ n. n *ℤ pos 65536) (to_i32 width)
 

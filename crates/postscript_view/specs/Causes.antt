@@ -1,5 +1,4 @@
--- Why a font is not read in place: what stands before is laid out, and the step behind it is refused so (Technical Note 5176, "CFF
--- Data Layout").
+-- Why a font is not read: one step fails with the error, and the data before it is laid out (Technical Note 5176, "CFF Data Layout").
 use Rattle.std.specs.Prelude.{◌≡◌, ◌⊎◌, ℕ, ◌+◌, ◌<◌, ◌≤◌, ℤ, pos, ◌+ℤ◌, List, [], ◌∷◌, length, Some, None, IsSome, slice_get}
 use Rattle.postscript_base.specs.Refusal.{unexpected_eof, unknown_char_string_format}
 use Rattle.postscript_base.specs.RefusalOf.{refusal_of}
@@ -16,17 +15,17 @@ use Rattle.postscript_base.specs.Index.{number_at, opened, IsOpened}
 use Rattle.postscript_view.specs.Layout.{NamesIndex, AreTables, AreCharStrings, IsPart}
 use Rattle.postscript_view.specs.Contents.{Tables, PrivateDict}
 
--- no INDEX is opened at a place
+-- opening an INDEX at an offset fails with this error, for a reason that `IsNotOpened` of postscript_base names
 abbrev pub NoIndex : Error → List ℕ → (place : ℕ) → Type 0
 NoIndex e bytes place = RefusedAs e (opened bytes place)
 
--- an operator names no place, or one where no INDEX is opened; offsets count from a base
+-- an operator names no offset, or one at which no INDEX can be opened; offsets are relative to a base
 pub data NamesNone (e : Error) (bytes : List ℕ) (base : ℕ) (map : Dictionary) (operator : Operator) : Type 0 where
   OfOffset : NoOffset e 0 base map operator → NamesNone e bytes base map operator
   OfIndex : (z : ℤ) (offset : ℕ) → HasFirst map operator z → pos base +ℤ z ≡ pos offset → NoIndex e bytes offset →
       NamesNone e bytes base map operator
 
--- names, dictionaries, strings and global subroutines, in their order, and then the dictionary of the number
+-- the names, Top DICTs, strings and global subroutines, in this order, and then the Top DICT of the font with this number
 pub data NoTables (e : Error) (bytes : List ℕ) (place number : ℕ) : Type 0 where
   OfNames : NoIndex e bytes place → NoTables e bytes place number
   OfDictionaries : (names : List (List ℕ)) (first : ℕ) → IsOpened bytes place names first → NoIndex e bytes first →
@@ -41,7 +40,7 @@ pub data NoTables (e : Error) (bytes : List ℕ) (place number : ℕ) : Type 0 w
       IsOpened bytes first maps second → slice_get maps number ≡ Some item → IsRefused item 0 (refusal_of e) →
       NoTables e bytes place number
 
--- char strings are of another type than 2
+-- charstrings of a type other than 2
 pub data NoType (e : Error) (map : Dictionary) : Type 0 where
   OfType : NoFirst e map operators.CharStringType → NoType e map
   OtherType : (z : ℤ) → HasFirst map operators.CharStringType z → (z ≡ pos 2 → ⊥) → refusal_of e ≡ unknown_char_string_format → NoType e map
@@ -52,7 +51,7 @@ pub data NoCharStrings (e : Error) (bytes : List ℕ) (map : Dictionary) : Type 
   OfTheirIndex : (offset : ℕ) → HasFirst map operators.CharStrings (pos offset) → HasFirst map operators.CharStringType (pos 2) →
       NoIndex e bytes offset → NoCharStrings e bytes map
 
--- the private dictionary that is named, or its subroutines
+-- the Private DICT that is named, or its subroutines
 pub data NoPart (e : Error) (bytes : List ℕ) (map : Dictionary) : Type 0 where
   OfBounds : IsSome (first_two_of (look map operators.Private)) → NoBounds e 0 map → NoPart e bytes map
   OfSlice : (size offset : ℕ) → HasTwo map operators.Private (pos size) (pos offset) → 0 < size → length bytes < offset + size →
@@ -62,7 +61,7 @@ pub data NoPart (e : Error) (bytes : List ℕ) (map : Dictionary) : Type 0 where
   OfSubrs : (offset : ℕ) (local : Dictionary) → HasPrivate bytes 0 map offset local → IsSome (first_of (look local operators.Subrs)) →
       NamesNone e bytes offset local operators.Subrs → NoPart e bytes map
 
--- some font dictionary or its part, and those before it stand
+-- some Font DICT or its part fails, and those before it are valid
 abbrev pub NoItem : Error → List ℕ → List (List ℕ) → Type 0
 NoItem e bytes [] = ⊥
 NoItem e bytes (item ∷ items) =
@@ -76,7 +75,7 @@ pub data NoParts (e : Error) (bytes : List ℕ) (map : Dictionary) : Type 0 wher
   OfItem : (items : List (List ℕ)) → IsSome (look map operators.ROS) → NamesIndex bytes map operators.FDArray items →
       NoItem e bytes items → NoParts e bytes map
 
--- the header, then what stands behind it, then the char strings, then the parts
+-- the header, then the tables after it, then the charstrings, then the parts
 pub data NoFont (e : Error) (bytes : List ℕ) (number : ℕ) : Type 0 where
   OfHeader : length bytes < 3 → refusal_of e ≡ unexpected_eof → NoFont e bytes number
   OfTables : 3 ≤ length bytes → NoTables e bytes (number_at bytes 2 1) number → NoFont e bytes number

@@ -8,11 +8,11 @@ use Rattle.postscript_view.specs.Naming.{Names}
 use Rattle.postscript_view.specs.declared.char_set.CharSetView.{CharSetView}
 use Rattle.postscript_view.specs.declared.font.FontView.{FontView}
 
--- a font is CID-keyed where its dictionary has the operator ROS
+-- a font is CID-keyed if its Top DICT has the operator ROS
 abbrev pub IsCidKeyed : Dictionary → Type 0
 IsCidKeyed map = IsSome (look map operators.ROS)
 
--- A glyph of a CID-keyed font has the CID that the char set tells, in the place of the identifier of a name.
+-- A glyph of a CID-keyed font has this CID: the charset has CIDs instead of SIDs.
 pub record HasCid (font : FontView) (set : CharSetView) (glyph cid : ℕ) : Type 0 where
   pub keyed : IsCidKeyed font.dictionary
   pub there : glyph < length (items_of font.char_strings)

@@ -5,7 +5,7 @@ use Rattle.postscript_view.specs.Select.{IsSelected}
 use Rattle.postscript_view.specs.declared.font.FontView.{FontView}
 use Rattle.postscript_view.specs.declared.private_dict.PrivateDict.{PrivateDict}
 
--- Of several parts a glyph has that of the font dictionary that FDSelect gives it; a single part is that of all glyphs.
+-- If there are several parts, a glyph has the part of the Font DICT that FDSelect gives it. A single part is the part of all glyphs.
 abbrev pub IsPartNumber : FontView → (glyph part : ℕ) → Type 0
 IsPartNumber font glyph part =
     ((length font.parts.items ≡ 1) × (part ≡ 0))

@@ -1,4 +1,4 @@
--- The encoding of a font set, beside the same one in place (Technical Note 5176, section 12, "Encodings").
+-- The encoding in a font set, compared with its view (Technical Note 5176, section 12, "Encodings").
 use Rattle.std.specs.Prelude.{◌≡◌, ℕ, [], Some, slice_get}
 use Rattle.postscript_compact1.specs.FontSet.Font.{Font}
 use Rattle.postscript_compact1.specs.FontSet.Parts.{HasEncoding}
@@ -11,7 +11,7 @@ use Rattle.postscript_view.specs.declared.font.FontView.{FontView}
 abbrev pub IsSameEncoding : Encoding → EncodingView → Type 0
 IsSameEncoding encoding view = (view.codes ≡ Predefined encoding) × (view.supplements.now ≡ [])
 
--- the encoding of the font of a number is the one that the dictionary of its view names
+-- the Top DICT of the view names the encoding of the font with this number
 abbrev pub HasEncodingOf : ℕ → Font → FontView → Type 0
 HasEncodingOf number font view = (encoding : Encoding) × (slice_get font.encodings number ≡ Some encoding)
     × HasEncoding view.dictionary encoding

@@ -1,4 +1,4 @@
--- The char set of a font set, beside the same one in place (Technical Note 5176, section 13, "Charsets").
+-- The charset in a font set, compared with its view (Technical Note 5176, section 13, "Charsets").
 use Rattle.std.specs.Prelude.{◌≡◌, ℕ, ◌+◌, ◌/◌, ◌<◌, List, length, Some, slice_get}
 use Rattle.postscript_compact1.specs.FontSet.Font.{Font}
 use Rattle.postscript_compact1.specs.FontSet.Parts.{HasCharSet}
@@ -10,17 +10,17 @@ use Rattle.postscript_view.specs.declared.char_set.Identifiers.{Identifiers}
 use Rattle.postscript_view.specs.declared.char_set.Identifiers.TheVariants.{ISOAdobe, Expert, ExpertSubset, Listed, Ranges1, Ranges2}
 use Rattle.postscript_view.specs.declared.font.FontView.{FontView}
 
--- the identifiers of two bytes are those of a list, and no more
+-- the SIDs of two bytes are those in a list, and there are no others
 abbrev pub AreIdentifiers : List ℕ → List ℕ → Type 0
 AreIdentifiers listed identifiers = (i : ℕ) → identifier_at identifiers i ≡ slice_get listed i
 
--- ranges begin with those of a list: each has the same first identifier, and covers as many more glyphs
+-- the ranges begin with those in a list: each has the same first SID, and the same number of glyphs after it
 abbrev pub BeginWith : {A : Type 0} → (A → ℕ) → (A → ℕ) → (size : ℕ) → List A → List ℕ → Type 0
 BeginWith {A} first left size listed ranges =
     (r : ℕ) (range : A) → slice_get listed r ≡ Some range → (r < length ranges / (2 + size)) × (first_of ranges size r ≡ first range)
     × (more_of ranges size r ≡ left range)
 
--- the same predefined set, the same identifiers, or the same ranges
+-- the same predefined charset, the same SIDs, or the same ranges
 abbrev pub IsSame : CharSet → Identifiers → Type 0
 IsSame sets.ISOAdobe ISOAdobe = Unit {0}
 IsSame sets.Expert Expert = Unit {0}
@@ -30,7 +30,7 @@ IsSame (sets.Format1 set) (Ranges1 ranges) = BeginWith (λ range. range.first) (
 IsSame (sets.Format2 set) (Ranges2 ranges) = BeginWith (λ range. range.first) (λ range. range.left) 2 set.ranges ranges.now
 IsSame _ _ = ⊥
 
--- the char set of the font of a number is the one that the dictionary of its view names, for as many glyphs
+-- the Top DICT of the view names the charset of the font with this number, for the same number of glyphs
 abbrev pub HasSetOf : ℕ → Font → FontView → Type 0
 HasSetOf number font view = (set : CharSet) × (slice_get font.char_sets number ≡ Some set)
     × HasCharSet view.bytes.now 0 (length (items_of view.char_strings)) view.dictionary set

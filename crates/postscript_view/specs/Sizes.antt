@@ -1,5 +1,4 @@
--- How many bytes the dictionaries of a CID-keyed font have (Technical Note 5176, section 15, and Table 9, "Private": its size and its
--- offset).
+-- The size of the dictionaries of a CID-keyed font (Technical Note 5176, section 15, and Table 9, "Private": its size and its offset).
 use Rattle.std.specs.Prelude.{ℕ, ◌+◌, ◌≤◌, ℤ, pos, negsuc, List, length, Option, Some, None, IsSome}
 use Rattle.std.specs.List.{sum_by}
 use Rattle.postscript_base.specs.Compact1.Decimal.{Decimal, to_i32}
@@ -9,7 +8,7 @@ use Rattle.postscript_base.specs.declared.compact1.operator.Operator.TheVariants
 use Rattle.postscript_view.specs.Layout.{NamesIndex}
 use Rattle.postscript_view.specs.declared.private_dict.PrivateDict.{PrivateDict}
 
--- a number that is none below 0 is none of bytes
+-- a number of bytes, which is 0 if it is negative or missing
 abbrev pub size_in : Option ℤ → ℕ
 size_in (Some (pos size)) = size
 size_in (Some (negsuc n)) = 0
@@ -19,7 +18,7 @@ abbrev pub size_named : Option (Decimal × Decimal) → ℕ
 size_named (Some (size, offset)) = size_in (to_i32 size)
 size_named None = 0
 
--- the bytes of the private dictionary that a font dictionary names
+-- the size of the Private DICT that a Font DICT names
 abbrev pub size_of : Option Dictionary → ℕ
 size_of (Some font_dictionary) = size_named (first_two_of (look font_dictionary operators.Private))
 size_of None = 0
@@ -27,7 +26,7 @@ size_of None = 0
 abbrev pub private_size : PrivateDict → ℕ
 private_size part = size_of part.font_dictionary
 
--- those of all parts together, also where they name the same bytes
+-- the total for all parts, even if they name the same bytes
 abbrev pub private_bytes : List PrivateDict → ℕ
 private_bytes parts = sum_by private_size parts
 
@@ -35,8 +34,8 @@ private_bytes parts = sum_by private_size parts
 abbrev pub IsKeyed : Dictionary → Type 0
 IsKeyed dictionary = IsSome (look dictionary operators.ROS)
 
--- The font dictionaries that FDArray names ("CID-keyed Fonts"), and the private dictionaries that they name, have at most 20,000,000
--- bytes together, those that several share as often as each of them is named.
+-- The Font DICTs that FDArray names ("CID-keyed Fonts"), and the Private DICTs that they name, have at most 20,000,000 bytes in total. A
+-- Private DICT is counted for each Font DICT that names it.
 abbrev pub HoldFew : (bytes : List ℕ) → Dictionary → List PrivateDict → Type 0
 HoldFew bytes dictionary parts =
     (items : List (List ℕ)) × NamesIndex bytes dictionary operators.FDArray items × (sum_by length items + private_bytes parts ≤ 20000000)

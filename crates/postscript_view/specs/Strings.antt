@@ -7,15 +7,15 @@ use Rattle.postscript_view.specs.Naming.{Names}
 use Rattle.postscript_view.specs.Contents.{View}
 use Rattle.postscript_view.specs.declared.char_set.CharSetView.{CharSetView}
 
--- the string of an identifier: below 391 a standard string, and from there on an item of the String INDEX
+-- the string of a SID: below 391 a standard string, and otherwise an item of the String INDEX
 unfoldable pub string_of : List (List ℕ) → (identifier : ℕ) → Option (List ℕ)
 string_of strings identifier = if nat_lt identifier 391 then standard_string identifier else slice_get strings (identifier - 391)
 
--- the string of the identifier that a char set tells for a glyph
+-- the string of the SID that a charset gives a glyph
 abbrev pub HasString : CharSetView → List (List ℕ) → (glyph : ℕ) → (string : List ℕ) → Type 0
 HasString set strings glyph string = (identifier : ℕ) × Names set glyph identifier × (string_of strings identifier ≡ Some string)
 
--- A glyph of a font has a name: that string. In a CID-keyed font the char set tells CIDs, so that no glyph has a name.
+-- A glyph of a font has this string as its name. The charset of a CID-keyed font has CIDs, so its glyphs have no names.
 pub record HasName (font : View) (set : CharSetView) (glyph : ℕ) (name : List ℕ) : Type 0 where
   pub not_keyed : IsCidKeyed font.tables.dictionary → ⊥
   pub there : glyph < length font.char_strings

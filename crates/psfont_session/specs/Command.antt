@@ -5,7 +5,7 @@ use Rattle.psfont_session.specs.declared.command.Command.TheVariants.{Load, Run,
 use Rattle.psfont_session.specs.declared.command.Manner.TheVariants.{Strict, Lenient}
 use Rattle.psfont_session.specs.declared.command.Place.TheVariants.{Code, Global, Local}
 
--- what a command is called
+-- the name of a command
 abbrev pub name_of : Command → List ℕ
 name_of (Load Code) = codes "code"
 name_of (Load Global) = codes "global"
@@ -15,7 +15,7 @@ name_of Flat = codes "flat"
 name_of (Font Strict) = codes "font"
 name_of (Font Lenient) = codes "lenient"
 
--- what may stand behind a command: nothing behind these two
+-- the argument that a command takes: `Run` and `Flat` take none, and the others take any
 abbrev pub Takes : Command → List ℕ → Type 0
 Takes Run argument = argument ≡ []
 Takes Flat argument = argument ≡ []

@@ -1,4 +1,4 @@
--- What a run is given, and what a line of the input makes of it.
+-- The input of a run, and the commands that change it.
 use Rattle.std.specs.Prelude.{◌≡◌, ℕ, List, [], ◌∷◌, ◌++◌, Ok}
 use Rattle.hex.specs.Hex.{decode_of}
 use Rattle.postscript.specs.Program.Routines.{Lists}
@@ -14,16 +14,16 @@ pub record Loaded : Type 0 where
   pub global : List (List ℕ)
   pub local : List (List ℕ)
 
--- the lists that a run is given
+-- the subroutines of a run
 abbrev pub lists_of : Loaded → Lists
 lists_of loaded = record { global = loaded.global; local = loaded.local }
 
--- bytes put in their place; new code starts without subroutines
+-- bytes stored at their destination, where new code starts without subroutines
 abbrev pub put : Place → List ℕ → Loaded → Loaded
 put Code bytes loaded = record { code = bytes; global = []; local = [] }
 put Global bytes loaded = record loaded { global = loaded.global ++ bytes ∷ [] }
 put Local bytes loaded = record loaded { local = loaded.local ++ bytes ∷ [] }
 
--- the line is a command that puts these bytes in this place
+-- the line is a command that stores these bytes at this destination
 abbrev pub Loads : List ℕ → Place → List ℕ → Type 0
 Loads line place bytes = (word_of line ≡ name_of (Load place)) × (decode_of (argument_of line) ≡ Ok bytes)

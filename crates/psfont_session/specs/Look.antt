@@ -1,10 +1,10 @@
--- What a look at the input does to a session.
+-- The effect of one read on a session.
 use Rattle.std.specs.Prelude.{◌≡◌, ◌⊎◌, ℕ, List, [], ◌∷◌, ◌++◌, Option}
 use Rattle.std.specs.Io.KnownBytes.{Consumes, Keeps}
 use Rattle.psfont_session.specs.Loaded.{Loaded}
 use Rattle.psfont_session.specs.Session.{LineToldWithin, IsFree, IsText, Heard, Talk, fresh}
 
--- what is left of the input, what is written, what is loaded, and the open line
+-- the rest of the input, the output, the loaded code, and the open line
 pub record Turn : Type 0 where
   pub left : Option (List ℕ)
   pub written : Option (List ℕ)
@@ -20,7 +20,7 @@ pub record Gains (old new : Turn) : Type 0 where
   pub kept : Keeps old.written new.written
   pub loaded : new.loaded ≡ old.loaded
 
--- the line ends, and is answered
+-- the line ends, and gets its reply
 pub record Ends (limit : Option ℕ) (old new : Turn) : Type 0 where
   pub bytes : List ℕ
   pub free : IsFree bytes
@@ -35,7 +35,7 @@ pub record Ends (limit : Option ℕ) (old new : Turn) : Type 0 where
 abbrev pub Looked : (limit : Option ℕ) → Turn → Turn → Type 0
 Looked limit old new = Gains old new ⊎ Ends limit old new
 
--- how far a session is: what it has consumed and answered
+-- the progress of a session: it consumed this input and replied to its lines
 pub record Far (limit : Option ℕ) (left written : Option (List ℕ)) (now : Turn) : Type 0 where
   pub input : List ℕ
   pub spent : Consumes left now.left input
@@ -44,6 +44,6 @@ pub record Far (limit : Option ℕ) (left written : Option (List ℕ)) (now : Tu
   pub loaded : talk.loaded ≡ now.loaded
   pub kept : Keeps talk.written now.written
 
--- however far a session was, it is as much farther
+-- whatever the progress of a session was, it extends to the new state
 abbrev pub Goes : (limit : Option ℕ) → Turn → Turn → Type 0
 Goes limit old new = (left written : Option (List ℕ)) → Far limit left written old → Far limit left written new

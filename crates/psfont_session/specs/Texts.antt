@@ -1,4 +1,4 @@
--- What is written on a line's answer.
+-- The texts of replies.
 use Rattle.std.specs.Prelude.{ℕ, ℤ, List, ◌++◌, flat_map, codes, length, ◌==◌, if◌then◌else◌, Option, Some, None, Result, Ok, Err}
 use Rattle.std.specs.Fmt.{decimal}
 use Rattle.hex.specs.Hex.{encode_lower}
@@ -10,7 +10,7 @@ use Rattle.postscript_type2.specs.Private.Texts.{text}
 use Rattle.postscript_type2.specs.declared.operation.Operator.{Operator}
 use Rattle.postscript_type2.specs.declared.program.Answers.{Answers}
 
--- an operand behind its space
+-- an operand, after a space
 abbrev pub operand_text : ℤ → List ℕ
 operand_text operand = codes " " ++ text operand
 
@@ -18,11 +18,11 @@ operand_text operand = codes " " ++ text operand
 abbrev pub operation_line : Operator × List ℤ → List ℕ
 operation_line operation = name_of operation.0 ++ (flat_map operand_text operation.1 ++ codes "\n")
 
--- the number of a refusal
+-- the number of an error
 abbrev pub fault_line : Error → List ℕ
 fault_line e = codes "fault " ++ (decimal (code e) ++ codes "\n")
 
--- how a run ended
+-- the end of a run
 abbrev pub end_line : Option Error → List ℕ
 end_line None = codes "end\n"
 end_line (Some e) = fault_line e
@@ -37,11 +37,11 @@ abbrev pub answers_text : Answers → List ℕ
 answers_text answers = flat_map (λ operation. operation_line (operation_of operation)) answers.operations.items
     ++ (end_line answers.fault ++ width_line answers.width)
 
--- the code without calls; nothing stands behind the word where it is empty
+-- the code without calls, or only the word if the code is empty
 abbrev pub flat_line : List ℕ → List ℕ
 flat_line bytes = if length bytes == 0 then codes "flat\n" else codes "flat " ++ (encode_lower bytes ++ codes "\n")
 
--- what bytes that are put in their place are answered with: whether their digits were bytes
+-- the reply to bytes that are stored: whether their digits are well formed
 abbrev pub loaded_line : {E : Type 0} → Result (List ℕ) E → List ℕ
 loaded_line (Ok bytes) = codes "ok\n"
 loaded_line (Err e) = codes "bad hex\n"

@@ -1,39 +1,33 @@
 //! The glyphs and characters that a subset keeps.
-use crate::characters::{Mapped, all_of, by_glyph, glyph_of, of_glyph, refuse_missing};
+use crate::characters::{all_of, by_glyph, glyph_of, of_glyph, refuse_missing, Mapped};
 use crate::face::Face;
 use crate::failure::Failure;
 use crate::limit::Budget;
-use crate::{composed, layout};
+use crate::{layout, shaping};
 use clap::ArgMatches;
-use postscript_sfnt_write::Mapping;
 use std::alloc::{AllocError, Global};
 
 /// The message for a malformed list of characters.
 const NOT_IN_HEX: &str =
     "--unicodes takes a list of hexadecimal numbers and ranges, e.g. 41,U+42,61-7a";
 
-/// The character U+0020.
-const SPACE: u32 = 0x20;
-
-/// Glyphs, and characters with their glyphs.
+/// The characters and glyphs of a subset.
 #[derive(Drop)]
 pub struct Choice {
+    /// The characters. Each has a glyph.
+    pub chars: Vec<u32>,
+    /// The glyphs that are chosen by number.
     pub glyphs: Vec<usize>,
-    pub pairs: Vec<Mapping>,
+    /// The glyphs that are added for the layout tables.
+    pub added: Vec<usize>,
 }
 
 impl Choice {
-    fn put_pair(&mut self, char: u32, glyph: u16) -> Result<(), AllocError> {
-        self.glyphs.push(usize::from(glyph))?;
-        self.pairs.push(Mapping { char, glyph })?;
-        Ok(())
-    }
-
     /// Adds a character. It fails if the font has no glyph for it.
     fn put_char(&mut self, face: &Face<'_>, char: u32) -> Result<(), Failure> {
         match glyph_of(&face.map, char) {
             0 => Err(Failure::no_char(char)),
-            glyph => Ok(self.put_pair(char, glyph)?),
+            _ => Ok(self.chars.push(char)?),
         }
     }
 
@@ -41,7 +35,7 @@ impl Choice {
     fn put_text(&mut self, alloc: Global, face: &Face<'_>, text: &str) -> Result<(), Failure> {
         refuse_missing(alloc, &face.map, text)?;
         for char in text.chars() {
-            self.put_char(face, u32::from(char))?;
+            self.chars.push(u32::from(char))?;
         }
         Ok(())
     }
@@ -49,11 +43,11 @@ impl Choice {
     /// Adds the characters of a range that have a glyph.
     fn put_range(&mut self, all: &[(u32, u16)], first: u32, last: u32) -> Result<(), AllocError> {
         let from = all.partition_point(|mapped| mapped.0 < first);
-        for (char, glyph) in &all[from..] {
+        for (char, _) in &all[from..] {
             if *char > last {
                 break;
             }
-            self.put_pair(*char, *glyph)?;
+            self.chars.push(*char)?;
         }
         Ok(())
     }
@@ -115,7 +109,7 @@ impl Choice {
     /// Adds the characters of the glyphs, from a list of all characters.
     fn put_chars(&mut self, all: &[Mapped]) -> Result<(), AllocError> {
         for glyph in &self.glyphs {
-            put_chars_of(&mut self.pairs, all, *glyph)?;
+            put_chars_of(&mut self.chars, all, *glyph)?;
         }
         Ok(())
     }
@@ -126,7 +120,7 @@ impl Choice {
         self.put_chars(&all)
     }
 
-    /// Adds the glyphs that the arguments choose.
+    /// Adds the characters and glyphs that the arguments choose. It fails if they choose none.
     fn put(
         &mut self,
         alloc: Global,
@@ -134,91 +128,75 @@ impl Choice {
         words: &ArgMatches<'_>,
     ) -> Result<(), Failure> {
         if let Some(text) = words.get_str("text") {
-            return self.put_text(alloc, face, text);
+            self.put_text(alloc, face, text)?;
+        } else if let Some(list) = words.get_str("unicodes") {
+            self.put_unicodes(alloc, face, list)?;
+        } else {
+            let list = words.get_str("gids").unwrap_or("");
+            self.put_gids(list, face.font.char_strings.len())?;
+            self.put_own_chars(alloc, face)?;
         }
-        if let Some(list) = words.get_str("unicodes") {
-            return self.put_unicodes(alloc, face, list);
-        }
-        let list = words.get_str("gids").unwrap_or("");
-        self.put_gids(list, face.font.char_strings.len())?;
-        Ok(self.put_own_chars(alloc, face)?)
-    }
-
-    /// Adds `.notdef`, and sorts glyphs and characters.
-    fn order(&mut self) -> Result<(), AllocError> {
-        self.glyphs.push(0)?;
-        self.glyphs.sort()?;
-        self.glyphs.dedup();
-        self.pairs.sort_by_key(|pair: &Mapping| pair.char)?;
-        self.pairs.dedup_by_key(|pair: &mut Mapping| pair.char);
-        Ok(())
-    }
-
-    /// Adds the space, if the font has a glyph for it. Shapers draw it instead of characters that they hide.
-    fn put_space(&mut self, face: &Face<'_>) -> Result<(), AllocError> {
-        match glyph_of(&face.map, SPACE) {
-            0 => Ok(()),
-            glyph => self.put_pair(SPACE, glyph),
-        }
-    }
-
-    /// Adds the characters of the font that a shaper may compose of the characters, or decompose them to.
-    fn put_composed(&mut self, alloc: Global, face: &Face<'_>) -> Result<(), AllocError> {
-        for pair in composed::added(alloc, face, &self.pairs)? {
-            self.put_pair(pair.char, pair.glyph)?;
+        if self.chars.is_empty() && self.glyphs.is_empty() {
+            return Err(Failure::no_glyphs());
         }
         Ok(())
     }
 
-    /// Adds the space, the characters that a shaper may compose, and all glyphs that the layout tables can substitute
-    /// for the glyphs. Returns the number of glyphs that are added.
+    /// Returns all glyphs that are chosen or added, those of the characters, and `.notdef`, in ascending order.
+    pub fn named(&self, alloc: Global, face: &Face<'_>) -> Result<Vec<usize>, AllocError> {
+        let mut glyphs = Vec::from_slice(alloc, &[0])?;
+        glyphs.extend_from_slice(&self.glyphs)?;
+        glyphs.extend_from_slice(&self.added)?;
+        for char in &self.chars {
+            glyphs.push(usize::from(glyph_of(&face.map, *char)))?;
+        }
+        glyphs.sort()?;
+        glyphs.dedup();
+        Ok(glyphs)
+    }
+
+    /// Adds the characters that a shaper may use in addition.
+    fn put_shaped(&mut self, alloc: Global, face: &Face<'_>) -> Result<(), AllocError> {
+        let all = all_of(alloc, &face.map)?;
+        self.chars = shaping::closed(alloc, &all, &self.chars)?;
+        Ok(())
+    }
+
+    /// Adds all glyphs that the layout tables can substitute for the glyphs. Unless `exact` is true, it first adds the
+    /// characters that a shaper may use in addition. Returns the number of glyphs that are added.
     pub fn put_layout(
         &mut self,
         alloc: Global,
         face: &Face<'_>,
+        exact: bool,
         budget: &mut Budget,
     ) -> Result<usize, Failure> {
-        let chosen = self.glyphs.len();
-        self.put_space(face)?;
-        self.put_composed(alloc, face)?;
-        layout::close(alloc, face, &mut self.glyphs, budget)?;
-        self.order()?;
-        Ok(self.glyphs.len().saturating_sub(chosen))
-    }
-
-    /// Adds the glyphs that the arguments choose and `.notdef`, sorted. It fails if they choose none.
-    fn fill(
-        &mut self,
-        alloc: Global,
-        face: &Face<'_>,
-        words: &ArgMatches<'_>,
-    ) -> Result<(), Failure> {
-        self.put(alloc, face, words)?;
-        if self.glyphs.is_empty() {
-            return Err(Failure::no_glyphs());
+        let chosen = self.named(alloc, face)?.len();
+        if !exact {
+            self.put_shaped(alloc, face)?;
         }
-        Ok(self.order()?)
+        let named = self.named(alloc, face)?;
+        layout::close(alloc, face, &named, &mut self.added, budget)?;
+        Ok(self.named(alloc, face)?.len().saturating_sub(chosen))
     }
 
-    /// Returns the glyphs that the arguments choose.
+    /// Returns the characters and glyphs that the arguments choose.
     pub fn read(alloc: Global, face: &Face<'_>, words: &ArgMatches<'_>) -> Result<Choice, Failure> {
         let mut choice = Choice {
+            chars: Vec::new(alloc),
             glyphs: Vec::new(alloc),
-            pairs: Vec::new(alloc),
+            added: Vec::new(alloc),
         };
-        choice.fill(alloc, face, words)?;
+        choice.put(alloc, face, words)?;
         Ok(choice)
     }
 }
 
 /// Adds the characters of a glyph, from a list of all characters.
-fn put_chars_of(pairs: &mut Vec<Mapping>, all: &[Mapped], glyph: usize) -> Result<(), AllocError> {
+fn put_chars_of(chars: &mut Vec<u32>, all: &[Mapped], glyph: usize) -> Result<(), AllocError> {
     let gid = u16::try_from(glyph).unwrap_or(u16::MAX);
     for mapped in of_glyph(all, gid) {
-        pairs.push(Mapping {
-            char: mapped.char,
-            glyph: gid,
-        })?;
+        chars.push(mapped.char)?;
     }
     Ok(())
 }

@@ -211,6 +211,10 @@ const SUBCOMMANDS: &[Subcommand] = &[
                 "With --retain-gids: drop the layout tables (kerning, ligatures, vertical metrics)",
             ),
             Word::Flag(
+                "exact",
+                "With --retain-gids: do not add characters that a shaper may use (see the manual)",
+            ),
+            Word::Flag(
                 "keep-names",
                 "Keep copyright, trademark and licence in the name table too",
             ),
@@ -324,7 +328,7 @@ fn commands<'a>(alloc: Global) -> Result<Vec<Command<'a>>, AllocError> {
 /// Returns the program's command without its subcommands.
 fn without_subcommands<'a>(alloc: Global) -> Command<'a> {
     Command::new(alloc, "psotf")
-        .version("0.2.0")
+        .version("0.3.0")
         .about("Inspect, draw and write OpenType fonts with CFF or CFF2 outlines")
         .after_help(EXAMPLES)
         .subcommand_required(true)

@@ -17,12 +17,20 @@ pub struct Common<'l> {
     pub names: Option<Names<'l>>,
 }
 
+/// A font of a file, with any kind of outlines.
+#[derive(Clone, Copy)]
+pub struct Source<'l> {
+    /// The bytes of the file.
+    pub bytes: &'l [u8],
+    /// The index of the font in the file.
+    pub number: usize,
+    pub file: FontFile<'l>,
+}
+
 /// A font of a file, with a `CFF ` table.
 #[derive(Drop)]
 pub struct Face<'l> {
-    pub file: FontFile<'l>,
-    /// The size of the file in bytes.
-    pub size: usize,
+    pub source: Source<'l>,
     pub faces: usize,
     pub units: u16,
     pub glyphs: u16,
@@ -145,30 +153,35 @@ impl<'l> Common<'l> {
 }
 
 /// Returns a font of a file by its number, with any kind of outlines.
-pub fn file_of(bytes: &[u8], number: u16) -> Result<FontFile<'_>, Failure> {
+pub fn source_of(bytes: &[u8], number: u16) -> Result<Source<'_>, Failure> {
     if let Some(kind) = other_kind(bytes) {
         return Err(Failure::other_kind(kind));
     }
-    Ok(FontFile::read(bytes, usize::from(number))?)
+    let number = usize::from(number);
+    let file = FontFile::read(bytes, number)?;
+    Ok(Source {
+        bytes,
+        number,
+        file,
+    })
 }
 
 impl<'l> Face<'l> {
     /// Reads a font of a file.
-    pub fn open(alloc: Global, bytes: &'l [u8], file: FontFile<'l>) -> Result<Face<'l>, Failure> {
-        let cff = cff_of(&file)?;
+    pub fn open(alloc: Global, source: Source<'l>) -> Result<Face<'l>, Failure> {
+        let cff = cff_of(&source.file)?;
         let Common {
             units,
             glyphs,
             advances,
             map,
             names,
-        } = Common::open(&file)?;
-        let faces = faces(bytes)?;
+        } = Common::open(&source.file)?;
+        let faces = faces(source.bytes)?;
         let font = opened(alloc, cff)?;
         let set = font.char_set().ok();
         Ok(Face {
-            file,
-            size: bytes.len(),
+            source,
             faces,
             units,
             glyphs,

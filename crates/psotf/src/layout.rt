@@ -33,7 +33,7 @@ fn closed(
     glyphs: &[u16],
     budget: &mut Budget,
 ) -> Result<Vec<u16>, Failure> {
-    let gsub = face.file.table(*b"GSUB").unwrap_or(&[]);
+    let gsub = face.source.file.table(*b"GSUB").unwrap_or(&[]);
     let share = budget.share();
     let mut left = share;
     match closure(alloc, gsub, glyphs, &mut left) {
@@ -46,17 +46,18 @@ fn closed(
     }
 }
 
-/// Adds all glyphs of the font that substitutions can make of the glyphs.
+/// Adds the glyphs and all glyphs of the font that substitutions can make of them.
 pub fn close(
     alloc: Global,
     face: &Face<'_>,
-    glyphs: &mut Vec<usize>,
+    glyphs: &[usize],
+    added: &mut Vec<usize>,
     budget: &mut Budget,
 ) -> Result<(), Failure> {
     let named = narrow(alloc, glyphs)?;
     for glyph in closed(alloc, face, &named, budget)? {
         if usize::from(glyph) < face.font.char_strings.len() {
-            glyphs.push(usize::from(glyph))?;
+            added.push(usize::from(glyph))?;
         }
     }
     Ok(())

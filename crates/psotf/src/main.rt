@@ -32,6 +32,7 @@ mod readings;
 mod refused;
 mod report;
 mod saving;
+mod shaping;
 mod sheet;
 mod specimen;
 mod stopped;
@@ -44,11 +45,10 @@ mod weight;
 
 use clap::ArgMatches;
 use commands::psotf;
-use face::{Face, file_of};
+use face::{Face, Source, source_of};
 use failure::Failure;
 use limit::Budget;
 use postscript_drawing::LIMIT;
-use postscript_sfnt::FontFile;
 use std::fs::File;
 use std::io::{BufWriter, Read, Write};
 use std::process::ExitCode;
@@ -100,12 +100,12 @@ fn answer<W: Write>(
     let path = words.get_str("FILE").unwrap_or("");
     let number = words.get_one::<u16>("face").unwrap_or(0);
     let bytes = bytes_of(rt, path)?;
-    let file = file_of(bytes.as_slice(), number)?;
+    let source = source_of(bytes.as_slice(), number)?;
     let limit = words.get_one::<u64>("limit").unwrap_or(LIMIT);
     let mut budget = Budget::new(limit, weight_of(name, words));
-    let told = match VariableFace::open(&file)? {
+    let told = match VariableFace::open(&source.file)? {
         Some(face) => of_variable(rt, &face, name, words, &mut budget, out),
-        None => of_static(rt, bytes.as_slice(), file, name, words, &mut budget, out),
+        None => of_static(rt, source, name, words, &mut budget, out),
     };
     telling::flush(out)?;
     told
@@ -127,39 +127,37 @@ fn of_variable<W: Write>(
     let mut making = Budget::new(budget.limit, instance::RUNS);
     let tells = matches!(name, "flat" | "subset") && !words.get_flag("quiet");
     let bytes = instance::file_at(rt, face, words, &mut making, tells)?;
-    let file = file_of(bytes.as_slice(), 0)?;
-    of_face(rt, bytes.as_slice(), file, name, words, budget, out)
+    let source = source_of(bytes.as_slice(), 0)?;
+    of_face(rt, source, name, words, budget, out)
 }
 
 /// Runs a subcommand for any other font, which has no instances.
 fn of_static<W: Write>(
     rt: &HostRuntime,
-    bytes: &[u8],
-    file: FontFile<'_>,
+    source: Source<'_>,
     name: &str,
     words: &ArgMatches<'_>,
     budget: &mut Budget,
     out: &mut W,
 ) -> Result<(), Failure> {
     variable::refuse(name, words)?;
-    of_face(rt, bytes, file, name, words, budget, out)
+    of_face(rt, source, name, words, budget, out)
 }
 
 /// Runs a subcommand for a CFF font. If its table is invalid, `report` writes a page that shows the error.
 fn of_face<W: Write>(
     rt: &HostRuntime,
-    bytes: &[u8],
-    file: FontFile<'_>,
+    source: Source<'_>,
     name: &str,
     words: &ArgMatches<'_>,
     budget: &mut Budget,
     out: &mut W,
 ) -> Result<(), Failure> {
-    match Face::open(rt.alloc(), bytes, file) {
+    match Face::open(rt.alloc(), source) {
         Ok(face) => write(rt, &face, name, words, budget, out),
         Err(failure) => {
             if name == "report" {
-                report::write_refused(rt, &file, bytes.len(), words, &failure)?;
+                report::write_refused(rt, &source, words, &failure)?;
             }
             Err(failure)
         }

@@ -1,4 +1,4 @@
-//! The `name` table of a subset (ISO/IEC 14496-22, 5.2.7).
+//! The `name` table of a subset (ISO/IEC 14496-22).
 use postscript_base::index::number::number_within;
 use postscript_sfnt::{Name, Names};
 use std::alloc::{AllocError, Global};

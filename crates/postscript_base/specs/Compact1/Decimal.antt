@@ -1,4 +1,4 @@
--- Decimals: their values, their one form, and the operands among them (Technical Note 5176, "DICT Data").
+-- Decimal numbers: their values, their canonical form, and the operands of dictionaries (Technical Note 5176, "DICT Data").
 use Rattle.std.specs.Prelude.{◌≡◌, ◌↔◌, Bool, true, false, ◌&&◌, ℕ, zero, suc, ◌-◌, ◌/◌, ◌^◌, ◌%◌, ◌<◌, ◌==◌, nat_lt, ℤ, pos, negsuc, ◌+ℤ◌, ◌-ℤ◌, ◌*ℤ◌, ◌≤ℤ◌, neg_ℤ, int_lt, int_le, List, ◌++◌, Option, Some, None, codes, if◌then◌else◌, fold, length, slice_index, ◌*◌, ◌+◌}
 use Rattle.std.specs.Fmt.{signed_decimal}
 use Rattle.std.specs.Int.{int_min}
@@ -14,13 +14,13 @@ pub record Decimal : Type 0 where
 abbrev pub scaled : ℤ → ℕ → ℤ
 scaled m n = m *ℤ pos (10 ^ n)
 
--- m * 10 ^ e and m' * 10 ^ e' are one number
+-- m * 10 ^ e and m' * 10 ^ e' are equal
 abbrev pub IsSameValue : ℤ → ℤ → ℤ → ℤ → Type 0
 IsSameValue m e m' e' =
     let k = int_min e e' in
     scaled m (unsigned_abs (e -ℤ k)) ≡ scaled m' (unsigned_abs (e' -ℤ k))
 
--- one pair for each value: 0 is (0, 0), and any other mantissa does not end in 0
+-- Each value has one canonical pair: 0 is (0, 0), and any other mantissa does not end in 0.
 pub record IsCanonical (m e : ℤ) : Type 0 where
   pub zero_alone : m ≡ pos 0 → e ≡ pos 0
   pub no_last_zero : unsigned_abs m % 10 ≡ 0 → m ≡ pos 0
@@ -46,7 +46,7 @@ signed false n = pos n
 abbrev pub one_zero_more : ℕ × ℕ → ℕ × ℕ
 one_zero_more found = (found.0, suc found.1)
 
--- a number above 0 without the zeros at its end, and how many these are, where it has at most so many digits
+-- a number greater than 0 without the zeros at its end, and the number of these zeros; at most `digits` zeros are removed
 unfoldable pub without_zeros : ℕ → ℕ → ℕ × ℕ
 without_zeros zero n = (n, 0)
 without_zeros (suc digits) n = if n % 10 == 0 then one_zero_more (without_zeros digits (n / 10)) else (n, 0)
@@ -61,31 +61,31 @@ canonical m e =
 abbrev pub is_in_range : Decimal → Bool
 is_in_range d = nat_lt (unsigned_abs d.mantissa) (10 ^ 18) && (int_le (negsuc 999) d.exponent && int_le d.exponent (pos 1000))
 
--- the operand of a value, where it has one
+-- the operand with a value, or `None` if there is none
 unfoldable pub operand_of : ℤ → ℤ → Option Decimal
 operand_of m e = if is_in_range (canonical m e) then Some (canonical m e) else None
 
--- an operand that stands for a value
+-- an operand that has this value
 pub record IsOperandOf (operand value : Decimal) : Type 0 where
   pub in_form : HasOperand operand
   pub equal : AreEqual operand value
 
--- The operand of a value is found exactly where there is one, and is the only one.
+-- A law: `operand_of` returns an operand exactly if that operand has the value. So a value has at most one operand.
 pub record FindsOperands : Type 0 where
   pub found : (value operand : Decimal) → (operand_of value.mantissa value.exponent ≡ Some operand) ↔ IsOperandOf operand value
 
--- the whole numbers of 32 bits
+-- an integer of 32 bits with a sign
 pub record IsOf32Bits (v : ℤ) : Type 0 where
   pub low : negsuc (2 ^ 31 - 1) ≤ℤ v
   pub high : v ≤ℤ pos (2 ^ 31 - 1)
 
--- the value, where it is a whole number in the range of 32 bits
+-- the value as an integer of 32 bits, if the exponent is not negative and the value is in this range
 unfoldable pub to_i32 : Decimal → Option ℤ
 to_i32 d =
     let value = scaled d.mantissa (unsigned_abs d.exponent) in
     if int_le (pos 0) d.exponent && (int_le (negsuc (2 ^ 31 - 1)) value && int_le value (pos (2 ^ 31 - 1))) then Some value else None
 
--- the mantissa where the exponent is 0, else mantissa, e, exponent
+-- the mantissa if the exponent is 0, otherwise mantissa, e, exponent
 abbrev pub printed : Decimal → List ℕ
 printed d = if int_eq d.exponent (pos 0) then signed_decimal d.mantissa
     else signed_decimal d.mantissa ++ (codes "e" ++ signed_decimal d.exponent)
@@ -97,8 +97,8 @@ digits_number digits = fold (λ n d. 10 * n + d) 0 digits
 abbrev pub IsDigits : List ℕ → Type 0
 IsDigits digits = (k : ℕ) → k < length digits → slice_index digits k < 10
 
--- The value of digits before and behind a point, with a sign, times ten to an exponent with a sign: all digits are the
--- mantissa, and those behind the point lower the exponent.
+-- The value of digits before and after a point, with a sign, times ten to an exponent with a sign. All digits form the mantissa, and those
+-- after the point lower the exponent.
 abbrev pub real_value : (negative : Bool) → (whole fraction : List ℕ) → (down : Bool) → (exponent : List ℕ) → Decimal
 real_value negative whole fraction down exponent =
     record {

@@ -1,4 +1,4 @@
--- The operands that operators have where none are written (Technical Note 5176, Tables 9, 10 and 23).
+-- The default operands of operators that a dictionary does not have (Technical Note 5176, Tables 9, 10 and 23).
 use Rattle.std.specs.Prelude.{ℤ, pos, negsuc, List, [], ◌∷◌, Option, Some, None}
 use Rattle.std.specs.Option.{option_or}
 use Rattle.std.specs.FinMap.{get}
@@ -39,7 +39,7 @@ default_of CIDFontType = Some (decimal (pos 0) (pos 0) ∷ [])
 default_of CIDCount = Some (decimal (pos 872) (pos 1) ∷ [])
 default_of _ = None
 
--- the operands of a dictionary, else the defaults, else nothing
+-- the operands of an operator in a dictionary, otherwise its defaults, if it has any
 abbrev pub look : Dictionary → Operator → Option (List Decimal)
 look map operator = option_or (get map operator) (default_of operator)
 

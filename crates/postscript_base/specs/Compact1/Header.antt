@@ -1,4 +1,4 @@
--- The header (Technical Note 5176, "Header"): four numbers of one byte, which are not tested.
+-- The header (Technical Note 5176, "Header"): four numbers of one byte, whose values are not checked.
 use Rattle.postscript_base.specs.Tape.Outcome.{Reading, ◌>>=◌, pure}
 use Rattle.postscript_base.specs.Numbers.{number}
 use Rattle.postscript_base.specs.declared.compact1.header.Header.{Header}

@@ -1,4 +1,4 @@
--- How integers of dictionaries are spelled (Technical Note 5176, "DICT Data", Table 3).
+-- The encoding of integers in dictionaries (Technical Note 5176, "DICT Data", Table 3).
 use Rattle.std.specs.Prelude.{◌≡◌, ◌⊎◌, ℕ, ◌+◌, ◌≤◌, ◌<◌, ℤ, pos, ◌+ℤ◌, ◌-ℤ◌, ◌*ℤ◌, List, [], ◌∷◌, length, take, drop}
 use Rattle.postscript_base.specs.Numbers.{big_endian, two_sided}
 use Rattle.postscript_base.specs.Tape.Outcome.{Got}
@@ -14,15 +14,15 @@ pub data IsInteger : List ℕ → ℤ → Type 0 where
       IsInteger (first ∷ second ∷ []) ((pos first -ℤ pos 247) *ℤ pos 256 +ℤ pos second +ℤ pos 108)
   negative : (first second : ℕ) → 0xfb ≤ first → first < 0xff →
       IsInteger (first ∷ second ∷ []) ((pos 251 -ℤ pos first) *ℤ pos 256 -ℤ pos second -ℤ pos 108)
-  -- two bytes behind 1c, and four behind 1d, in two's complement
+  -- two bytes after 1c, and four after 1d, in two's complement
   of_two_bytes : (a b : ℕ) → IsInteger (0x1c ∷ a ∷ b ∷ []) (two_sided 0x8000 (big_endian (a ∷ b ∷ [])))
   of_four_bytes : (a b c d : ℕ) → IsInteger (0x1d ∷ a ∷ b ∷ c ∷ d ∷ []) (two_sided 0x80000000 (big_endian (a ∷ b ∷ c ∷ d ∷ [])))
 
--- these bytes stand at a place
+-- the bytes at an offset are these (`spelling`)
 abbrev pub StandAt : List ℕ → ℕ → List ℕ → Type 0
 StandAt bytes place spelling = take (length spelling) (drop place bytes) ≡ spelling
 
--- an integer stands at a place, and the next place is behind it
+-- An integer is at the offset `place`, and `next` is the offset after it.
 pub record IsIntegerAt (bytes : List ℕ) (place : ℕ) (operand : Decimal) (next : ℕ) : Type 0 where
   pub spelling : List ℕ
   pub value : ℤ
@@ -31,7 +31,8 @@ pub record IsIntegerAt (bytes : List ℕ) (place : ℕ) (operand : Decimal) (nex
   pub same : operand ≡ whole value
   pub behind : next ≡ place + length spelling
 
--- Every integer that stands at a place is read, as its value. What is read is such an integer, but where a real begins.
+-- A law: every integer at an offset is read as its value. A number that is read is such an integer, unless the first byte is 0x1e, which
+-- begins a real.
 pub record ReadsIntegers : Type 0 where
   pub all : (bytes : List ℕ) (place : ℕ) (operand : Decimal) (next : ℕ) → IsIntegerAt bytes place operand next →
       number bytes place ≡ Got operand next

@@ -1,4 +1,4 @@
--- Numbers of dictionaries: integers and reals (Technical Note 5176, "DICT Data", Table 3).
+-- Numbers in dictionaries: integers and reals (Technical Note 5176, "DICT Data", Table 3).
 use Rattle.std.specs.Prelude.{◌≢◌, ℕ, ℤ, pos, [], ◌∷◌, take, drop, ◌==◌, nat_lt, if◌then◌else◌}
 use Rattle.postscript_base.specs.Refusal.{malformed_number}
 use Rattle.postscript_base.specs.Tape.Outcome.{Reading, ◌>>=◌, pure, fault}
@@ -7,11 +7,11 @@ use Rattle.postscript_base.specs.Compact1.Decimal.{Decimal, canonical}
 use Rattle.postscript_base.specs.Compact1.Nibbles.{real}
 use Rattle.postscript_base.specs.Tape.{TapeState, IsHonest}
 
--- the operand of a whole number
+-- the operand of an integer
 abbrev pub whole : ℤ → Decimal
 whole n = canonical n (pos 0)
 
--- what a first byte begins
+-- the rest of a number after its first byte
 abbrev pub begun : ℕ → Reading Decimal
 begun first =
     if first == 0x1c then (unsigned 2 >>= λ n. pure (whole (two_sided 0x8000 n)))
@@ -26,6 +26,6 @@ begun first =
 unfoldable pub number : Reading Decimal
 number = unsigned 1 >>= begun
 
--- a tape of which the next byte does not begin a real
+-- the tape is honest, and its next byte does not begin a real
 abbrev pub BeginsNoReal : TapeState → Type 0
 BeginsNoReal tape = IsHonest tape × (take 1 (drop tape.place tape.bytes) ≢ 0x1e ∷ [])

@@ -19,11 +19,11 @@ abbrev pub known : Option Operator → Reading Operator
 known None = fault unknown_operator
 known (Some operator) = pure operator
 
--- the operator that a first byte begins
+-- the rest of an operator after its first byte
 abbrev pub operator_begun : ℕ → Reading Operator
 operator_begun first = if first == 0x0c then (number 1 >>= λ second. known (operator_of (0x0c00 + second))) else known (operator_of first)
 
--- one operand more, or the operator
+-- reads one more operand, or the operator
 unfoldable pub step : List Decimal → Reading (Option Operator × List Decimal)
 step operands = number 1 >>= λ first.
     if begins_operand first then (begun first >>= λ operand. pure (None, operands ++ operand ∷ []))
@@ -33,11 +33,11 @@ abbrev pub ended_or : Option Operator → List Decimal → (List Decimal → Rea
 ended_or None operands more = more operands
 ended_or (Some operator) operands more = pure (operator, operands)
 
--- an operation behind its first operands, of at most so many steps
+-- an operation after its first operands, with a limit on the number of steps
 unfoldable pub operation_from : ℕ → List Decimal → Reading Operation
 operation_from zero operands bytes place = end
 operation_from (suc most) operands bytes place = (step operands >>= λ found. ended_or found.0 found.1 (operation_from most)) bytes place
 
--- each step takes a byte
+-- An operation. Each step reads at least one byte, so the limit is never reached before the end of the bytes.
 unfoldable pub operation : Reading Operation
 operation bytes place = operation_from (suc (length bytes)) [] bytes place

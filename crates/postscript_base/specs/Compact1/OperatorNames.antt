@@ -1,9 +1,9 @@
--- What the operators of dictionaries are called.
+-- The names of the operators of dictionaries.
 use Rattle.std.specs.Prelude.{ℕ, List, codes}
 use Rattle.postscript_base.specs.declared.compact1.operator.Operator.{Operator}
 use Rattle.postscript_base.specs.declared.compact1.operator.Operator.TheVariants.{Version, Notice, FullName, FamilyName, Weight, FontBBox, BlueValues, OtherBlues, FamilyBlues, FamilyOtherBlues, StdHW, StdVW, UniqueID, XUID, CharSet, Encoding, CharStrings, Private, Subrs, DefaultWidthX, NominalWidthX, Copyright, IsFixedPitch, ItalicAngle, UnderlinePosition, UnderlineThickness, PaintType, CharStringType, FontMatrix, StrokeWidth, BlueScale, BlueShift, BlueFuzz, StemSnapH, StemSnapV, ForceBold, LanguageGroup, ExpansionFactor, InitialRandomSeed, SyntheticBase, PostScript, BaseFontName, BaseFontBlend, ROS, CIDFontVersion, CIDFontRevision, CIDFontType, CIDCount, UIDBase, FDArray, FDSelect, FontName}
 
--- what a case is called
+-- the name of a variant
 abbrev pub name_of : Operator → List ℕ
 name_of Version = codes "Version"
 name_of Notice = codes "Notice"

@@ -1,9 +1,9 @@
--- Reals of dictionaries: their text, and its value (Technical Note 5176, "DICT Data", Table 5).
+-- Reals in dictionaries: their texts and values (Technical Note 5176, "DICT Data", Table 5).
 use Rattle.std.specs.Prelude.{◌≡◌, ℕ, ◌<◌, ◌+◌, Bool, true, false, ◌&&◌, List, [], ◌∷◌, ◌++◌, length, drop, take_while, Option, Some, None, IfSome, ◌==◌, nat_lt, if◌then◌else◌}
 use Rattle.std.specs.List.{prefix_len}
 use Rattle.postscript_base.specs.Compact1.Decimal.{Decimal, IsDigits, real_value}
 
--- The symbols of a real's text: the digits 0 to 9, a point, an E and a minus.
+-- The symbols in the text of a real: the digits 0 to 9, a point, an E and a minus.
 abbrev pub point_symbol : ℕ
 point_symbol = 10
 
@@ -13,7 +13,7 @@ e_symbol = 11
 abbrev pub minus_symbol : ℕ
 minus_symbol = 14
 
--- A real as it is written: a sign, the digits before the point, those behind it, and an exponent with a sign of its own.
+-- A real as it is written: a sign, the digits before and after the point, and an exponent with a sign of its own.
 pub record Real : Type 0 where
   pub negative : Bool
   pub whole : List ℕ
@@ -48,7 +48,7 @@ abbrev pub exponent_digits : Option (Bool × List ℕ) → List ℕ
 exponent_digits None = []
 exponent_digits (Some exponent) = exponent.1
 
--- digits before the point or behind it, and in the exponent, where there is one
+-- There is a digit before the point or after it, and in the exponent, if there is one.
 pub record IsReal (r : Real) : Type 0 where
   pub whole : IsDigits r.whole
   pub fraction : IsDigits (fraction_digits r.fraction)
@@ -58,7 +58,7 @@ pub record IsReal (r : Real) : Type 0 where
 abbrev pub value_of : Real → Decimal
 value_of r = real_value r.negative r.whole (fraction_digits r.fraction) (is_exponent_negative r.exponent) (exponent_digits r.exponent)
 
--- Reading a text from the left. First a minus, if there is one, and what follows.
+-- A text is parsed from the left: first a minus, if there is one, and the rest of the text.
 abbrev pub after_sign : List ℕ → Bool × List ℕ
 after_sign [] = (false, [])
 after_sign (n ∷ ns) = if n == minus_symbol then (true, ns) else (false, n ∷ ns)
@@ -72,16 +72,16 @@ digits_of text = take_while is_digit text
 abbrev pub after_digits : List ℕ → List ℕ
 after_digits text = drop (prefix_len is_digit text) text
 
--- the digits behind a point, if there is one, and what follows
+-- the digits after a point, if there is one, and the rest of the text
 abbrev pub fraction_at : List ℕ → Option (List ℕ) × List ℕ
 fraction_at [] = (None, [])
 fraction_at (n ∷ ns) = if n == point_symbol then (Some (digits_of ns), after_digits ns) else (None, n ∷ ns)
 
--- an exponent of digits, with a minus or without one
+-- an exponent: digits, with or without a minus
 abbrev pub is_exponent : Bool × List ℕ → Bool
 is_exponent exponent = (prefix_len is_digit exponent.1 == length exponent.1) && nat_lt 0 (length exponent.1)
 
--- the exponent, if there is one, where it is all of the text
+-- the exponent, if it is all of the text; an empty text has none
 abbrev pub exponent_at : List ℕ → Option (Option (Bool × List ℕ))
 exponent_at [] = Some None
 exponent_at (n ∷ ns) = if (n == e_symbol) && is_exponent (after_sign ns) then Some (Some (after_sign ns)) else None
@@ -92,7 +92,7 @@ joined negative whole fraction (Some exponent) =
     if nat_lt 0 (length (whole ++ fraction_digits fraction))
     then Some (record { negative = negative; whole = whole; fraction = fraction; exponent = exponent }) else None
 
--- the real that a text spells, where it spells one
+-- the real that a text spells, if there is one
 unfoldable pub real_of : List ℕ → Option Real
 real_of text =
     let s = after_sign text in
@@ -100,7 +100,7 @@ real_of text =
     let fraction = fraction_at (after_digits s.1) in
     joined s.0 whole fraction.0 (exponent_at fraction.1)
 
--- A text is read as the real that it spells, and only the texts of reals are read.
+-- A law: a text is parsed as the real that it spells, and only texts of reals are parsed.
 pub record ReadsSpellings : Type 0 where
   pub spelled : (r : Real) → IsReal r → real_of (spelling r) ≡ Some r
   pub alone : (text : List ℕ) (r : Real) → real_of text ≡ Some r → IsReal r × (spelling r ≡ text)

@@ -1,17 +1,17 @@
--- An INDEX whose count has four bytes (OpenType 1.9, "CFF2 - Compact Font Format (CFF) Version 2", "INDEX Data"). But for the count
--- it is as the INDEX of Technical Note 5176.
+-- An INDEX whose count has four bytes (OpenType 1.9, "CFF2 - Compact Font Format (CFF) Version 2", "INDEX Data"). Apart from the count it
+-- is like an INDEX of Technical Note 5176.
 use Rattle.std.specs.Prelude.{◌≡◌, ◌⊎◌, ℕ, ◌+◌, ◌*◌, ◌<◌, ◌≤◌, List, [], length}
 use Rattle.postscript_base.specs.Index.{number_at, place_of, items_at, AreInOrder}
 
--- it begins with its count, of four bytes, and the size of its offsets, of one
+-- it begins with a count of four bytes and an offset size of one byte
 abbrev pub wide_count_at : List ℕ → (place : ℕ) → ℕ
 wide_count_at bytes place = number_at bytes place 4
 
 abbrev pub wide_size_at : List ℕ → (place : ℕ) → ℕ
 wide_size_at bytes place = number_at bytes (place + 4) 1
 
--- At the place stand a count of items, the size of their offsets and the offsets, and the last of these names the next
--- place, which is not past the end.
+-- At the offset `place` there is an INDEX that is not empty: a count, an offset size and the offsets. `next` is the offset to which the
+-- last of them points, and is not past the end.
 pub record IsWideLaidOut (bytes : List ℕ) (place next : ℕ) : Type 0 where
   pub some : 0 < wide_count_at bytes place
   pub least : 1 ≤ wide_size_at bytes place
@@ -20,11 +20,11 @@ pub record IsWideLaidOut (bytes : List ℕ) (place next : ℕ) : Type 0 where
   pub behind : next ≡ place_of bytes (place + 5) (wide_size_at bytes place) (wide_count_at bytes place) (wide_count_at bytes place)
   pub within : next ≤ length bytes
 
--- the items of an INDEX that is laid out at a place
+-- the items of the INDEX at an offset
 abbrev pub wide_items_from : List ℕ → (place : ℕ) → List (List ℕ)
 wide_items_from bytes place = items_at bytes (place + 5) (wide_size_at bytes place) (wide_count_at bytes place)
 
--- at the place stands a count of 0, and nothing follows it
+-- at the offset `place` there is a count of 0, and `next` is the offset after it
 pub record IsWideEmpty (bytes : List ℕ) (place : ℕ) (items : List (List ℕ)) (next : ℕ) : Type 0 where
   pub within : place + 4 ≤ length bytes
   pub none : wide_count_at bytes place ≡ 0
@@ -36,7 +36,7 @@ pub record IsWideFilled (bytes : List ℕ) (place : ℕ) (items : List (List ℕ
   pub order : AreInOrder bytes (place + 5) (wide_size_at bytes place) (wide_count_at bytes place)
   pub slices : items ≡ wide_items_from bytes place
 
--- at the place stands an INDEX of these items, and behind it is the next place
+-- at the offset `place` there is an INDEX of these items, and `next` is the offset after it
 abbrev pub IsWideIndex : List ℕ → (place : ℕ) → List (List ℕ) → (next : ℕ) → Type 0
 IsWideIndex bytes place items next = IsWideEmpty bytes place items next ⊎ IsWideFilled bytes place items next
 
@@ -48,7 +48,7 @@ pub record IsWideSpread (bytes : List ℕ) (place : ℕ) (items : List (List ℕ
 abbrev pub IsWideOpened : List ℕ → (place : ℕ) → List (List ℕ) → (next : ℕ) → Type 0
 IsWideOpened bytes place items next = IsWideEmpty bytes place items next ⊎ IsWideSpread bytes place items next
 
--- an INDEX is laid out at the place, but its offsets do not begin with 1, or fall
+-- an INDEX is at the offset, but its offsets do not begin with 1, or they decrease
 abbrev pub IsWideOutOfOrder : List ℕ → (place : ℕ) → Type 0
 IsWideOutOfOrder bytes place =
     ((next : ℕ) × IsWideLaidOut bytes place next)

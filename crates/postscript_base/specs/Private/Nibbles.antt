@@ -1,11 +1,11 @@
--- How the text of a real grows, nibble by nibble.
+-- How the text of a real grows with each nibble.
 use Rattle.std.specs.Prelude.{ℕ, ◌/◌, ◌%◌, Bool, true, false, List, ◌++◌, Option, Some, None, ◌==◌, if◌then◌else◌}
 use Rattle.postscript_base.specs.Numbers.{number}
 use Rattle.postscript_base.specs.Refusal.{malformed_number}
 use Rattle.postscript_base.specs.Tape.Outcome.{Reading, ◌>>=◌, pure, fault}
 use Rattle.postscript_base.specs.Compact1.Nibbles.{symbols, end_nibble, reserved_nibble}
 
--- a text and one nibble more, and whether the text is at its end
+-- a text with one more nibble, and whether the text has ended
 abbrev pub one_nibble : List ℕ → ℕ → Option (Bool × List ℕ)
 one_nibble text nibble = if nibble == end_nibble then Some (true, text) else if nibble == reserved_nibble then None
     else Some (false, text ++ symbols nibble)

@@ -1,4 +1,4 @@
--- Operands that are lent or constant.
+-- Operands that are borrowed or constant.
 use Rattle.std.specs.Prelude.{List}
 use Rattle.postscript_base.specs.Compact1.Decimal.{Decimal}
 use Rattle.postscript_base.specs.declared.compact1.operands.Kind.{Kind}

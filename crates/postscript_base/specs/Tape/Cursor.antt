@@ -1,4 +1,4 @@
--- A cursor as a tape: its bytes and its position, honest where the bytes are known.
+-- A cursor as a tape: its bytes and its position. It is honest if the bytes are known.
 use Rattle.std.specs.Prelude.{ℕ, List, Option, Some, None, true}
 use Rattle.std.specs.declared.io.impls.Cursor.{Cursor}
 use Rattle.std.specs.Io.Cursor.{cursor_position, cursor_inner}

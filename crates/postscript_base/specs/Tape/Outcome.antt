@@ -1,4 +1,4 @@
--- What a reading gives, by the bytes and the place alone, and how readings follow one another.
+-- The outcome of a reading, which depends only on the bytes and the offset, and sequences of readings.
 use Rattle.std.specs.Prelude.{◌≡◌, ◌≢◌, ℕ, ◌≤◌, List, Result, Ok, Err}
 use Rattle.postscript_base.specs.Error.{code}
 use Rattle.postscript_base.specs.Refusal.{Refusal, unexpected_eof}
@@ -6,21 +6,21 @@ use Rattle.postscript_base.specs.RefusalOf.{refusal_of}
 use Rattle.postscript_base.specs.declared.error.Error.{Error}
 use Rattle.postscript_base.specs.declared.error.Error.TheVariants.{Memory}
 
--- Got: a value, and the next place. Fault: a refusal, with what it names.
--- Past: a place past the end was sought, and the reading is refused there or by what follows, as end or as Io.
+-- Got: a value, and the next offset. Fault: an error with its data.
+-- Past: an offset past the end was sought, so that the seek or a later reading fails, with UnexpectedEof or Io.
 pub data Outcome (A : Type 0) : Type 0 where
   Got : A → ℕ → Outcome A
   Fault : Refusal → Outcome A
   Past : Outcome A
 
--- the input ends early: the refusal UnexpectedEof
+-- the input ends early: the error UnexpectedEof
 abbrev pub end : {A : Type 0} → Outcome A
 end = Fault unexpected_eof
 
 abbrev pub Reading : Type 0 → Type 0
 Reading A = List ℕ → ℕ → Outcome A
 
--- one reading after another: the first that is no value decides
+-- one reading after another; the first one that has no value gives the outcome
 abbrev pub after : {A B : Type 0} → Outcome A → (A → ℕ → Outcome B) → Outcome B
 after (Got value next) f = f value next
 after (Fault refusal) f = Fault refusal
@@ -34,25 +34,25 @@ abbrev pub ◌>>=◌ : {A B : Type 0} → Reading A → (A → Reading B) → Re
 abbrev pub pure : {A : Type 0} → A → Reading A
 pure value bytes place = Got value place
 
--- a refusal that takes no bytes
+-- an error, without reading bytes
 abbrev pub fault : {A : Type 0} → Refusal → Reading A
 fault refusal bytes place = Fault refusal
 
--- the place itself
+-- the current offset
 abbrev pub position : Reading ℕ
 position bytes place = Got place place
 
--- an error is the outcome's refusal, or is 1 or 2 where a place past the end was sought
+-- The outcome is this error. If an offset past the end was sought, the number of the error is at most 2: UnexpectedEof or Io.
 abbrev pub RefusedAs : {A : Type 0} → Error → Outcome A → Type 0
 RefusedAs e (Got value next) = ⊥
 RefusedAs e (Fault refusal) = refusal_of e ≡ refusal
 RefusedAs e Past = code e ≤ 2
 
--- The result, seen by view, and the next place are the outcome's. Want of memory may come in place of any outcome.
+-- The result, as `view` shows it, and the next offset are those of the outcome. Running out of memory may be the error at any time.
 abbrev pub Answers : {A B : Type 0} → (A → B) → Result A Error → ℕ → Outcome B → Type 0
 Answers view (Ok value) next outcome = outcome ≡ Got (view value) next
 Answers view (Err e) next outcome = e ≢ Memory → RefusedAs e outcome
 
--- a value that is seen as it is
+-- a value that contracts see unchanged
 abbrev pub same : {A : Type 0} → A → A
 same value = value

@@ -1,4 +1,4 @@
--- The predefined char sets (Technical Note 5176, Appendix C).
+-- The predefined charsets (Technical Note 5176, Appendix C).
 use Rattle.std.specs.Prelude.{ℕ, ◌+◌, ◌-◌, List, [], ◌∷◌, ◌++◌, Option, None, Bool, true, false, ◌==◌, ◌&&◌, nat_le, nat_lt, slice_get, if◌then◌else◌, codes}
 use Rattle.std.specs.List.{list_all, range_with_len}
 use Rattle.std.specs.Option.{option_and_then}
@@ -14,7 +14,7 @@ is_predefined (Format0 set) = false
 is_predefined (Format1 set) = false
 is_predefined (Format2 set) = false
 
--- what a case is called
+-- the name of a variant
 abbrev pub name_of : CharSet → List ℕ
 name_of ISOAdobe = codes "ISOAdobe"
 name_of Expert = codes "Expert"
@@ -23,7 +23,7 @@ name_of (Format0 set) = codes "Format0"
 name_of (Format1 set) = codes "Format1"
 name_of (Format2 set) = codes "Format2"
 
--- a run of identifiers: the first and the last
+-- a range of SIDs: the first and the last
 abbrev pub Run : Type 0
 Run = ℕ × ℕ
 
@@ -40,22 +40,22 @@ runs_of (Format0 set) = []
 runs_of (Format1 set) = []
 runs_of (Format2 set) = []
 
--- the identifiers of runs, in order
+-- the SIDs of ranges, in order
 abbrev pub identifiers : List Run → List ℕ
 identifiers [] = []
 identifiers (run ∷ runs) = range_with_len run.0 (run.1 - run.0 + 1) ++ identifiers runs
 
--- the identifier of a glyph: they stand in the order of the glyphs from 1
+-- the SID of a glyph; the SIDs are in the order of the glyphs from glyph 1
 unfoldable pub identifier_of : List Run → ℕ → Option ℕ
 identifier_of runs glyph = if glyph == 0 then None else slice_get (identifiers runs) (glyph - 1)
 
--- the string that names a glyph
+-- the name of a glyph: the standard string of its SID
 abbrev pub name_in_runs : List Run → ℕ → Option (List ℕ)
 name_in_runs runs glyph = option_and_then standard_string (identifier_of runs glyph)
 
 abbrev pub name_of_glyph : CharSet → ℕ → Option (List ℕ)
 name_of_glyph set glyph = name_in_runs (runs_of set) glyph
 
--- runs rise, and end before 391
+-- no range ends before its first SID, and each ends before 391
 abbrev pub are_runs : List Run → Bool
 are_runs runs = list_all (λ run. nat_le run.0 run.1 && nat_lt run.1 391) runs

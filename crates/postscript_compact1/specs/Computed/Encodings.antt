@@ -4,7 +4,7 @@ use Rattle.std.specs.List.{list_all}
 use Rattle.postscript_compact1.specs.declared.encoding.Encoding.{Encoding}
 use Rattle.postscript_compact1.specs.declared.encoding.Encoding.TheVariants.{Standard, Expert}
 
--- A run of codes: the first code, the last code, and the identifier of the first. The next code has the next identifier.
+-- A range of codes: the first code, the last code, and the SID of the first. Consecutive codes have consecutive SIDs.
 abbrev pub Run : Type 0
 Run = ℕ × ℕ × ℕ
 
@@ -23,20 +23,20 @@ runs_of Expert =
 abbrev pub has_code : ℕ → Run → Bool
 has_code code run = nat_le run.0 code && nat_le code run.1
 
--- the identifier of a code by runs; it is 0, that of .notdef, where no run has the code
+-- the SID of a code in ranges; it is 0, for .notdef, if no range has the code
 abbrev pub in_runs : List Run → ℕ → ℕ
 in_runs [] code = 0
 in_runs (run ∷ runs) code = if has_code code run then run.2 + (code - run.0) else in_runs runs code
 
--- the identifier of a code of one byte
+-- the SID of a code of one byte
 unfoldable pub identifier_of : Encoding → ℕ → Option ℕ
 identifier_of encoding code = if nat_lt code 256 then Some (in_runs (runs_of encoding) code) else None
 
--- each identifier of the runs is that of a standard string
+-- each SID in the ranges has a standard string
 abbrev pub are_standard : List Run → Bool
 are_standard runs = list_all (λ run. nat_lt (run.2 + (run.1 - run.0)) 391) runs
 
--- what a case is called
+-- the name of a variant
 abbrev pub name_of : Encoding → List ℕ
 name_of Standard = codes "Standard"
 name_of Expert = codes "Expert"

@@ -1,4 +1,4 @@
--- The order in which a font is read (Technical Note 5176, "CFF Data Layout"). Offsets count from the font's start.
+-- The order in which a font is read (Technical Note 5176, "CFF Data Layout"). Offsets are relative to the start of the font.
 use Rattle.std.specs.Prelude.{ℕ, ◌+◌, List, map}
 use Rattle.postscript_base.specs.Tape.Outcome.{Reading, pure, position, ◌>>=◌}
 use Rattle.postscript_base.specs.Tape.At.{at}
@@ -15,15 +15,15 @@ use Rattle.postscript_compact1.specs.FontSet.Operands.{in_range}
 use Rattle.postscript_compact1.specs.FontSet.Font.{Tables, Columns, Font, columns, font_of}
 use Rattle.postscript_compact1.specs.Computed.Parts.{subroutines, part}
 
--- the names at a place, each a text
+-- the names at an offset, each as a text
 unfoldable pub names : ℕ → Reading (List (List ℕ))
 names place = at place index >>= λ i. pure (map text i.items)
 
--- the dictionaries that the items of an INDEX are
+-- the items of an INDEX as dictionaries
 unfoldable pub dictionaries : Reading (List Dictionary)
 dictionaries = index >>= λ i. maps_of i.items
 
--- behind the header: names, dictionaries, strings and global subroutines, one behind the other
+-- names, Top DICTs, strings and global subroutines, one after the other, at an offset
 unfoldable pub tables : ℕ → Reading Tables
 tables place = do
   names ← names place
@@ -32,15 +32,15 @@ tables place = do
   subroutines ← index
   pure (record { names = names; dictionaries = dictionaries; strings = strings; subroutines = subroutines })
 
--- what stands behind the header
+-- the tables after the header
 unfoldable pub behind : ℕ → Header → Reading Tables
 behind start header = in_range (start + header.header_size) >>= tables
 
--- the parts of all dictionaries, one after the other
+-- the parts of all Top DICTs, one after the other
 unfoldable pub parts : Manner → ℕ → List Dictionary → Reading Columns
 parts manner start maps = each (part manner start) maps >>= λ ps. pure (columns ps)
 
--- a font by the manner of its reading
+-- a font, read strictly or leniently
 unfoldable pub font_by : Manner → Reading Font
 font_by manner = do
   start ← position
@@ -49,7 +49,7 @@ font_by manner = do
   columns ← parts manner start tables.dictionaries
   pure (font_of header tables columns)
 
--- a font, and one that may lack private dictionaries and local subroutines
+-- a font, and a font that may lack Private DICTs and local subroutines
 abbrev pub font : Reading Font
 font = font_by Strict
 

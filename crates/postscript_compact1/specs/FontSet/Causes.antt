@@ -1,4 +1,4 @@
--- Why a font is refused: each step before met its clause of the layout, and one is refused so.
+-- Why a font is rejected: this step fails with the error, and each step before it succeeds as the layout says.
 use Rattle.std.specs.Prelude.{◌≡◌, ◌↔◌, ◌⊎◌, ℕ, ◌+◌, ◌≤◌, List}
 use Rattle.postscript_base.specs.Error.{code}
 use Rattle.postscript_base.specs.Refusal.{out_of_range_offset}
@@ -46,9 +46,9 @@ NoFont e bytes start = NoFontBy Strict e bytes start
 abbrev pub NoLenientFont : Error → List ℕ → ℕ → Type 0
 NoLenientFont e bytes start = NoFontBy Lenient e bytes start
 
--- A reading refuses a font with an error exactly where that is the cause of the first step of the layout that fails; the same of a
--- lenient reading. The errors at one place have one cause, or each is 1 or 2, for a place past the end; and where there is a cause,
--- no font stands.
+-- A law: a reading fails with an error exactly if this is the cause of the first step that fails, and so does a lenient reading. Two causes
+-- at one offset give the same `Refusal`, or both errors have the number 1 or 2, for an offset past the end. If there is a cause, there is
+-- no font.
 pub record RefusesLayout : Type 0 where
   pub both_ways : (e : Error) (bytes : List ℕ) (start : ℕ) → RefusedAs e (font bytes start) ↔ NoFont e bytes start
   pub leniently : (e : Error) (bytes : List ℕ) (start : ℕ) → RefusedAs e (lenient_font bytes start) ↔ NoLenientFont e bytes start

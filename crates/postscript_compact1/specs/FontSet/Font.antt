@@ -1,4 +1,4 @@
--- A font, as it is seen, and what it has for each of its dictionaries (Technical Note 5176, "CFF Data Layout").
+-- A font as contracts see it, and the parts that belong to one of its Top DICTs (Technical Note 5176, "CFF Data Layout").
 use Rattle.std.specs.Prelude.{ℕ, List, [], ◌∷◌, ◌++◌, map}
 use Rattle.postscript_base.specs.Compact1.Dictionary.{Dictionary}
 use Rattle.postscript_base.specs.declared.compact1.header.Header.{Header}
@@ -13,7 +13,7 @@ pub record Part : Type 0 where
   pub local_dictionary : Dictionary
   pub local_subroutines : Index
 
--- what stands in front of the parts, one behind the other
+-- the tables before the parts, one after the other
 pub record Tables : Type 0 where
   pub names : List (List ℕ)
   pub dictionaries : List Dictionary
@@ -32,7 +32,7 @@ pub record Font : Type 0 where
   pub local_dictionaries : List Dictionary
   pub local_subroutines : List Index
 
--- the parts of all dictionaries, kind by kind
+-- the parts of all Top DICTs, in a list for each kind
 pub record Columns : Type 0 where
   pub encodings : List Encoding
   pub char_sets : List CharSet
@@ -49,7 +49,7 @@ columns parts = record {
   local_subroutines = map (λ p. p.local_subroutines) parts;
 }
 
--- one part more
+-- one part appended
 abbrev pub more : Columns → Part → Columns
 more c p = record {
   encodings = c.encodings ++ p.encoding ∷ [];
@@ -73,7 +73,7 @@ font_of header tables c = record {
   local_subroutines = c.local_subroutines;
 }
 
--- what a font has of them
+-- the tables and the parts of a font
 abbrev pub tables_in : Font → Tables
 tables_in f = record { names = f.names; dictionaries = f.global_dictionaries; strings = f.strings; subroutines = f.global_subroutines }
 

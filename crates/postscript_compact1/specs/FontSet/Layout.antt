@@ -1,4 +1,4 @@
--- Where the parts of a font stand (Technical Note 5176, "CFF Data Layout"). Offsets count from the font's start.
+-- The layout of a font (Technical Note 5176, "CFF Data Layout"). Offsets are relative to the start of the font.
 use Rattle.std.specs.Prelude.{◌≡◌, ◌↔◌, ℕ, ◌+◌, List, map}
 use Rattle.postscript_base.specs.Tape.Outcome.{Got}
 use Rattle.postscript_base.specs.Compact1.Header.{header}
@@ -12,7 +12,7 @@ use Rattle.postscript_compact1.specs.FontSet.Font.{Part, Tables, Font, columns, 
 use Rattle.postscript_compact1.specs.Computed.Order.{font, lenient_font}
 use Rattle.postscript_compact1.specs.FontSet.Parts.{Stands, IsPlace, AreParts}
 
--- at a place stand names, dictionaries, strings and global subroutines, one behind the other
+-- at the offset `place` there are names, Top DICTs, strings and global subroutines, one after the other
 pub record AreTables (bytes : List ℕ) (place : ℕ) (tables : Tables) (next : ℕ) : Type 0 where
   pub names : Index
   pub names_next : ℕ
@@ -26,7 +26,7 @@ pub record AreTables (bytes : List ℕ) (place : ℕ) (tables : Tables) (next : 
   pub are_strings : IsIndex bytes dictionaries_next tables.strings strings_next
   pub are_subroutines : IsIndex bytes strings_next tables.subroutines next
 
--- a font stands at a place, and the next place is behind it; what it may lack is by the manner
+-- A font is at the offset `start`, and `next` is the offset after it. The manner says whether parts may be missing.
 pub record IsFontBy (manner : Manner) (bytes : List ℕ) (start : ℕ) (font : Font) (next : ℕ) : Type 0 where
   pub header_next : ℕ
   pub tables : Tables
@@ -38,22 +38,22 @@ pub record IsFontBy (manner : Manner) (bytes : List ℕ) (start : ℕ) (font : F
   pub are_parts : AreParts manner bytes start tables.dictionaries parts behind next
   pub made_of : font ≡ font_of font.header tables (columns parts)
 
--- a font that lacks neither private dictionaries nor local subroutines
+-- a font that lacks neither Private DICTs nor local subroutines
 abbrev pub IsFont : List ℕ → ℕ → Font → ℕ → Type 0
 IsFont bytes start font next = IsFontBy Strict bytes start font next
 
--- a font that may lack them; what the next place is stays open
+-- A font that may lack them. The offset after it is not specified.
 abbrev pub IsLenientFont : List ℕ → ℕ → Font → Type 0
 IsLenientFont bytes start font = (next : ℕ) × IsFontBy Lenient bytes start font next
 
--- a reading gives a font exactly where one stands, and no other stands there
+-- A law: a reading returns a font exactly if it is there, and there is only one font at an offset.
 pub record ReadsLayout : Type 0 where
   pub both_ways : (bytes : List ℕ) (start : ℕ) (f : Font) (next : ℕ) → (font bytes start ≡ Got f next) ↔ IsFont bytes start f next
   pub alone : (bytes : List ℕ) (start : ℕ) (f g : Font) (next other : ℕ) → IsFont bytes start f next → IsFont bytes start g other →
       (f ≡ g) × (next ≡ other)
 
--- a lenient reading gives a font exactly where one stands that may lack them, and no other stands there; one that lacks neither is
--- such a font
+-- A law: a lenient reading returns a font exactly if it is there and may lack these parts. There is only one such font at an offset. A font
+-- that lacks neither is such a font.
 pub record ReadsLeniently : Type 0 where
   pub both_ways : (bytes : List ℕ) (start : ℕ) (f : Font) → ((next : ℕ) × (lenient_font bytes start ≡ Got f next))
       ↔ IsLenientFont bytes start f

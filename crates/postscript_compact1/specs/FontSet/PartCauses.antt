@@ -1,4 +1,5 @@
--- Why what a font has for one of its dictionaries is refused: each step before met its clause of the layout, and one is refused so.
+-- Why the parts of a font that belong to one Top DICT are rejected: one step fails with the error, and each step before it succeeds as the
+-- layout says.
 use Rattle.std.specs.Prelude.{◌≡◌, ◌⊎◌, ℕ, ◌+◌, ◌<◌, ◌≤◌, ℤ, pos, negsuc, ◌+ℤ◌, List, [], ◌∷◌, length, Option, Some, None}
 use Rattle.postscript_base.specs.Error.{code}
 use Rattle.postscript_base.specs.Refusal.{OfPart, OfMalformed, OfMissing, out_of_range_offset, unknown_char_string_format}
@@ -21,16 +22,16 @@ use Rattle.postscript_compact1.specs.declared.font_set.manner.Manner.{Manner}
 use Rattle.postscript_compact1.specs.FontSet.Font.{Part}
 use Rattle.postscript_compact1.specs.FontSet.Parts.{HasFirst, HasTwo, IsSlice, IsPlace, HasEncoding, HasCharStrings, HasCharSet, HasPrivate, IsLacking, IsPart}
 
--- the place sought lies past the end, or what stands there is refused
+-- the offset is past the end, or reading there fails with this error
 abbrev pub RefusedAt : {A : Type 0} → Error → Reading A → List ℕ → ℕ → Type 0
 RefusedAt e reading bytes place = ((length bytes < place) × (code e ≤ 2)) ⊎ ((place ≤ length bytes) × RefusedAs e (reading bytes place))
 
--- an operator has no first operand, or that is no whole number
+-- an operator has no first operand, or it is not an integer
 pub data NoFirst (e : Error) (map : Dictionary) (op : Operator) : Type 0 where
   Missing : first_of (look map op) ≡ None → refusal_of e ≡ OfMissing op → NoFirst e map op
   Malformed : (x : Decimal) → first_of (look map op) ≡ Some x → to_i32 x ≡ None → refusal_of e ≡ OfMalformed op → NoFirst e map op
 
--- an offset is negative, or 64 bits do not count the place
+-- an offset is negative, or its sum with `start` does not fit in 64 bits
 abbrev pub NoPlace : Error → ℕ → ℤ → Type 0
 NoPlace e start offset = (refusal_of e ≡ out_of_range_offset) × ((n : ℕ) → offset ≡ pos n → IsPlace (start + n) → ⊥)
 
@@ -81,7 +82,7 @@ pub data NoSubroutines (e : Error) (bytes : List ℕ) (start base : ℕ) (local 
   SubrsRefused : (z : ℤ) (n : ℕ) → HasFirst local operators.Subrs z → pos base +ℤ z ≡ pos n → IsPlace (start + n) →
       RefusedAt e index bytes (start + n) → NoSubroutines e bytes start base local
 
--- operands that are there, or may not be missing
+-- the operands exist, or must not be missing
 abbrev pub IsSought : {A : Type 0} → Manner → Option A → Type 0
 IsSought manner operands = IsLacking manner operands → ⊥
 
@@ -98,7 +99,7 @@ pub data NoPart (manner : Manner) (e : Error) (bytes : List ℕ) (start : ℕ) (
       → HasPrivate bytes start map offset local → IsSought manner (first_of (look local operators.Subrs)) →
       NoSubroutines e bytes start offset local → NoPart manner e bytes start map
 
--- the part of some dictionary is refused, and those before it have theirs
+-- the parts of a Top DICT are rejected, and the Top DICTs before it have theirs
 abbrev pub NoParts : Manner → Error → List ℕ → ℕ → List Dictionary → Type 0
 NoParts manner e bytes start [] = ⊥
 NoParts manner e bytes start (m ∷ ms) = NoPart manner e bytes start m

@@ -1,5 +1,5 @@
--- What a font has for one of its dictionaries, and where it stands (Technical Note 5176, "CFF Data Layout"). Offsets count from the
--- start of the font set.
+-- The parts of a font that belong to one of its Top DICTs, and their layout (Technical Note 5176, "CFF Data Layout"). Offsets are relative
+-- to the start of the font set.
 use Rattle.std.specs.Prelude.{◌≡◌, ◌⊎◌, ℕ, ◌+◌, ◌^◌, ◌<◌, ◌≤◌, ℤ, pos, ◌+ℤ◌, List, [], ◌∷◌, length, take, drop, Option, Some, None, map}
 use Rattle.postscript_base.specs.Tape.Outcome.{Got, Reading}
 use Rattle.postscript_base.specs.Compact1.Decimal.{Decimal, to_i32}
@@ -19,7 +19,7 @@ use Rattle.postscript_compact1.specs.declared.font_set.manner.Manner.{Manner}
 use Rattle.postscript_compact1.specs.declared.font_set.manner.Manner.TheVariants.{Lenient}
 use Rattle.postscript_compact1.specs.FontSet.Font.{Part}
 
--- the first operand of an operator, or those of the first two, with the defaults, as whole numbers of 32 bits
+-- the first operand of an operator, or its first two, from the dictionary or the defaults, as integers of 32 bits
 abbrev pub HasFirst : Dictionary → Operator → ℤ → Type 0
 HasFirst map operator n = (x : Decimal) × (first_of (look map operator) ≡ Some x) × (to_i32 x ≡ Some n)
 
@@ -27,32 +27,32 @@ abbrev pub HasTwo : Dictionary → Operator → ℤ → ℤ → Type 0
 HasTwo map operator m n = (x : Decimal) × (y : Decimal) × (first_two_of (look map operator) ≡ Some (x, y)) × (to_i32 x ≡ Some m)
     × (to_i32 y ≡ Some n)
 
--- a value stands at a place of bytes, and the next place is behind it
+-- a value is at the offset `place`, and `next` is the offset after it
 abbrev pub Stands : {A : Type 0} → Reading A → List ℕ → ℕ → A → ℕ → Type 0
 Stands reading bytes place value next = reading bytes place ≡ Got value next
 
--- Bytes are the slice of so many at a place. The slice of none stands anywhere.
+-- `slice` is the `size` bytes at an offset. The empty slice is at any offset.
 abbrev pub IsSlice : List ℕ → ℕ → ℕ → List ℕ → Type 0
 IsSlice bytes place size slice = (0 < size → place + size ≤ length bytes) × (slice ≡ take size (drop place bytes))
 
--- a place that 64 bits count
+-- an offset that fits in 64 bits
 abbrev pub IsPlace : ℕ → Type 0
 IsPlace place = place < 2 ^ 64
 
--- the encoding is 0 or 1
+-- the operand of Encoding is 0 or 1, for this encoding
 abbrev pub HasEncoding : Dictionary → Encoding → Type 0
 HasEncoding map encoding =
     (HasFirst map operators.Encoding (pos 0) × (encoding ≡ encodings.Standard))
     ⊎ (HasFirst map operators.Encoding (pos 1) × (encoding ≡ encodings.Expert))
 
--- the char strings of a dictionary, which are of Type 2
+-- the charstrings of a Top DICT, which are of Type 2
 abbrev pub HasCharStrings : List ℕ → ℕ → Dictionary → Index → ℕ → Type 0
 HasCharStrings bytes start map char_strings next =
     (offset : ℕ) × HasFirst map operators.CharStrings (pos offset) × HasFirst map operators.CharStringType (pos 2)
     × IsPlace (start + offset)
     × IsIndex bytes (start + offset) char_strings next
 
--- the char set of a dictionary, for so many glyphs: 0, 1 and 2 name the predefined ones, and another stands at its place
+-- the charset of a Top DICT for a number of glyphs: 0, 1 and 2 are the predefined ones, and any other is at its offset
 pub data HasCharSet (bytes : List ℕ) (start glyphs : ℕ) (map : Dictionary) (set : CharSet) : Type 0 where
   Is_0 : HasFirst map operators.CharSet (pos 0) → set ≡ sets.ISOAdobe → HasCharSet bytes start glyphs map set
   Is_1 : HasFirst map operators.CharSet (pos 1) → set ≡ sets.Expert → HasCharSet bytes start glyphs map set
@@ -60,24 +60,24 @@ pub data HasCharSet (bytes : List ℕ) (start glyphs : ℕ) (map : Dictionary) (
   Own : (offset next : ℕ) → HasFirst map operators.CharSet (pos offset) → 3 ≤ offset → IsPlace (start + offset) →
       IsCharSet bytes (start + offset) glyphs set next → HasCharSet bytes start glyphs map set
 
--- the private dictionary at an offset
+-- the Private DICT of a Top DICT, and its offset
 abbrev pub HasPrivate : List ℕ → ℕ → Dictionary → ℕ → Dictionary → Type 0
 HasPrivate bytes start map offset local =
     (size : ℕ) × (slice : List ℕ) × HasTwo map operators.Private (pos size) (pos offset) × IsPlace (start + offset)
     × IsSlice bytes (start + offset) size slice × IsDictionary slice 0 local
 
--- the local subroutines, and the place behind them: their offset counts from the private dictionary, and may be negative
+-- The local subroutines, and the offset after them. Their own offset is relative to the Private DICT, and may be negative.
 abbrev pub HasSubroutines : List ℕ → ℕ → ℕ → Dictionary → Index → ℕ → Type 0
 HasSubroutines bytes start base local subroutines next =
     (z : ℤ) × (offset : ℕ) × HasFirst local operators.Subrs z × (pos base +ℤ z ≡ pos offset) × IsPlace (start + offset)
     × IsIndex bytes (start + offset) subroutines next
 
--- operands that are missing, where the font may lack them
+-- operands are missing, and the font may lack them
 abbrev pub IsLacking : {A : Type 0} → Manner → Option A → Type 0
 IsLacking manner operands = (manner ≡ Lenient) × (operands ≡ None)
 
--- The private dictionary and the local subroutines of a dictionary, and the place behind these. Where Subrs has no operand there
--- are no subroutines, and where Private has fewer than two there is no private dictionary either: the next place is then open.
+-- The Private DICT and the local subroutines of a Top DICT, and the offset after these. A font that may lack them has no subroutines if
+-- Subrs has no operand. It has no Private DICT either if Private has fewer than two operands. The next offset is then not specified.
 pub data HasLocals (manner : Manner) (bytes : List ℕ) (start : ℕ) (map local : Dictionary) (subroutines : Index) (next : ℕ) : Type 0 where
   WithBoth : (offset : ℕ) → HasPrivate bytes start map offset local → HasSubroutines bytes start offset local subroutines next →
       HasLocals manner bytes start map local subroutines next
@@ -86,7 +86,7 @@ pub data HasLocals (manner : Manner) (bytes : List ℕ) (start : ℕ) (map local
   WithoutPrivate : IsLacking manner (first_two_of (look map operators.Private)) → local ≡ dictionary_of [] → subroutines ≡ empty →
       HasLocals manner bytes start map local subroutines next
 
--- what a font has for one dictionary, and the place behind its local subroutines
+-- the parts of a font that belong to one Top DICT, and the offset after its local subroutines
 pub record IsPart (manner : Manner) (bytes : List ℕ) (start : ℕ) (map : Dictionary) (part : Part) (next : ℕ) : Type 0 where
   pub char_strings_next : ℕ
   pub encoding : HasEncoding map part.encoding
@@ -94,7 +94,7 @@ pub record IsPart (manner : Manner) (bytes : List ℕ) (start : ℕ) (map : Dict
   pub char_set : HasCharSet bytes start (length part.char_strings.items) map part.char_set
   pub locals : HasLocals manner bytes start map part.local_dictionary part.local_subroutines next
 
--- a part for each dictionary, and the place behind the last, or this place where there are none
+-- the parts of each Top DICT, and the offset after the last one, or the same offset if there are no Top DICTs
 abbrev pub AreParts : Manner → List ℕ → ℕ → List Dictionary → List Part → ℕ → ℕ → Type 0
 AreParts manner bytes start [] [] place next = place ≡ next
 AreParts manner bytes start (m ∷ ms) (p ∷ ps) place next = (behind : ℕ) × IsPart manner bytes start m p behind

@@ -1,4 +1,4 @@
--- What a contract sees of a font.
+-- A font as a contract sees it.
 use Rattle.std.specs.Prelude.{map, string_bytes}
 use Rattle.postscript_compact1.specs.declared.font_set.FontSet.{FontSet}
 use Rattle.postscript_compact1.specs.declared.font_set.parts.Part.{Part as RustPart}

@@ -1,5 +1,5 @@
--- A font that is passed over: it is read in its order, and nothing of it is kept. The items of its char strings are not even read:
--- their last offset says how many bytes they are.
+-- A font that is skipped: it is read in order, and nothing of it is kept. The items of its charstrings are not even read. Their last offset
+-- gives their size.
 use Rattle.std.specs.Prelude.{ℕ, ◌+◌, ◌-◌, List, length, ◌==◌, nat_lt, if◌then◌else◌}
 use Rattle.postscript_base.specs.Numbers.{number}
 use Rattle.postscript_base.specs.Tape.Outcome.{Reading, Got, pure, end, position, ◌>>=◌}
@@ -15,15 +15,15 @@ use Rattle.postscript_compact1.specs.Computed.Parts.{encoding, char_set, locals}
 use Rattle.postscript_compact1.specs.declared.font_set.manner.Manner.{Manner}
 use Rattle.postscript_compact1.specs.FontSet.Operands.{place_at, type_two}
 
--- the place behind so many bytes, where as many stand
+-- skips `count` bytes, if there are that many
 unfoldable pub passed : ℕ → Reading (Unit {0})
 passed count bytes place = if nat_lt (length bytes) (place + count) then end else Got tt (place + count)
 
--- How many bytes the items are that offsets bound: the first offset is 1.
+-- The size of the items between offsets. The first offset is 1.
 abbrev pub size_of_items : List ℕ → ℕ
 size_of_items offsets = last_of 0 offsets - 1
 
--- what follows a count that is not 0
+-- the rest of an INDEX after a count that is not 0
 unfoldable pub filled_count : ℕ → Reading ℕ
 filled_count count = do
   size ← number 1
@@ -31,18 +31,18 @@ filled_count count = do
   _ ← passed (size_of_items offsets)
   pure count
 
--- an INDEX, of which the number of items is told
+-- skips an INDEX, and returns the number of its items
 unfoldable pub index_count : Reading ℕ
 index_count = number 2 >>= λ count. if count == 0 then pure 0 else filled_count count
 
--- how many char strings a dictionary has
+-- the number of charstrings of a Top DICT
 unfoldable pub glyph_count : ℕ → Dictionary → Reading ℕ
 glyph_count start map = do
   place ← place_at start 0 map operators.CharStrings
   _ ← type_two map
   at place index_count
 
--- what a font has for one dictionary
+-- skips the parts of a font that belong to one Top DICT
 unfoldable pub passed_part : Manner → ℕ → Dictionary → Reading (Unit {0})
 passed_part manner start map = do
   _ ← encoding map
@@ -51,11 +51,11 @@ passed_part manner start map = do
   _ ← locals manner start map
   pure tt
 
--- the parts of all dictionaries, one after the other
+-- skips the parts of all Top DICTs, one after the other
 unfoldable pub passed_parts : Manner → ℕ → List Dictionary → Reading (Unit {0})
 passed_parts manner start maps = each (passed_part manner start) maps >>= λ _. pure tt
 
--- a font by the manner of its reading
+-- skips a font, strictly or leniently
 unfoldable pub passed_font : Manner → Reading (Unit {0})
 passed_font manner = do
   start ← position

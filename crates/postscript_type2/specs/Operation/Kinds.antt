@@ -1,6 +1,6 @@
--- The operators, by their kinds (Technical Note 5177, "Path Construction Operators", "Operator for Finishing a Path", "Hint
--- Operators", "Arithmetic Operators", "Conditional Operators", "Subroutine Operators", "Storage Operators"). A comment has the operands
--- before an operator.
+-- The operators, by their kinds (Technical Note 5177, "Path Construction Operators", "Operator for Finishing a Path", "Hint Operators",
+-- "Arithmetic Operators", "Conditional Operators", "Subroutine Operators", "Storage Operators"). The comment at an operator gives its
+-- operands.
 use Rattle.std.specs.Prelude.{ℕ, ℤ, Bool, false, List, Option}
 use Rattle.postscript_base.specs.declared.error.Part.{Part}
 use Rattle.postscript_base.specs.declared.error.Part.TheVariants as parts
@@ -13,7 +13,7 @@ use Rattle.postscript_type2.specs.Program.Stacks.{one_to_one, two_to_one, choice
 use Rattle.postscript_type2.specs.Program.Storage.{storing, fetching}
 use Rattle.postscript_type2.specs.Program.StackWork.{Work}
 
--- The kinds of operators. takes: how many operands one that clears may take.
+-- The kinds of operators. `takes` tests how many operands an operator that clears the stack may take.
 pub data Kind : Type 0 where
   Draws : (takes : ℕ → Bool) → Kind
   DeclaresStems : (takes : ℕ → Bool) → Kind
@@ -25,7 +25,7 @@ pub data Kind : Type 0 where
   EndsGlyph : Kind
   IsRefused : Part → Kind
 
--- Each operator by its kind.
+-- The kind of each operator.
 abbrev pub kind : Operator → Kind
 -- dx1 dy1
 kind RMoveTo = Draws (exactly 2)
@@ -67,7 +67,7 @@ kind HStemHM = DeclaresStems (groups 2)
 -- x dx {dxa dxb}*
 kind VStem = DeclaresStems (groups 2)
 kind VStemHM = DeclaresStems (groups 2)
--- no operands: what stands on the stack are stems that no operator declared
+-- none: operands on the stack are stems that no operator declared
 kind HintMask = Masks (exactly 0)
 kind CntrMask = Masks (exactly 0)
 kind CallSubr = CallsFrom (λ lists. lists.local)
@@ -95,7 +95,7 @@ kind Put = Stores storing
 kind Get = Stores fetching
 kind Random = IsRefused parts.Random
 
--- the lengths of a kind: one that does not clear has none
+-- the lengths of a kind; there are none for an operator that does not clear the stack
 abbrev pub lengths : Kind → ℕ → Bool
 lengths (Draws takes) n = takes n
 lengths (DeclaresStems takes) n = takes n
@@ -107,6 +107,6 @@ lengths GoesBack n = false
 lengths EndsGlyph n = false
 lengths (IsRefused part) n = false
 
--- how many of n operands an operator takes
+-- the greatest number of operands, out of n, that an operator may take
 abbrev pub taken : Operator → ℕ → Option ℕ
 taken op n = greatest (lengths (kind op)) n

@@ -1,5 +1,5 @@
--- The lengths that clearing operators take, as tests, and the greatest that passes (Technical Note 5177, "Path Construction
--- Operators" and "Hint Operators").
+-- Tests for the number of operands that an operator that clears the stack takes, and the greatest number that passes (Technical Note 5177,
+-- "Path Construction Operators" and "Hint Operators").
 use Rattle.std.specs.Prelude.{ℕ, zero, suc, ◌-◌, ◌%◌, Bool, nat_lt, ◌==◌, ◌&&◌, ◌||◌, Option, Some, None, if◌then◌else◌}
 
 abbrev pub exactly : ℕ → ℕ → Bool
@@ -9,14 +9,14 @@ exactly m n = n == m
 abbrev pub some : ℕ → Bool
 some n = nat_lt 0 n
 
--- k or 2 k or 3 k and so on, and m more
+-- m more than a positive multiple of k
 abbrev pub groups_and : (k m : ℕ) → ℕ → Bool
 groups_and k m n = nat_lt m n && ((n - m) % k == 0)
 
 abbrev pub groups : (k : ℕ) → ℕ → Bool
 groups k n = groups_and k 0 n
 
--- curves of four operands each, and perhaps one more
+-- curves of four operands each, and possibly one more operand
 abbrev pub curves_of_four : ℕ → Bool
 curves_of_four n = groups 4 n || groups_and 4 1 n
 

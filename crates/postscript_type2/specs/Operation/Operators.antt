@@ -1,9 +1,9 @@
--- The operators, by their codes (Technical Note 5177, Appendix A, "Type 2 Charstring Command Codes").
+-- The operators and their codes (Technical Note 5177, Appendix A, "Type 2 Charstring Command Codes").
 use Rattle.std.specs.Prelude.{ℕ, ◌==◌, List, [], ◌∷◌, Option, Some, None, if◌then◌else◌, codes}
 use Rattle.postscript_type2.specs.declared.operation.Operator.{Operator}
 use Rattle.postscript_type2.specs.declared.operation.Operator.TheVariants.{HStem, VStem, VMoveTo, RLineTo, HLineTo, VLineTo, RRCurveTo, CallSubr, Return, EndChar, HStemHM, HintMask, CntrMask, RMoveTo, HMoveTo, VStemHM, RCurveLine, RLineCurve, VVCurveTo, HHCurveTo, CallGSubr, VHCurveTo, HVCurveTo, And, Or, Not, Abs, Add, Sub, Div, Neg, Eq, Drop, Put, Get, IfElse, Random, Mul, Sqrt, Dup, Exch, Index, Roll, HFlex, Flex, HFlex1, Flex1}
 
--- a code of two bytes is 0x0c00 and the second
+-- a code of two bytes is 0x0c00 plus the second byte
 abbrev pub operators : List (ℕ × Operator)
 operators =
     (0x01, HStem) ∷ (0x03, VStem) ∷ (0x04, VMoveTo) ∷ (0x05, RLineTo) ∷ (0x06, HLineTo) ∷
@@ -24,7 +24,7 @@ lookup (entry ∷ entries) code = if entry.0 == code then Some entry.1 else look
 abbrev pub operator_of : ℕ → Option Operator
 operator_of code = lookup operators code
 
--- what a case is called
+-- the name of a variant
 abbrev pub name_of : Operator → List ℕ
 name_of HStem = codes "HStem"
 name_of VStem = codes "VStem"

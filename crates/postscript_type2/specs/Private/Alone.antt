@@ -7,6 +7,6 @@ use Rattle.postscript_type2.specs.Number.{whole}
 abbrev pub is_alone : ℕ → Bool
 is_alone b = nat_lt 0x1f b && nat_lt b 0xf7
 
--- which one
+-- the number of this byte
 abbrev pub alone : ℕ → ℤ
 alone b = whole (small b)

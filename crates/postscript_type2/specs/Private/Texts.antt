@@ -1,4 +1,4 @@
--- An operand as text: the whole number, else the bits followed by /65536.
+-- An operand as text: a whole number, otherwise the bits followed by /65536.
 use Rattle.std.specs.Prelude.{ℤ, List, ℕ, ◌++◌, Option, Some, None, codes}
 use Rattle.std.specs.Fmt.{signed_decimal}
 use Rattle.postscript_type2.specs.Number.{to_int}

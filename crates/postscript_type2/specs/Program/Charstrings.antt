@@ -1,4 +1,4 @@
--- Charstrings with the subroutines that they may call.
+-- Charstrings and the subroutines that they may call.
 use Rattle.std.specs.Prelude.{ℕ, List}
 use Rattle.postscript_base.specs.Index.Lent.{items_of}
 use Rattle.postscript_type2.specs.declared.program.charstring.Charstring.{Charstring}
@@ -15,7 +15,7 @@ abbrev pub routines_of : Routines → List (List ℕ)
 routines_of (Listed routines) = texts routines.now
 routines_of (Lent items) = items_of items
 
--- the value of subroutines: those of a font set and those of one font, as bytes
+-- subroutines as bytes: the global ones of a font set and the local ones of a font
 abbrev pub lists_of : Subroutines → Lists
 lists_of subroutines = record { global = routines_of subroutines.global; local = routines_of subroutines.local }
 

@@ -1,5 +1,4 @@
--- Numbers of 16 bits before the point and 16 behind it, over their bits (Technical Note 5177, "Arithmetic Operators" and
--- "Conditional Operators").
+-- Numbers with 16 bits before the point and 16 after it, as bits (Technical Note 5177, "Arithmetic Operators" and "Conditional Operators").
 use Rattle.std.specs.Option.{unwrap_or}
 use Rattle.std.specs.Ordering.{int_eq}
 use Rattle.std.specs.Prelude.{ℕ, ◌*◌, ◌/◌, ◌^◌, ℤ, pos, neg_ℤ, nat_abs, ◌+ℤ◌, ◌-ℤ◌, ◌*ℤ◌, int_lt, int_le, nat_le, Bool, not, ◌&&◌, ◌||◌, Result, Ok, Err, if◌then◌else◌}
@@ -7,17 +6,17 @@ use Rattle.postscript_base.specs.Refusal.{Refusal, overflow, zero_divisor, negat
 use Rattle.postscript_type2.specs.Operation.Lengths.{greatest}
 use Rattle.postscript_type2.specs.Number.{whole}
 
--- whether exactly one of two numbers is below zero
+-- whether exactly one of two numbers is negative
 abbrev pub is_one_below : ℤ → ℤ → Bool
 is_one_below x y = if int_lt x (pos 0) then not (int_lt y (pos 0)) else int_lt y (pos 0)
 
--- the quotient, cut towards zero: the whole part of |x| / |y|, and below zero where exactly one of the two is
+-- the quotient, rounded towards zero: |x| / |y| rounded down, and negative if exactly one of the two is
 abbrev pub cut : ℤ → ℤ → ℤ
 cut x y =
     let whole_part = pos (nat_abs x / nat_abs y) in
     if is_one_below x y then neg_ℤ whole_part else whole_part
 
--- the bits, if 32 bits hold them
+-- the bits, if they fit in 32 bits
 abbrev pub fit : ℤ → Result ℤ Refusal
 fit bits = if int_lt bits (neg_ℤ (pos (2 ^ 31))) || int_le (pos (2 ^ 31)) bits then Err overflow else Ok bits
 
@@ -43,15 +42,15 @@ product a b = fit (cut (a *ℤ b) (pos 65536))
 abbrev pub quotient : ℤ → ℤ → Result ℤ Refusal
 quotient a b = if int_eq b (pos 0) then Err zero_divisor else fit (cut (a *ℤ pos 65536) b)
 
--- of a number that is not negative, over its bits: the greatest r with r * r ≤ a * 65536
+-- the square root of a number that is not negative, as bits: the greatest r with r * r ≤ a * 65536
 abbrev pub root : ℤ → Result ℤ Refusal
 root a = if int_lt a (pos 0) then Err negative_root else Ok (pos (whole_root (nat_abs a * 65536)))
 
--- what a test answers: one or zero
+-- the result of a test: one or zero
 abbrev pub truth : Bool → ℤ
 truth b = if b then whole (pos 1) else whole (pos 0)
 
--- every number but zero is true
+-- every number except zero is true
 abbrev pub is_true : ℤ → Bool
 is_true a = not (int_eq a (pos 0))
 

@@ -1,4 +1,4 @@
--- Flat text: the phrases of a run in their order, without its calls and returns.
+-- Flat text: the phrases of a run in order, without its calls and returns.
 use Rattle.std.specs.List.{flat_map}
 use Rattle.std.specs.Prelude.{ℕ, ◌-◌, ◌^◌, List, [], ◌∷◌, ◌++◌, take, length, min}
 use Rattle.postscript_type2.specs.declared.operation.Operator.{Operator}
@@ -14,7 +14,7 @@ without_operator bytes = take (length bytes - 1) bytes
 abbrev pub dropping : List ℕ → Phrase
 dropping numbers = record { operator = Drop; bytes = numbers ++ 0x0c ∷ 0x12 ∷ [] }
 
--- a phrase in flat code: a call drops its number, a return drops a zero that it pushes, and any other stands as it is
+-- a phrase in flat code: a call drops its number, a return drops a zero that it pushes, and any other phrase is unchanged
 abbrev pub flat_of : Kind → Operator → List ℕ → Phrase
 flat_of (CallsFrom routines) op bytes = dropping (without_operator bytes)
 flat_of GoesBack op bytes = dropping (without_operator bytes ++ 0x8b ∷ [])
@@ -39,6 +39,6 @@ flat_bytes said = (flat_said said).bytes
 abbrev pub flat_text : List Phrase → List ℕ
 flat_text trace = flat_map flat_bytes trace
 
--- its length as a usize: usize::MAX where it is longer
+-- its length as a usize, or usize::MAX if it is longer
 abbrev pub flat_len : List Phrase → ℕ
 flat_len trace = min (length (flat_text trace)) (2 ^ 64 - 1)

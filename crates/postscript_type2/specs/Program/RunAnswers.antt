@@ -1,4 +1,4 @@
--- What a whole run tells.
+-- The result of a whole run.
 use Rattle.std.specs.Prelude.{◌≡◌, ℤ, List, map, Vec}
 use Rattle.std.specs.Option.{option_map}
 use Rattle.std.specs.declared.alloc.Global.{Global}
@@ -11,13 +11,13 @@ use Rattle.postscript_type2.specs.Program.Runs.{Run, operation, fault_of, width_
 abbrev pub operation_of : Operator × Vec ℤ Global → Operator × List ℤ
 operation_of x = (x.0, x.1.items)
 
--- all operations before the end, the refusal exactly where the end is one, and the width of the run
+-- the result has all operations before the end, a fault exactly if the run ends with it, and the width of the run
 pub record Tells (told : Answers) (run : Run) : Type 0 where
   pub operations : map operation_of told.operations.items ≡ map operation run.answers
   pub fault : option_map refusal_of told.fault ≡ fault_of run.end
   pub width : told.width ≡ width_of run
 
--- the same of what a program still answers
+-- the same for the rest of a program
 pub record TellsPending (told : Answers) (pending : Pending) : Type 0 where
   pub operations : map operation_of told.operations.items ≡ map operation pending.answers
   pub fault : option_map refusal_of told.fault ≡ fault_of pending.end

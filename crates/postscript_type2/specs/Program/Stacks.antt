@@ -1,4 +1,4 @@
--- Operators that work on the stack alone (Technical Note 5177, "Arithmetic Operators" and "Conditional Operators").
+-- Operators that only work on the stack (Technical Note 5177, "Arithmetic Operators" and "Conditional Operators").
 use Rattle.std.specs.Int.{int_rem_euclid}
 use Rattle.std.specs.Prelude.{◌≡◌, ℕ, suc, ◌-◌, ◌<◌, ℤ, pos, negsuc, ◌+ℤ◌, nat_abs, int_le, nat_lt, List, [], ◌∷◌, ◌++◌, length, take, drop, slice_get, slice_set, Result, Ok, Err, if◌then◌else◌}
 use Rattle.postscript_base.specs.Refusal.{Refusal, expected_more_operands, invalid_operand}
@@ -19,7 +19,7 @@ two_to_one f = do
   x ← given (f a b)
   push x
 
--- of p, q, v and w: p where v ≤ w, else q
+-- for p, q, v and w: p if v ≤ w, otherwise q
 abbrev pub choice : Work (Unit {0})
 choice = do
   w ← operand
@@ -28,13 +28,13 @@ choice = do
   p ← operand
   push (if int_le v w then p else q)
 
--- the top goes
+-- the top is removed
 abbrev pub removal : Work (Unit {0})
 removal = do
   _ ← operand
   given (Ok tt)
 
--- the two topmost change places
+-- the two topmost operands are exchanged
 abbrev pub exchange : Work (Unit {0})
 exchange = do
   b ← operand
@@ -42,43 +42,43 @@ exchange = do
   push b
   push a
 
--- the top once more
+-- the top is pushed again
 abbrev pub duplication : Work (Unit {0})
 duplication = do
   top ← operand_below 0
   push top
 
--- a number as a distance below the top: a negative one is the top itself
+-- a number as a distance below the top; a negative one means the top
 abbrev pub distance : ℤ → ℕ
 distance (pos n) = n
 distance (negsuc n) = 0
 
--- an operand from further down once more
+-- an operand from further down is pushed again
 abbrev pub copy : Work (Unit {0})
 copy = do
   i ← whole_operand
   x ← operand_below (distance i)
   push x
 
--- the place of item k of so many after a roll: (k + shift) mod their number
+-- the index of item k, out of `count`, after a roll: (k + shift) mod count
 abbrev pub place : (shift : ℤ) → (count k : ℕ) → ℕ
 place shift count k = nat_abs (int_rem_euclid (pos k +ℤ shift) (pos count))
 
--- as many items, and each at its place
+-- the same number of items, and each at its index after the roll
 pub record IsRolled (shift : ℤ) (xs ys : List ℤ) : Type 0 where
   pub as_many : length ys ≡ length xs
   pub items : (k : ℕ) → k < length xs → slice_get ys (place shift (length xs) k) ≡ slice_get xs k
 
--- each of these items, the first of which is item k of so many, is put at its place
+-- each of these items, the first of which is item k out of `count`, is put at its index
 abbrev pub put_each : (shift : ℤ) → (count k : ℕ) → (items : List ℤ) → List ℤ → List ℤ
 put_each shift count k [] ys = ys
 put_each shift count k (item ∷ items) ys = put_each shift count (suc k) items (slice_set ys (place shift count k) item)
 
--- the list that is rolled so: item k goes to the place (k + shift) mod their number
+-- the rolled list: item k goes to the index (k + shift) mod the number of items
 abbrev pub rolled : (shift : ℤ) → List ℤ → List ℤ
 rolled shift xs = put_each shift (length xs) 0 xs xs
 
--- a stack whose topmost items are rolled, as many as the span says
+-- a stack whose topmost items are rolled, as many as `span`
 abbrev pub rolled_top : (shift : ℤ) → (span : ℕ) → List ℤ → List ℤ
 rolled_top shift span stack = take (length stack - span) stack ++ rolled shift (drop (length stack - span) stack)
 

@@ -7,8 +7,8 @@ use Rattle.postscript_type2.specs.Program.Meaning.{Moves, Means, IsRunOf}
 use Rattle.postscript_type2.specs.Program.Routines.{Lists}
 use Rattle.postscript_type2.specs.Program.Runs.{Phrase, End, UsedUp, Returned, Finished, Fault, Run, width_of}
 
--- The first operator that clears the stack or ends the glyph settles this width: the one at the front, one behind operators that
--- do neither, one in a subroutine, or one behind a subroutine in which none does.
+-- The first operator that clears the stack or ends the glyph settles this width. It is at the front, after operators that do neither, in a
+-- subroutine, or after a subroutine that has none.
 pub data FirstSettles (lists : Lists) (width : Option ℤ) : (depth : ℕ) → (rest : List ℕ) → State → Type 0 where
   clears : (depth : ℕ) (phrase behind : List ℕ) (numbers : List ℤ) (op : Operator) (st : State) (taken pairs : List ℤ) (stems mask : ℕ) →
       Moves lists st phrase numbers op behind (Clears taken pairs stems width mask) → FirstSettles lists width depth (phrase ++ behind) st
@@ -28,7 +28,7 @@ pub data FirstSettles (lists : Lists) (width : Option ℤ) : (depth : ℕ) → (
       Means lists (suc depth) subroutine (stacked stack st) [] trace (Returned back) →
       FirstSettles lists width depth behind back → FirstSettles lists width depth (phrase ++ behind) st
 
--- every answer has this width, and so has the end of the glyph
+-- every operation has this width, and so has the end of the glyph
 abbrev pub EndsWith : Option ℤ → End → Type 0
 EndsWith width (Finished taken last) = last ≡ width
 EndsWith width (Returned st) = Unit {0}
@@ -46,13 +46,13 @@ NeverFinished (Returned st) = Unit {0}
 NeverFinished UsedUp = Unit {0}
 NeverFinished (Fault e) = Unit {0}
 
--- nor was an operation answered
+-- there is no operation, and the glyph was not finished
 pub record HasNoWidth (run : Run) : Type 0 where
   pub answers : run.answers ≡ []
   pub end : NeverFinished run.end
 
--- A law of the definitions: the width of a run is the one that the first such operator settles, and each answer and the glyph's end
--- have that one; or nothing was answered, the glyph was not finished, and there is none.
+-- A law: the first such operator settles the width of a run, and each operation and the end of the glyph have it. If there is no operation
+-- and the glyph was not finished, there is no width.
 abbrev pub WidthIsSettledOnce : Type 0
 WidthIsSettledOnce = (lists : Lists) (code : List ℕ) (run : Run) → IsRunOf lists code run →
     (FirstSettles lists (width_of run) 0 code start × HasWidth run (width_of run)) ⊎ (HasNoWidth run × (width_of run ≡ None))

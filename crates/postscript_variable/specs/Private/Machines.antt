@@ -1,4 +1,4 @@
--- What the machine of a program still answers.
+-- The remaining run of a program's machine.
 use Rattle.std.specs.Prelude.{◌≡◌, ◌⊎◌, ◌+◌, ◌*◌, ◌<◌, ℕ, ℤ, [], ◌∷◌, length, Option, Some, None, Result, Ok, Err}
 use Rattle.postscript_type2.specs.declared.operation.Operator.{Operator}
 use Rattle.postscript_type2.specs.Program.Effects.{last_of}
@@ -19,19 +19,19 @@ use Rattle.postscript_variable.specs.Private.Remaining.{still, still_number, sti
 use Rattle.postscript_variable.specs.Private.Working.{font_of, state_of}
 use Rattle.postscript_variable.specs.Sayings.{said}
 
--- ten calls may nest, and those that do are the callers
+-- ten calls may nest: the open ones are the callers, and `left` counts the others
 abbrev pub IsNested : Machine → Type 0
 IsNested machine = machine.left + length machine.callers ≡ 10
 
 abbrev pub still_of : Machine → Run
 still_of machine = still (font_of machine.font) machine.left machine.routine machine.callers (state_of machine.state)
 
--- what it still answers once the stack is cleared
+-- the remaining run after the stack is cleared
 abbrev pub still_emptied : Machine → Run
 still_emptied machine =
     still (font_of machine.font) machine.left machine.routine machine.callers (cleared machine.state.stems (state_of machine.state))
 
--- what it still answers where it has just read a number, and an operator, of so many bytes
+-- the remaining run after a number or an operator of `size` bytes was read
 abbrev pub still_with : Machine → (size : ℕ) → ℤ → Run
 still_with machine size x =
     still_number (font_of machine.font) machine.left machine.routine machine.callers (state_of machine.state) size x
@@ -42,15 +42,15 @@ still_by machine size command =
     still_moved (font_of machine.font) machine.left machine.routine machine.callers st.stack
     (size + cost_beside command st.stack) (effect (font_of machine.font) command machine.routine st)
 
--- what falls with each event: a call costs something, and adds a caller
+-- a measure that each event decreases: a call costs something, and adds a caller
 abbrev pub work_of : Run → Machine → ℕ
 work_of run machine = 2 * length run.costs + length machine.callers
 
--- what an event costs
+-- the cost of an event
 abbrev pub cost_of : Cost → ℕ
 cost_of cost = cost.bytes + cost.beside
 
--- Of what was still answered the event is the first, and the machine still answers what is left. work: what there was to do.
+-- The event is at the beginning of the run `before`, and the machine has the rest. `work` is the measure before it.
 abbrev pub Advances : (before : Run) → (work : ℕ) → Result Event Refused → Machine → Type 0
 Advances before work (Ok events.UsedUp) new = (st : State) × (before ≡ at_end (UsedUp st))
 Advances before work (Ok events.Back) new = (before ≡ still_of new) × (work_of (still_of new) new < work)
@@ -62,7 +62,7 @@ Advances before work (Ok (events.Operation operator count mask cost)) new =
     (0 < cost_of cost) × (work_of (still_emptied new) new < work)
 Advances before work (Err e) new = (e ≡ Memory) ⊎ (before ≡ at_end (Stopped (reason e)))
 
--- Of what was still answered the first operation is reached.
+-- The first operation of the run `before` is reached, and the machine has the rest.
 abbrev pub Reaches : Run → Result (Option (Operator × ℕ)) Refused → Machine → Type 0
 Reaches before (Ok (Some reached)) new =
     (before.answers ≡ answer reached.0 (last_of new.state.stack.items reached.1) ∷ (still_emptied new).answers) ×

@@ -1,4 +1,4 @@
-//! The `name` table of an instance (ISO/IEC 14496-22, 5.2.7).
+//! The `name` table of an instance (ISO/IEC 14496-22).
 use super::style::Style;
 use crate::failure::Failure;
 use crate::naming::{Kept, MOST, Record, record_at};

@@ -1,4 +1,4 @@
-//! The names of an instance (ISO/IEC 14496-22, 5.2.7, and Adobe's Technical Note 5902).
+//! The names of an instance (ISO/IEC 14496-22, and Adobe's Technical Note 5902).
 use super::values::word;
 use crate::decimal::put_bits;
 use crate::text::Text;

@@ -116,13 +116,13 @@ pub fn put(
     hinted: u64,
 ) {
     sheet.begin_object();
-    begin(sheet, face.size, words, first);
+    begin(sheet, face.source.bytes.len(), words, first);
     pages.put(alloc, sheet);
     if pages.glyphs(pages.first).end < pages.end {
         put_index(alloc, sheet, &face.map);
     }
     columns(sheet);
-    tables(sheet, &face.file);
+    tables(sheet, &face.source.file);
     parts::put(sheet, face);
     sheet.key("font");
     inspect::put(alloc, sheet, face, hinted);

@@ -1,13 +1,12 @@
 //! Pages about files with an invalid `CFF ` table.
 use super::pages::Pages;
 use super::{begin, end, head, parts, path_of};
-use crate::face::refusal_of;
+use crate::face::{Source, refusal_of};
 use crate::failure::Failure;
 use crate::readings;
 use crate::saving::save;
 use crate::sheet::Sheet;
 use clap::ArgMatches;
-use postscript_sfnt::FontFile;
 use std::alloc::{AllocError, Global};
 
 /// Writes the errors of the readers: of the in-place reader, and of those of the whole font.
@@ -27,21 +26,20 @@ fn put_readings(alloc: Global, sheet: &mut Sheet, cff: &[u8]) {
 fn put_head(
     alloc: Global,
     sheet: &mut Sheet,
-    file: &FontFile<'_>,
-    size: usize,
+    source: &Source<'_>,
     words: &ArgMatches<'_>,
 ) {
-    let cff = file.table(*b"CFF ").unwrap_or(&[]);
+    let cff = source.file.table(*b"CFF ").unwrap_or(&[]);
     let path = path_of(words);
     sheet.begin_object();
-    head::begin(sheet, size, words, 0);
+    head::begin(sheet, source.bytes.len(), words, 0);
     let pages = Pages {
         path,
         first: 0,
         end: 0,
     };
     pages.put(alloc, sheet);
-    head::tables(sheet, file);
+    head::tables(sheet, &source.file);
     sheet.begin_list("parts");
     parts::first(sheet, cff);
     sheet.end_array();
@@ -63,8 +61,7 @@ fn page_of(alloc: Global, head: &mut Sheet) -> Result<Vec<u8>, AllocError> {
 /// failure.
 pub fn write_refused(
     rt: &HostRuntime,
-    file: &FontFile<'_>,
-    size: usize,
+    source: &Source<'_>,
     words: &ArgMatches<'_>,
     failure: &Failure,
 ) -> Result<(), Failure> {
@@ -72,7 +69,7 @@ pub fn write_refused(
         return Ok(());
     }
     let mut sheet = Sheet::new(rt.alloc());
-    put_head(rt.alloc(), &mut sheet, file, size, words);
+    put_head(rt.alloc(), &mut sheet, source, words);
     let page = page_of(rt.alloc(), &mut sheet)?;
     save(rt, path_of(words), &page)
 }

@@ -2,7 +2,7 @@ use Rattle.std.proofs.Common.{◌∙◌, ap, subst, ℕ, List}
 use Rattle.std.proofs.lemmas.Result.{err_from_is_err_and}
 use Rattle.std.specs.Prelude.{IfOk}
 use Rattle.postscript_sfnt_write.specs.declared.mapping.Mapping.{Mapping}
-use Rattle.postscript_files.specs.Choices.{named_of}
+use Rattle.postscript_files.specs.Choices.{glyphs_of, named_of}
 use Rattle.postscript_files.specs.Listed.{IsFileOfParts}
 use Rattle.postscript_files.specs.Made.{AreOrigins, IsMade}
 use Rattle.postscript_files.specs.Subsets.{IsSubsetFont}
@@ -13,7 +13,7 @@ pub returns-clause-subset : goal.returns-clause-subset
 returns-clause-subset c =
     if-subset c.written.result c.args.choice.now c.args.face.now c.in_ok-pairs.pairs.items c.in_ok-named.named.items
     c.in_ok-origins.origins.items c.in_ok-cff.cff.items c.in_ok-made.made c.in_ok-pairs.ensures.kept
-    (c.in_ok-named.ensures.named ∙ ap (named_of c.args.choice.now.glyphs.now) c.deref.ensures.value)
+    (c.in_ok-named.ensures.named ∙ ap (named_of (glyphs_of c.args.choice.now)) c.deref.ensures.value)
     (subst (λ (xs : List ℕ). IsSubsetFont c.args.choice.now.retain_gids xs c.args.face.now.cff.now c.in_ok-cff.cff.items)
     c.deref-2.ensures.value c.in_ok-cff.ensures.font)
     (subst (λ (xs : List ℕ). AreOrigins c.args.choice.now.retain_gids xs c.args.face.now.cff.now c.in_ok-origins.origins.items)
@@ -31,5 +31,5 @@ returns-in_err-origins-clause-refused c =
     let error = err_from_is_err_and c.from_residual-in_err-origins.result c.from_residual-in_err-origins.ensures.1 in
     rw (error.1, error.2) (no-origins-so _ c.args.choice.now c.args.face.now c.in_ok-pairs.pairs.items c.in_ok-named.named.items
     c.deref-3.result.now c.in_ok-pairs.ensures.kept
-    (c.in_ok-named.ensures.named ∙ ap (named_of c.args.choice.now.glyphs.now) c.deref.ensures.value) c.deref-3.ensures.value
+    (c.in_ok-named.ensures.named ∙ ap (named_of (glyphs_of c.args.choice.now)) c.deref.ensures.value) c.deref-3.ensures.value
     c.in_err-origins.ensures.refused)
