@@ -179,8 +179,10 @@ case_of 'the packages: removed' 'apt-get purge -y -qq psotf libpostscript-proved
     refused test -e /usr/lib/python3/dist-packages/postscript'
 
 # --- aarch64
-letters='for font in $(find /usr/share/fonts/opentype/ebgaramond /usr/share/fonts/opentype/freefont -name "*.otf" | sort | head -n 10); do
-    for code in $(seq 33 126) $(seq 192 255); do echo "$font $code $(./svg_glyph $font $code | sha256sum)"; done; done > out/$P.sums; test $(wc -l < out/$P.sums) = 1580'
+letters='cd /usr/share/fonts/opentype; ls $PWD/ebgaramond/*.otf | head -n 5 > /t/fonts; ls $PWD/freefont/*.otf | tail -n 5 >> /t/fonts; cd /t
+    for font in $(cat fonts); do
+    for code in $(seq 33 126) $(seq 192 255); do echo "$font $code"; ./svg_glyph $font $code || echo "status $?"; done; done > out/$P.drawings
+    test $(grep -c "^/" out/$P.drawings) = 1580; test $(grep -c "<svg" out/$P.drawings) -ge 1400'
 got fonts-freefont-otf
 case_of 'ten fonts: 158 characters of each are drawn, x86_64' "$letters"
 cp -r "$work/amd64/t/out" "$work/out"
@@ -209,7 +211,7 @@ if [ "${DIST_TEST_ONLY:-}" != amd64 ]; then
         cargo build -q --offline; ./target/debug/app \$F > ../out/arm64_crate.svg"
     case_of 'aarch64: the crate: its tests and its examples' 'cd postscript-proved-$V; cargo test -q --offline'
     cp -r "$work/arm64/t/out/." "$work/out"
-    if cmp "$work/out/x86_64.sums" "$work/out/aarch64.sums"; then
+    if cmp "$work/out/x86_64.drawings" "$work/out/aarch64.drawings"; then
         echo 'passed: 1580 drawings of ten fonts: the same bytes on x86_64 and aarch64'
         passed=$((passed + 1))
     else
@@ -235,7 +237,7 @@ def path(file):
     return [word if word.isalpha() else float(word) for word in re.findall(r"[MLCZ]|-?[\d.]+(?:e-?\d+)?", text)]
 
 
-files = sorted(it for it in pathlib.Path(sys.argv[1]).iterdir() if it.suffix != ".sums")
+files = sorted(it for it in pathlib.Path(sys.argv[1]).iterdir() if it.suffix != ".drawings")
 small = [file for file in files if file.name.startswith("small_")]
 real = [file for file in files if file not in small]
 wanted = path(pathlib.Path(sys.argv[1]) / "archive.json")
