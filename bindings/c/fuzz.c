@@ -1,6 +1,6 @@
 /* fuzz.c: calls every function of postscript.h with the input as a font file, and as a CFF table, for libFuzzer.
  *
- *     make fuzz && build/fuzz -max_len=65536 -max_total_time=600 CORPUS
+ *     make check-fuzz
  *
  * The library itself is not instrumented: AddressSanitizer watches its heap and the buffers of this file, and each output buffer
  * is as long as the call is told. It ends on a status that the header does not list, and on a result outside its buffer. */
