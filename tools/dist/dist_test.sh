@@ -101,8 +101,8 @@ case_of 'the wheel: installed, and draws' 'python3 -m venv v; v/bin/pip -q insta
     v/bin/python3 -c "import postscript, sys; print(\"d=\\\"%s\\\"\" % postscript.Font.open(sys.argv[1]).glyph_of(\"A\").svg_path())" $S > out/small_wheel.svg'
 case_of 'the wheel: its tests' 'cd tests; ../v/bin/python3 -m unittest --quiet'
 case_of 'the wheel: types, and the version' 'cd v/lib/python3*/site-packages; test -f postscript/py.typed; test -d postscript_proved-$V.dist-info'
-case_of 'the wheel: the one of the processor is chosen' 'for one in x86_64 aarch64; do v/bin/pip -q download --no-index --find-links dist --no-deps --only-binary :all: \
-    --platform manylinux_2_36_$one -d x postscript-proved; test -f x/postscript_proved-$V-py3-none-manylinux_*_$one.whl; done'
+case_of 'the wheel: the one of the processor is chosen' 'for wheel in dist/*_x86_64.whl dist/*_aarch64.whl; do one=$(basename $wheel .whl); rm -rf x
+    v/bin/pip -q download --no-index --find-links dist --no-deps --only-binary :all: --platform ${one##*-none-} -d x postscript-proved; test "$(ls x)" = $one.whl; done'
 case_of 'the wheel: another processor is refused' 'refused v/bin/pip download --no-index --find-links dist --no-deps --only-binary :all: \
     --platform manylinux_2_36_ppc64le -d x postscript-proved > log 2>&1; grep -q "No matching distribution" log'
 case_of 'the wheel: an older C library is refused' 'refused v/bin/pip download --no-index --find-links dist --no-deps --only-binary :all: \
