@@ -58,13 +58,13 @@ int main(void) {{ return 0; }}
 
 
 def blocks(page, whole=False):
-    """Yields the examples of a page: the language and the text. If `whole`, a block of commands is one example, otherwise each of its lines."""
+    """Yields the examples of a page in their order: the language and the text. If `whole`, a block of commands is one example, otherwise each of its lines."""
     text = (TOP / page).read_text(encoding="utf-8")
-    for language, body in re.findall(r"^```(\w+)\n(.*?)^```$", text, re.M | re.S):
-        yield language, body
-    plain = re.sub(r"^```.*?^```$", "", text, flags=re.M | re.S)
-    for block in re.findall(r"(?:^    .*\n?)+", plain, re.M):
-        lines = [line.strip() for line in block.splitlines() if line.strip()]
+    for found in re.finditer(r"^```(\w+)\n(.*?)^```$|(?:^    [^\n]*\n?)+", text, re.M | re.S):
+        if found[1]:
+            yield found[1], found[2]
+            continue
+        lines = [line.strip() for line in found[0].splitlines() if line.strip()]
         if not MESSAGE.search(lines[0]):
             yield from (("sh", text) for text in (["\n".join(lines)] if whole else lines))
 
