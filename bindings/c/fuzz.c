@@ -1,6 +1,6 @@
 /* fuzz.c: calls every function of postscript.h with the input as a font file, and as a CFF table, for libFuzzer.
  *
- *     make fuzz && build/fuzz -max_len=65536 -max_total_time=600 CORPUS
+ *     make check-fuzz
  *
  * The library itself is not instrumented: AddressSanitizer watches its heap and the buffers of this file, and each output buffer
  * is as long as the call is told. It ends on a status that the header does not list, and on a result outside its buffer. */
@@ -139,11 +139,26 @@ static void files(const uint8_t *file, size_t length) {
     free(written);
 }
 
+static void texts(const uint8_t *bytes, size_t length) {
+    size_t room = 40, count = 0;
+    int32_t status = 0;
+    uint8_t *text = buffer(room);
+    memcpy(&status, bytes, length < sizeof status ? length : sizeof status);
+    for (int32_t one = 0; one <= PSF_CUT_TABLE + 1; one++) {
+        int32_t found = known(psf_status_text(one, text, room, &count));
+        holds(found == PSF_OK ? count <= room : found == PSF_NO_ROOM ? count > room : found == PSF_NO_STATUS);
+    }
+    known(psf_status_text(status, text, room, &count));
+    free(text);
+}
+
 int LLVMFuzzerTestOneInput(const uint8_t *bytes, size_t length) {
     static const uint32_t tags[] = {PSF_TAG('C', 'F', 'F', ' '), PSF_TAG('c', 'm', 'a', 'p')};
     size_t faces = 0, place = 0, size = 0;
     /* a pointer is never null */
     if (length == 0) return 0;
+    holds(psf_version() == PSF_VERSION);
+    texts(bytes, length);
     known(psf_file_faces(bytes, length, &faces));
     if (known(psf_file_table(bytes, length, 0, tags[0], &place, &size)) == PSF_OK) {
         holds(place + size <= length);

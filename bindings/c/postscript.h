@@ -26,6 +26,10 @@
  *
  * The library is built for 64-bit machines only.
  *
+ * Compatibility: libpostscript.so.0 exports only the functions of this header, with the symbol version POSTSCRIPT_0. A program that
+ * is linked with it also runs with each later 0.x: functions, parameters, structs and constants stay, and only new ones are added.
+ * So a program must take a status that it does not know for an error. Names of fields and parameters may change.
+ *
  * Units: coordinates, widths and bounds are in 1/65536 of a font unit. Glyphs, faces and offsets count from 0.
  *
  * Variable fonts: psf_variation_axis and the four calls after it take a whole OpenType file and the index of a face, instead of a

@@ -1,13 +1,14 @@
 #!/bin/sh
-# Makes the files of a release in dist/: an archive, Debian packages, a wheel and a crate.
+# Makes the files of a release in dist/, for x86-64 and aarch64: archives, Debian packages, wheels and a crate.
 #
 #     make dist
 #
-# The proved library and programs are built once, and put into each of them. Two runs on one commit give identical bytes
-# (tools/dist/reproducible.sh). Needs `rt` on the path, and Debian's gcc, make, binutils, python3-build, python3-setuptools and
-# python3-wheel.
+# The proved libraries and programs are built once, and put into each of them. Two runs on one commit give identical bytes
+# (tools/dist/reproducible.sh). If there is a dist/ already, abi.sh compares the new libraries with it: remove it first if it was never
+# released and the change is wanted. Needs `rt` on the path, and Debian's gcc, make, binutils, gcc-aarch64-linux-gnu, python3-build,
+# python3-setuptools and python3-wheel; abigail-tools to compare.
 . "$(dirname "$0")/env.sh"
-for command in rt cc make strip objdump dpkg-deb; do
+for command in rt cc make strip objdump dpkg-deb aarch64-linux-gnu-gcc; do
     command -v $command > /dev/null || { echo "make dist: no $command" >&2; exit 1; }
 done
 /usr/bin/python3 -c 'import build, setuptools, wheel' || {
@@ -18,14 +19,19 @@ work=$(mktemp -d)
 trap 'rm -r "$work"' EXIT
 "$top/tools/gate/version.sh"
 "$top/tools/dist/prove.sh" "$work/PROOF.txt"
-"$top/tools/dist/tree.sh" "$work/PROOF.txt" "$work/tree"
-"$top/tools/gate/version.sh" "$work/tree"
-rm -rf "$top/dist"
-mkdir "$work/dist"
-for kind in archive wheel crate deb; do "$top/tools/dist/$kind.sh" "$work/tree" "$work/dist"; done
+mkdir "$work/dist" "$work/trees"
+for processor in aarch64 x86_64; do
+    export DIST_ARCH=$processor
+    "$top/tools/dist/tree.sh" "$work/PROOF.txt" "$work/trees/$processor"
+    for kind in archive wheel deb; do "$top/tools/dist/$kind.sh" "$work/trees/$processor" "$work/dist"; done
+done
+"$top/tools/gate/version.sh" "$work/trees/x86_64"
+"$top/tools/dist/crate.sh" "$work/trees" "$work/dist"
 cp "$work/PROOF.txt" "$work/dist/postscript-proved-$version-PROOF.txt"
-cp "$work/tree/SBOM.spdx.json" "$work/dist/postscript-proved-$version-SBOM.spdx.json"
+cp "$work/trees/x86_64/SBOM.spdx.json" "$work/dist/postscript-proved-$version-SBOM.spdx.json"
 "$top/tools/dist/leaks.sh" "$work/dist"
 (cd "$work/dist" && sha256sum -- * > SHA256SUMS)
+if [ -f "$top/dist/SHA256SUMS" ] && command -v abidiff > /dev/null; then "$top/tools/dist/abi.sh" "$top/dist" "$work/dist"; fi
+rm -rf "$top/dist"
 mv "$work/dist" "$top/dist"
 ls -l "$top/dist"

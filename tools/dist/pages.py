@@ -2,8 +2,9 @@
 """Makes the manual pages and the shell completions from the programs' help, the C header and two documents.
 
     tools/dist/pages.py PSOTF PSFONT OUT
+    tools/dist/pages.py OUT
 
-PSOTF and PSFONT are the programs. OUT is the folder for man/ and the completions, laid out like share/. psotf(1) is made from the --help
+PSOTF and PSFONT are the programs; without them only the manual page of the header is made. OUT is the folder for man/ and the completions, laid out like share/. psotf(1) is made from the --help
 of each subcommand. psfont(1) is made from its usage, the table of its lines in docs/psfont.md, and the table of errors in docs/errors.md.
 postscript.h(3) is made from bindings/c/postscript.h. The exit statuses and files are described in this script.
 """
@@ -346,26 +347,34 @@ def of_psfont(program):
     }
 
 
+def written(out, pages):
+    for place, text in pages.items():
+        (out / place).parent.mkdir(parents=True, exist_ok=True)
+        (out / place).write_text(text)
+
+
 def main():
-    psotf, psfont, out = sys.argv[1], sys.argv[2], pathlib.Path(sys.argv[3])
+    out = pathlib.Path(sys.argv[-1])
+    written(out, {"man/man3/postscript.h.3": header_page()})
+    if len(sys.argv) == 2:
+        return
+    psotf, psfont = sys.argv[1:3]
     told = sections_of(asked(psotf, "--help").stdout)
     options = [option_of(line) for line in told["Options"]]
     named = [word_of(line) for line in told["Commands"]]
     commands = [command_of(psotf, name, about) for name, about in named if name != "help"]
     plain = of_psfont(psfont)
-    for place, text in {
+    pages = {
         "man/man1/psotf.1": psotf_page(psotf, commands, options, told),
         "man/man1/psfont.1": psfont_page(psfont),
-        "man/man3/postscript.h.3": header_page(),
         "bash-completion/completions/psotf": bash(commands, options),
         "bash-completion/completions/psfont": plain["bash"],
         "zsh/site-functions/_psotf": zsh(commands, options),
         "zsh/site-functions/_psfont": plain["zsh"],
         "fish/vendor_completions.d/psotf.fish": fish(commands, options),
         "fish/vendor_completions.d/psfont.fish": plain["fish"],
-    }.items():
-        (out / place).parent.mkdir(parents=True, exist_ok=True)
-        (out / place).write_text(text)
+    }
+    written(out, pages)
 
 
 if __name__ == "__main__":

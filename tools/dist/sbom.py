@@ -1,9 +1,12 @@
 #!/usr/bin/python3
 """Prints a bill of materials of a release in SPDX 2.3, as JSON: the library and the programs, the crates that they are compiled from, with
-a checksum of the sources of each, the crates of the toolchain, and the toolchain itself.
+a checksum of the sources of each, the heap of the library for aarch64, the crates of the toolchain, the toolchain itself, and the C
+compilers.
 
     tools/dist/sbom.py > SBOM.spdx.json
+    tools/dist/sbom.py --sources CRATE
 
+The second command prints only the checksum of a crate's sources.
 The date and the commit are those of the checkout, so two runs on one commit print the same text. Needs `rt` on the path.
 """
 
@@ -12,10 +15,13 @@ import hashlib
 import json
 import pathlib
 import subprocess
+import sys
 
 TOP = pathlib.Path(__file__).resolve().parents[2]
 NAME = "postscript-proved"
 MADE = ("postscript_c", "psotf", "psfont")
+#: they link the shared libraries, and the second one compiles heap.c
+COMPILERS = ("gcc", "aarch64-linux-gnu-gcc")
 
 
 def printed(*words):
@@ -67,7 +73,11 @@ def main():
     packages += [package(it, version, **licence, checksums=[{"algorithm": "SHA256", "checksumValue": checksum(it)}]) for it in own]
     packages += [package(it, kit, licenseDeclared="NOASSERTION", comment="a crate of the Rattle toolchain") for it in others]
     packages.append(package("rattle-toolchain", kit, licenseDeclared="NOASSERTION"))
+    heap = {"algorithm": "SHA256", "checksumValue": hashlib.sha256((TOP / "bindings/c/heap.c").read_bytes()).hexdigest()}
+    packages.append(package("heap.c", version, **licence, checksums=[heap], comment="compiled into the library for aarch64; not proved"))
+    packages += [package(it, printed(it, "--version").splitlines()[0], licenseDeclared="NOASSERTION") for it in COMPILERS]
     relations = [relation("DOCUMENT", "DESCRIBES", NAME), relation("rattle-toolchain", "BUILD_TOOL_OF", NAME)]
+    relations += [relation(NAME, "CONTAINS", "heap.c"), *(relation(it, "BUILD_TOOL_OF", NAME) for it in COMPILERS)]
     relations += [relation(NAME, "CONTAINS", it) for it in all_of_them]
     relations += [relation(it, "DEPENDS_ON", used) for it in own for used in crates[it]]
     document = {
@@ -79,4 +89,7 @@ def main():
     print(json.dumps(document, indent=1))
 
 
-main()
+if sys.argv[1:2] == ["--sources"]:
+    print(checksum(sys.argv[2]))
+else:
+    main()

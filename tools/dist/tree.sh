@@ -1,29 +1,34 @@
 #!/bin/sh
-# Lays out the files of the archive. The packages take theirs from it.
+# Lays out the files of the archive of DIST_ARCH (env.sh). The packages take theirs from it.
 #
 #     tools/dist/tree.sh PROOF.txt TREE
 #
-# The library and the programs must have been built (tools/dist/prove.sh).
+# The libraries and the programs must have been built (tools/dist/prove.sh). The archive for aarch64 has no programs: the toolchain links
+# programs for x86-64 only.
 . "$(dirname "$0")/env.sh"
 proof=$1 tree=$2
 share=$tree/share
-mkdir -p "$tree/bin" "$tree/lib/pkgconfig" "$tree/lib/cmake/postscript" "$tree/include" "$tree/docs" "$tree/examples" "$tree/licences"
+mkdir -p "$tree/lib/pkgconfig" "$tree/lib/cmake/postscript" "$tree/include" "$tree/docs" "$tree/examples" "$tree/licences"
 
-make --no-print-directory -s -C "$top/bindings/c"
-cp "$top/bindings/c/build/libpostscript.a" "$top/bindings/c/build/libpostscript.so.0" "$tree/lib"
-for program in psotf psfont; do cp "$top/crates/$program/out/$program" "$tree/bin"; done
+cp "$libs/libpostscript.a" "$libs/libpostscript.so.0" "$tree/lib"
 # removes file names, line numbers and dates
-strip --strip-debug --enable-deterministic-archives --remove-section=.comment "$tree/lib/libpostscript.a"
-strip --strip-unneeded --remove-section=.comment "$tree/lib/libpostscript.so.0"
-strip --strip-all --remove-section=.comment "$tree/bin/psotf" "$tree/bin/psfont"
+"${cross}strip" --strip-debug --enable-deterministic-archives --remove-section=.comment "$tree/lib/libpostscript.a"
+"${cross}strip" --strip-unneeded --remove-section=.comment "$tree/lib/libpostscript.so.0"
 chmod 644 "$tree/lib"/libpostscript.*
-chmod 755 "$tree/bin"/*
+if [ "$arch" = x86_64 ]; then
+    mkdir "$tree/bin"
+    for program in psotf psfont; do cp "$top/crates/$program/out/$program" "$tree/bin"; done
+    strip --strip-all --remove-section=.comment "$tree/bin"/*
+    chmod 755 "$tree/bin"/*
+    "$top/tools/dist/pages.py" "$tree/bin/psotf" "$tree/bin/psfont" "$share"
+else
+    "$top/tools/dist/pages.py" "$share"
+fi
 
 cp "$top/bindings/c/postscript.h" "$tree/include"
 filled "$top/tools/dist/postscript.pc.in" 'PREFIX=${pcfiledir}/../..' 'LIBDIR=${prefix}/lib' > "$tree/lib/pkgconfig/postscript.pc"
-filled "$top/tools/dist/postscriptConfig.cmake.in" INCLUDE=../include > "$tree/lib/cmake/postscript/postscriptConfig.cmake"
+filled "$top/tools/dist/postscriptConfig.cmake.in" INCLUDE=../include "ARCH=$arch" > "$tree/lib/cmake/postscript/postscriptConfig.cmake"
 filled "$top/tools/dist/postscriptConfigVersion.cmake.in" > "$tree/lib/cmake/postscript/postscriptConfigVersion.cmake"
-"$top/tools/dist/pages.py" "$tree/bin/psotf" "$tree/bin/psfont" "$share"
 
 cp "$top/README.md" "$top/CHANGELOG.md" "$top/CONTRIBUTING.md" "$top/SECURITY.md" "$top/LICENSE-APACHE" "$top/LICENSE-MIT" "$tree"
 cp "$proof" "$tree/PROOF.txt"

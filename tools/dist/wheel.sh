@@ -3,8 +3,8 @@
 #
 #     tools/dist/wheel.sh TREE OUT
 #
-# Needs Debian's python3-build, python3-setuptools and python3-wheel. The wheel is for any Python 3 on x86-64, and for the version of the C
-# library whose symbols the library needs, or a newer one.
+# Needs Debian's python3-build, python3-setuptools and python3-wheel. The wheel is for any Python 3 on DIST_ARCH (env.sh), and for the version of
+# the C library whose symbols the library needs, or a newer one.
 . "$(dirname "$0")/env.sh"
 tree=$(cd "$1" && pwd) out=$(cd "$2" && pwd)
 work=$(mktemp -d)
@@ -13,8 +13,9 @@ cp -r "$top/bindings/python/postscript" "$top/bindings/python/pyproject.toml" "$
 find "$work" -name __pycache__ -prune -exec rm -r {} +
 cp "$tree/lib/libpostscript.so.0" "$work/postscript"
 cp "$tree/LICENSE-APACHE" "$tree/LICENSE-MIT" "$tree/PROOF.txt" "$work"
-# pip supports versions of the C library from 2.5
-libc=$(printf '2.5\n%s\n' "$(wanted_libc "$tree/lib/libpostscript.so.0")" | sort -V | tail -n 1 | cut -d . -f 1,2 | tr . _)
+# pip supports versions of the C library from 2.5; the first one for aarch64 is 2.17
+case $arch in x86_64) oldest=2.5 ;; *) oldest=2.17 ;; esac
+libc=$(printf '%s\n%s\n' $oldest "$(wanted_libc "$tree/lib/libpostscript.so.0")" | sort -V | tail -n 1 | cut -d . -f 1,2 | tr . _)
 cat > "$work/setup.py" << END
 from setuptools import Distribution, setup
 from wheel.bdist_wheel import bdist_wheel
@@ -27,7 +28,7 @@ class Built(Distribution):
 
 class Wheel(bdist_wheel):
     def get_tag(self):
-        return "py3", "none", "manylinux_${libc}_x86_64"
+        return "py3", "none", "manylinux_${libc}_$arch"
 
 
 setup(distclass=Built, cmdclass={"bdist_wheel": Wheel}, license_files=["LICENSE-APACHE", "LICENSE-MIT", "PROOF.txt"])
