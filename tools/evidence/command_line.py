@@ -132,6 +132,8 @@ def _(folder):
 @case("subset: what is left out is said once")
 def _(folder):
     _, said = subset(folder)
+    assert said == "psotf: tables dropped: FFTM GSUB; ligatures are lost\n", said
+    _, said = subset(folder, "--drop-layout")
     assert said == "psotf: tables dropped: FFTM GDEF GPOS GSUB; kerning and ligatures are lost\n", said
 
 
