@@ -36,7 +36,7 @@ pub fn draw_glyph<S: Sink>(
     ensures drawn { OnOk result (Gives S.after (S.state sink.old) (S.state sink.new) (DrawsGlyph font.now glyph place.now)) }
     // An error is justified: the glyph has no charstring, or drawing its charstring fails.
     ensures why { IfErr result (λ e. IsGlyphUndrawn font.now glyph place.now limit.new e) }
-    // On an error, if all coordinates stay in the range, the sink was given some first segments, or none.
+    // On an error with all coordinates in range, the sink was given first segments, or none.
     ensures front { OnErr result (DrawsGlyphFront S.after (S.state sink.old) (S.state sink.new) font.now glyph place.now) }
     // On an error it was given some first segments, and none of a stroke that leaves the range.
     ensures given { OnErr result (GivesGlyphFirst S.after (S.state sink.old) (S.state sink.new) font.now glyph place.now) }

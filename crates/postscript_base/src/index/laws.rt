@@ -5,6 +5,6 @@ ghost use Rattle.postscript_base.specs.Index.{OpensIndices, OpensNoOthers};
 pub fn opens_indices()
     // `opened` gives items and an end exactly if an INDEX with them is laid out there.
     ensures law { OpensIndices }
-    // `opened` fails exactly if the bytes end within the INDEX, or if the offset size is not from 1 to 4.
+    // `opened` fails exactly if the INDEX is truncated or its offset size is not from 1 to 4.
     ensures fails { OpensNoOthers }
 {}
