@@ -9,14 +9,14 @@ use Rattle.postscript_base.specs.Index.{number_at}
 use Rattle.postscript_layout.specs.Numbers.{word, long}
 use Rattle.postscript_layout_write.specs.Entries.{form_of}
 use Rattle.postscript_layout_write.specs.Holds.{Holds}
-use Rattle.postscript_layout_write.specs.Kerning.{ComeFirst, KeepsKerning, kept_pair}
+use Rattle.postscript_layout_write.specs.Kerning.{KeepsKerning, kept_pair}
 use Rattle.postscript_layout_write.specs.Lookups.{HasLookup, HasLookups}
 use Rattle.postscript_layout_write.specs.Pairs.{by_lookup, by_part, flag_of, found_in, lookup_at, lookups_of, or_nothing, pairs_at}
 use Rattle.postscript_layout_write.specs.Sets.{AreOffsets, HasSubtable}
 use Rattle.postscript_layout_write.specs.Text.{list_text, lookup_text, offsets_text, uint16}
 use Rattle.postscript_layout_write.specs.declared.entries.Form.{Form}
 use Rattle.postscript_layout_write.specs.declared.values.Adjustment.{Adjustment}
-use Rattle.postscript_layout_write.proofs.Firsts.{Found, first-cases, nat_cases, none_found, option_cases, some_found}
+use Rattle.postscript_layout_write.proofs.Firsts.{Found, first-cases, none_found, option_cases, some_found}
 use Rattle.postscript_layout_write.proofs.Holding.{holds-first, holds-in, holds-last, holds-second, holds-word, length-uint16}
 use Rattle.postscript_layout_write.proofs.Reading.{SubtableRead, is-nothing, length-offsets, not_there, offsets-read, subtable-read, there}
 
@@ -211,15 +211,3 @@ module _ (old kept new front offsets bytes : List ℕ) (far : 10 ≤ word old 8)
     flags = λ i less. flag-read (flag_of old i % 16) (kept_pair old kept (lookup_at old i)) new (lookup_at new i) (lookup-held i less);
     pairs = λ i x y less. lookup-read (flag_of old i % 16) (kept_pair old kept (lookup_at old i)) new (lookup_at new i) (lookup-held i less) x y;
   }
-
-pub list-far : (gpos : List ℕ) → (ComeFirst gpos → ⊥) → 10 ≤ word gpos 8
-list-far gpos never = elim (nat_cases (word gpos 8) 10) [
-  | inl near ↦ absurd (never (inl near))
-  | inr far ↦ far
-]
-
-pub list-within : (gpos : List ℕ) → (ComeFirst gpos → ⊥) → word gpos 8 ≤ length gpos
-list-within gpos never = elim (nat_cases (length gpos) (word gpos 8)) [
-  | inl past ↦ absurd (never (inr (inl past)))
-  | inr within ↦ within
-]

@@ -19,8 +19,3 @@ pub record KeepsKerning (old kept new : List ℕ) : Type 0 where
   pub lookups : lookups_of new ≡ lookups_of old
   pub flags : (i : ℕ) → i < lookups_of old → flag_of new i ≡ flag_of old i % 16
   pub pairs : (i x y : ℕ) → i < lookups_of old → adjustment new i x y ≡ kept_pair old kept (lookup_at old i) x y
-
--- the lookup list is past the end, or the script list or the feature list does not begin before it and after the header
-abbrev pub ComeFirst : (gpos : List ℕ) → Type 0
-ComeFirst gpos =
-    (word gpos 8 < 10) ⊎ (length gpos < word gpos 8) ⊎ (word gpos 8 ≤ word gpos 4) ⊎ (word gpos 8 ≤ word gpos 6)

@@ -1,9 +1,10 @@
 //! Writes a `GPOS` table with pair adjustments.
 ghost use Rattle.std.specs.Prelude.{◌≡◌, ◌⊎◌, true, false, ◌%◌, ◌^◌, ◌<◌, ◌≤◌, ◌++◌, length, slice_range, IfErr, IfOk, OnOk};
-ghost use Rattle.postscript_layout_write.specs.Kerning.{ComeFirst, KeepsKerning, kept_pair};
+ghost use Rattle.postscript_layout_write.specs.Kerning.{KeepsKerning, kept_pair};
 ghost use Rattle.postscript_layout_write.specs.Lookups.{AddsForms, AreForms, HasLookups, PutsList, PutsLookup};
 ghost use Rattle.postscript_layout_write.specs.Pairs.{flag_of, lookup_at as the_lookup, lookups_of};
 ghost use Rattle.postscript_layout_write.specs.Refusals.{Fails, IsUsedUp, Refuses};
+ghost use Rattle.postscript_layout_write.specs.ScriptLists.{ListsAreFirst};
 ghost use Rattle.postscript_layout_write.specs.Sets.{AddsSubtable};
 ghost use Rattle.postscript_layout_write.specs.Text.{uint16 as the_uint16};
 ghost use Rattle.postscript_layout_write.specs.declared.error.Error.TheVariants as errors;
@@ -12,6 +13,7 @@ use crate::entries::{Entry, Form, entries_of};
 use crate::error::{Error, Result};
 use crate::limit::pay;
 use crate::numbers::{put_uint16, word};
+use crate::script_lists::lists_are_first;
 use crate::subtables::{Sets, put_offsets, put_subtable};
 use std::alloc::{AllocError, Global};
 
@@ -164,15 +166,6 @@ fn put_list(
     Ok(())
 }
 
-/// Returns whether the lookup list does not follow the header, the script list and the feature list, or is past the end.
-fn come_first(gpos: &[u8]) -> bool
-    ensures yes { result ≡ true → ComeFirst gpos.now }
-    ensures no { result ≡ false → ComeFirst gpos.now → ⊥ }
-{
-    let list = word(gpos, 8);
-    list < 10 || gpos.len() < list || list <= word(gpos, 4) || list <= word(gpos, 6)
-}
-
 /// Returns a `GPOS` table with the pair adjustments of the kept glyphs.
 ///
 /// `kept` has the old numbers of the glyphs. The new number of a glyph is its index there. The new table has version 1.0, the
@@ -181,7 +174,8 @@ fn come_first(gpos: &[u8]) -> bool
 ///
 /// # Errors
 ///
-/// - `LookupsComeFirst`: the lookup list does not follow the script list and the feature list, or it is past the end of the table.
+/// - `ListsAreNotFirst`: the script list or the feature list, or a table that they name, does not end before the lookup list, or
+///   the lookup list is past the end of the table.
 /// - `TooLarge`: an offset or a count would exceed 16 bits.
 /// - `TooLong`: the table costs more than the limit.
 /// - `Memory`: out of memory.
@@ -192,14 +186,15 @@ pub fn kerning(alloc: Global, gpos: &[u8], kept: &[u16], limit: &mut u64) -> Res
     ensures spends { limit.new ≤ limit.old }
     // Each error has its cause.
     ensures why { IfErr result (λ e. Refuses e gpos.now limit.new) }
-    // A table whose lookup list comes first is refused.
-    ensures order { OnOk result (ComeFirst gpos.now → ⊥) }
+    // The script list and the feature list end before the lookup list.
+    ensures first { OnOk result (ListsAreFirst gpos.now) }
 {
-    if come_first(gpos) {
-        return Err(Error::LookupsComeFirst);
-    }
     if kept.len() > 65535 {
         return Err(Error::TooLarge);
+    }
+    let first = lists_are_first(gpos, limit)?;
+    if !first {
+        return Err(Error::ListsAreNotFirst);
     }
     let list = word(gpos, 8);
     let mut out = Vec::new(alloc);
