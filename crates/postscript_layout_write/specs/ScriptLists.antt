@@ -1,6 +1,6 @@
 -- The script list and the feature list (OpenType 1.9, "OpenType Layout Common Table Formats"; ISO/IEC 14496-22, 6.2), and whether they end before an
 -- offset, with all tables that they name.
-use Rattle.std.specs.Prelude.{◌≡◌, ◌⊎◌, ℕ, ◌+◌, ◌*◌, ◌/◌, ◌<◌, ◌≤◌, ◌==◌, List, length, if◌then◌else◌}
+use Rattle.std.specs.Prelude.{◌≡◌, ◌⊎◌, ℕ, ◌+◌, ◌*◌, ◌/◌, ◌<◌, ◌≤◌, ◌==◌, List, if◌then◌else◌}
 use Rattle.postscript_layout.specs.Numbers.{word, long}
 
 -- the table that record i of a list names; a record is a tag and an offset, and the records begin at an offset
@@ -38,9 +38,13 @@ pub record FeaturesEnd (gpos : List ℕ) (end : ℕ) : Type 0 where
   pub features : (i : ℕ) → i < word gpos (word gpos 6) →
       FeatureEnds gpos end (long gpos (word gpos 6 + 2 + i * 6)) (named gpos (word gpos 6) (word gpos 6 + 2) i)
 
--- the header, the script list and the feature list end before the lookup list, which begins in the table
-pub record ListsAreFirst (gpos : List ℕ) : Type 0 where
-  pub header : 10 ≤ word gpos 8
-  pub within : word gpos 8 ≤ length gpos
-  pub scripts : ScriptsEnd gpos (word gpos 8)
-  pub features : FeaturesEnd gpos (word gpos 8)
+-- the header, the script list and the feature list end before an offset
+pub record ListsEnd (gpos : List ℕ) (end : ℕ) : Type 0 where
+  pub header : 10 ≤ end
+  pub scripts : ScriptsEnd gpos end
+  pub features : FeaturesEnd gpos end
+
+-- the least number with a property
+pub record IsLeast (P : ℕ → Type 0) (n : ℕ) : Type 0 where
+  pub holds : P n
+  pub least : (m : ℕ) → P m → n ≤ m

@@ -1,12 +1,21 @@
 //! The script list and the feature list.
-ghost use Rattle.std.specs.Prelude.{◌≡◌, ◌⊎◌, ◌+◌, ◌*◌, ◌^◌, ◌<◌, ◌≤◌, ◌↔◌, IsTrue, IfErr, IfOk};
+ghost use Rattle.std.specs.Prelude.{◌≡◌, ◌⊎◌, ℕ, ◌+◌, ◌*◌, ◌^◌, ◌<◌, ◌≤◌, IfErr, IfOk};
 ghost use Rattle.postscript_layout.specs.Numbers.{word as the_word};
 ghost use Rattle.postscript_layout_write.specs.Refusals.{IsUsedUp};
-ghost use Rattle.postscript_layout_write.specs.ScriptLists.{FeatureEnds, FeaturesEnd, LanguageEnds, ListsAreFirst, ScriptEnds, ScriptsEnd, named as the_named, parameters_size as the_size};
+ghost use Rattle.postscript_layout_write.specs.ScriptLists.{FeatureEnds, FeaturesEnd, IsLeast, LanguageEnds, ListsEnd, ScriptEnds, ScriptsEnd, named as the_named, parameters_size as the_size};
 
 use crate::error::Result;
 use crate::limit::pay;
 use crate::numbers::{long, word};
+
+/// Returns the greater one of two offsets.
+fn later(a: usize, b: usize) -> usize
+    ensures a { a ≤ result }
+    ensures b { b ≤ result }
+    ensures least { (m : ℕ) → a ≤ m → b ≤ m → result ≤ m }
+{
+    if a < b { b } else { a }
+}
 
 /// Returns the offset of the table that record `i` of a list names.
 fn named(gpos: &[u8], from: usize, records: usize, i: usize) -> usize
@@ -19,62 +28,58 @@ fn named(gpos: &[u8], from: usize, records: usize, i: usize) -> usize
     from + word(gpos, records + i * 6 + 4)
 }
 
-/// Returns whether a language system table ends before an offset.
-fn language_ends(gpos: &[u8], end: usize, language: usize) -> bool
+/// Returns the end of a language system table.
+fn language_end(gpos: &[u8], language: usize) -> usize
     requires { language < 2 ^ 31 }
-    ensures { IsTrue result ↔ LanguageEnds gpos.now end language }
+    ensures { IsLeast (λ end. LanguageEnds gpos.now end language) result }
 {
-    language + 6 + word(gpos, language + 4) * 2 <= end
+    language + 6 + word(gpos, language + 4) * 2
 }
 
-/// Returns whether a script table has no default language system, or one that ends before an offset.
-fn default_ends(gpos: &[u8], end: usize, script: usize) -> bool
+/// Returns the end of the default language system table of a script, or 0 if there is none.
+fn default_end(gpos: &[u8], script: usize) -> usize
     requires { script < 2 ^ 30 }
-    ensures { IsTrue result ↔ ((the_word gpos.now script ≡ 0) ⊎ LanguageEnds gpos.now end (script + the_word gpos.now script)) }
+    ensures { IsLeast (λ end. (the_word gpos.now script ≡ 0) ⊎ LanguageEnds gpos.now end (script + the_word gpos.now script)) result }
 {
     let offset = word(gpos, script);
-    offset == 0 || language_ends(gpos, end, script + offset)
+    if offset == 0 {
+        0
+    } else {
+        language_end(gpos, script + offset)
+    }
 }
 
-/// Returns whether a script table ends before an offset, with its language systems.
-fn script_ends(gpos: &[u8], end: usize, script: usize, limit: &mut u64) -> Result<bool>
+/// Returns the end of a script table and its language systems.
+fn script_end(gpos: &[u8], script: usize, limit: &mut u64) -> Result<usize>
     requires { script < 2 ^ 29 }
-    ensures exact { IfOk result (λ ends. IsTrue ends ↔ ScriptEnds gpos.now end script) }
+    ensures exact { IfOk result (λ end. IsLeast (λ m. ScriptEnds gpos.now m script) end) }
     ensures spends { limit.new ≤ limit.old }
     ensures why { IfErr result (λ e. IsUsedUp limit.new e) }
 {
     let count = word(gpos, script + 2);
-    if script + 4 + count * 6 > end || !default_ends(gpos, end, script) {
-        return Ok(false);
-    }
+    let mut end = later(script + 4 + count * 6, default_end(gpos, script));
     for j in 0..count {
         pay(limit)?;
-        if !language_ends(gpos, end, named(gpos, script, script + 4, j)) {
-            return Ok(false);
-        }
+        end = later(end, language_end(gpos, named(gpos, script, script + 4, j)));
     }
-    Ok(true)
+    Ok(end)
 }
 
-/// Returns whether the script list ends before an offset, with all its tables.
-fn scripts_end(gpos: &[u8], end: usize, limit: &mut u64) -> Result<bool>
-    ensures exact { IfOk result (λ ends. IsTrue ends ↔ ScriptsEnd gpos.now end) }
+/// Returns the end of the script list and all its tables.
+fn scripts_end(gpos: &[u8], limit: &mut u64) -> Result<usize>
+    ensures exact { IfOk result (λ end. IsLeast (λ m. ScriptsEnd gpos.now m) end) }
     ensures spends { limit.new ≤ limit.old }
     ensures why { IfErr result (λ e. IsUsedUp limit.new e) }
 {
     let list = word(gpos, 4);
     let count = word(gpos, list);
-    if list + 2 + count * 6 > end {
-        return Ok(false);
-    }
+    let mut end = list + 2 + count * 6;
     for i in 0..count {
         pay(limit)?;
-        let ends = script_ends(gpos, end, named(gpos, list, list + 2, i), limit)?;
-        if !ends {
-            return Ok(false);
-        }
+        let script = script_end(gpos, named(gpos, list, list + 2, i), limit)?;
+        end = later(end, script);
     }
-    Ok(true)
+    Ok(end)
 }
 
 /// Returns the size of the parameters of a feature.
@@ -94,53 +99,52 @@ fn parameters_size(gpos: &[u8], tag: usize, parameters: usize) -> usize
     }
 }
 
-/// Returns whether a feature table ends before an offset, with its parameters.
-fn feature_ends(gpos: &[u8], end: usize, tag: usize, feature: usize) -> bool
+/// Returns the end of the parameters of a feature, or 0 if there are none.
+fn parameters_end(gpos: &[u8], tag: usize, feature: usize) -> usize
     requires { feature < 2 ^ 30 }
-    ensures { IsTrue result ↔ FeatureEnds gpos.now end tag feature }
+    ensures { IsLeast (λ end. (the_word gpos.now feature ≡ 0) ⊎ (feature + the_word gpos.now feature + the_size gpos.now tag (feature + the_word gpos.now feature) ≤ end)) result }
 {
-    if feature + 4 + word(gpos, feature + 2) * 2 > end {
-        return false;
-    }
     let offset = word(gpos, feature);
-    offset == 0 || feature + offset + parameters_size(gpos, tag, feature + offset) <= end
+    if offset == 0 {
+        0
+    } else {
+        feature + offset + parameters_size(gpos, tag, feature + offset)
+    }
 }
 
-/// Returns whether the feature list ends before an offset, with all its tables.
-fn features_end(gpos: &[u8], end: usize, limit: &mut u64) -> Result<bool>
-    ensures exact { IfOk result (λ ends. IsTrue ends ↔ FeaturesEnd gpos.now end) }
+/// Returns the end of a feature table and its parameters.
+fn feature_end(gpos: &[u8], tag: usize, feature: usize) -> usize
+    requires { feature < 2 ^ 30 }
+    ensures { IsLeast (λ end. FeatureEnds gpos.now end tag feature) result }
+{
+    let indices = feature + 4 + word(gpos, feature + 2) * 2;
+    later(indices, parameters_end(gpos, tag, feature))
+}
+
+/// Returns the end of the feature list and all its tables.
+fn features_end(gpos: &[u8], limit: &mut u64) -> Result<usize>
+    ensures exact { IfOk result (λ end. IsLeast (λ m. FeaturesEnd gpos.now m) end) }
     ensures spends { limit.new ≤ limit.old }
     ensures why { IfErr result (λ e. IsUsedUp limit.new e) }
 {
     let list = word(gpos, 6);
     let count = word(gpos, list);
-    if list + 2 + count * 6 > end {
-        return Ok(false);
-    }
+    let mut end = list + 2 + count * 6;
     for i in 0..count {
         pay(limit)?;
         let tag = long(gpos, list + 2 + i * 6);
-        if !feature_ends(gpos, end, tag, named(gpos, list, list + 2, i)) {
-            return Ok(false);
-        }
+        end = later(end, feature_end(gpos, tag, named(gpos, list, list + 2, i)));
     }
-    Ok(true)
+    Ok(end)
 }
 
-/// Returns whether the header, the script list and the feature list end before the lookup list, which begins in the table.
-pub(crate) fn lists_are_first(gpos: &[u8], limit: &mut u64) -> Result<bool>
-    ensures exact { IfOk result (λ first. IsTrue first ↔ ListsAreFirst gpos.now) }
+/// Returns the end of the header, the script list and the feature list, with all tables that they name.
+pub(crate) fn lists_end(gpos: &[u8], limit: &mut u64) -> Result<usize>
+    ensures exact { IfOk result (λ end. IsLeast (λ m. ListsEnd gpos.now m) end) }
     ensures spends { limit.new ≤ limit.old }
     ensures why { IfErr result (λ e. IsUsedUp limit.new e) }
 {
-    let end = word(gpos, 8);
-    if end < 10 || end > gpos.len() {
-        return Ok(false);
-    }
-    let scripts = scripts_end(gpos, end, limit)?;
-    if !scripts {
-        return Ok(false);
-    }
-    let features = features_end(gpos, end, limit)?;
-    Ok(features)
+    let scripts = scripts_end(gpos, limit)?;
+    let features = features_end(gpos, limit)?;
+    Ok(later(10, later(scripts, features)))
 }
