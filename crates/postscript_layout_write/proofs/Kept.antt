@@ -1,22 +1,21 @@
 -- Lookups that were written are read as their pairs, and the whole table.
 use Rattle.std.proofs.Common.{◌≡◌, refl, sym, ap, subst, ◌∙◌, inl, inr, ℕ, ◌+◌, ◌-◌, ◌*◌, ◌%◌, ◌≤◌, ◌<◌, ◌==◌, List, [], ◌++◌, length, length-append, length-drop, get_or, take, drop, arith, Bool}
 use Rattle.std.specs.Prelude.{Option, None, Some, slice_range, if◌then◌else◌}
-use Rattle.std.proofs.lemmas.Bool.{eq-eqb, le-ltb}
-use Rattle.std.proofs.lemmas.List.{append_assoc, drop-drop, drop-take, length-take-le, take-take}
-use Rattle.std.proofs.Math.Seq.{take-append_seam}
-use Rattle.postscript_base.specs.Numbers.{big_endian}
-use Rattle.postscript_base.specs.Index.{number_at}
+use Rattle.std.proofs.lemmas.Bool.{eq-eqb}
+use Rattle.std.proofs.lemmas.List.{length-take-le}
+use Rattle.std.proofs.Math.Seq.{drop-append_seam, take-append_seam}
 use Rattle.postscript_layout.specs.Numbers.{word, long}
 use Rattle.postscript_layout_write.specs.Entries.{form_of}
 use Rattle.postscript_layout_write.specs.Holds.{Holds}
-use Rattle.postscript_layout_write.specs.Kerning.{ComeFirst, KeepsKerning, kept_pair}
+use Rattle.postscript_layout_write.specs.Kerning.{KeepsKerning, KeepsLists, kept_pair}
 use Rattle.postscript_layout_write.specs.Lookups.{HasLookup, HasLookups}
 use Rattle.postscript_layout_write.specs.Pairs.{by_lookup, by_part, flag_of, found_in, lookup_at, lookups_of, or_nothing, pairs_at}
+use Rattle.postscript_layout_write.specs.ScriptLists.{ListsEnd}
 use Rattle.postscript_layout_write.specs.Sets.{AreOffsets, HasSubtable}
-use Rattle.postscript_layout_write.specs.Text.{list_text, lookup_text, offsets_text, uint16}
+use Rattle.postscript_layout_write.specs.Text.{front_text, list_text, lookup_text, offsets_text, uint16}
 use Rattle.postscript_layout_write.specs.declared.entries.Form.{Form}
 use Rattle.postscript_layout_write.specs.declared.values.Adjustment.{Adjustment}
-use Rattle.postscript_layout_write.proofs.Firsts.{Found, first-cases, nat_cases, none_found, option_cases, some_found}
+use Rattle.postscript_layout_write.proofs.Firsts.{Found, first-cases, none_found, option_cases, some_found}
 use Rattle.postscript_layout_write.proofs.Holding.{holds-first, holds-in, holds-last, holds-second, holds-word, length-uint16}
 use Rattle.postscript_layout_write.proofs.Reading.{SubtableRead, is-nothing, length-offsets, not_there, offsets-read, subtable-read, there}
 
@@ -117,109 +116,97 @@ module _ (flag : ℕ) (f : (x y : ℕ) → Adjustment) (t : List ℕ) (l : ℕ) 
           let s = has.each j within in
           sound s.0 (f x y) a _ (pair-of j x y s.0 within s.1) is)
 
--- the script list and the feature list, and the offset of the lookup list
-same-two : (xs ys : List ℕ) (n k : ℕ) → k + 2 ≤ n → take n xs ≡ take n ys → take 2 (drop k xs) ≡ take 2 (drop k ys)
-same-two xs ys n k less same =
-    let cut : (zs : List ℕ) → take 2 (drop k zs) ≡ take 2 (drop k (take n zs)) =
-    (λ zs. sym (take-take 2 (n - k) (drop k zs) (omega (arith, less))) ∙ ap (take 2) (sym (drop-take k (n - k) zs))
-    ∙ ap (λ m. take 2 (drop k (take m zs))) (omega (arith, less))) in
-    cut xs ∙ ap (λ zs. take 2 (drop k zs)) same ∙ sym (cut ys)
+-- a text is the bytes from its offset on
+slice-held : (text bytes : List ℕ) (at : ℕ) → Holds text bytes at → take (length text) (drop at bytes) ≡ text
+slice-held text bytes at h = ap (λ xs. take (length text) (drop at xs)) h.is
+    ∙ ap (λ n. take (length text) (drop n (h.front ++ (text ++ h.behind)))) (sym h.place)
+    ∙ ap (take (length text)) (drop-append_seam h.front (text ++ h.behind)) ∙ take-append_seam text h.behind
 
-same-word : (xs ys : List ℕ) (n k : ℕ) → k + 2 ≤ n → 4 + n ≤ length xs → 4 + n ≤ length ys → take n (drop 4 xs) ≡ take n (drop 4 ys) →
-    word xs (4 + k) ≡ word ys (4 + k)
-unfolding number_at
-same-word xs ys n k less a b same =
-    let two = same-two (drop 4 xs) (drop 4 ys) n k less same in
-    let two-at : take 2 (drop (4 + k) xs) ≡ take 2 (drop (4 + k) ys) = ap (take 2) (sym (drop-drop k 4 xs)) ∙ two ∙ ap (take 2) (drop-drop k 4 ys) in
-    ap (λ (t : Bool). if t then 0 else number_at xs (4 + k) 2) (le-ltb (length xs) (4 + k + 2) (omega (arith, less, a)))
-    ∙ ap big_endian two-at
-    ∙ sym (ap (λ (t : Bool). if t then 0 else number_at ys (4 + k) 2) (le-ltb (length ys) (4 + k + 2) (omega (arith, less, b))))
+length-slice : (xs : List ℕ) (a b : ℕ) → a ≤ b → b ≤ length xs → length (slice_range xs a b) ≡ b - a
+length-slice xs a b less within = length-take-le (b - a) (drop a xs) (let d = length-drop a xs in omega (arith, d, within, less))
 
-module _ (old kept new front offsets bytes : List ℕ) (far : 10 ≤ word old 8) (within : word old 8 ≤ length old)
-    (begins : front ≡ (uint16 1 ++ uint16 0) ++ slice_range old 4 (word old 8)) (is : new ≡ front ++ list_text offsets bytes)
+module _ (old kept new offsets bytes : List ℕ) (end : ℕ) (lists : ListsEnd old end) (small : end < 65536) (within : end ≤ length old)
+    (is : new ≡ front_text old end ++ list_text offsets bytes)
     (has : HasLookups old kept (lookups_of old) offsets bytes) (few : length offsets ≤ 32766) (fit : AreOffsets (2 + length offsets * 2) offsets) where
-  size : ℕ
-  size = word old 8
+  header : 10 ≤ end
+  header = lists.header
 
-  lists : List ℕ
-  lists = slice_range old 4 (word old 8)
+  front-held : Holds (front_text old end) new 0
+  front-held = record { front = []; behind = list_text offsets bytes; is = is; place = refl }
 
-  length-lists : length lists ≡ word old 8 - 4
-  unfolding lists
-  length-lists = length-take-le (word old 8 - 4) (drop 4 old) (let d = length-drop 4 old in omega (arith, d, within, far))
+  length-four : length (slice_range old 4 8) ≡ 4
+  length-four = (let far = header in length-slice old 4 8 (omega arith) (omega (arith, far, within)))
 
-  length-front : length front ≡ word old 8
-  unfolding lists
-  length-front = (let a = ap length begins in let b = length-append (uint16 1 ++ uint16 0) (slice_range old 4 (word old 8)) in
-      let c = length-append (uint16 1) (uint16 0) in let d = length-uint16 1 in let e = length-uint16 0 in let g = length-lists in
-      omega (arith, a, b, c, d, e, g, far))
+  after-version : Holds (uint16 0 ++ (slice_range old 4 8 ++ (uint16 end ++ slice_range old 10 end))) new 2
+  unfolding front_text
+  after-version = holds-second (uint16 1) _ 2 (length-uint16 1) front-held
 
-  front-held : Holds ((uint16 1 ++ uint16 0) ++ slice_range old 4 (word old 8)) new 0
-  front-held = record { front = []; behind = list_text offsets bytes; is = is ∙ ap (λ xs. xs ++ list_text offsets bytes) begins; place = refl }
+  four-held : Holds (slice_range old 4 8 ++ (uint16 end ++ slice_range old 10 end)) new 4
+  four-held = holds-second (uint16 0) _ 2 (length-uint16 0) after-version
 
-  versions : Holds (uint16 1 ++ uint16 0) new 0
-  versions = holds-first (uint16 1 ++ uint16 0) (slice_range old 4 (word old 8)) front-held
+  end-held : Holds (uint16 end ++ slice_range old 10 end) new 8
+  end-held = holds-second (slice_range old 4 8) _ 4 length-four four-held
 
-  lists-held : slice_range new 4 (word old 8) ≡ slice_range old 4 (word old 8)
-  unfolding lists uint16
-  lists-held =
-      let all : new ≡ (uint16 1 ++ uint16 0) ++ (lists ++ list_text offsets bytes) =
-      is ∙ ap (λ xs. xs ++ list_text offsets bytes) begins ∙ append_assoc (uint16 1 ++ uint16 0) lists (list_text offsets bytes) in
-      ap (λ xs. take (word old 8 - 4) (drop 4 xs)) all
-      ∙ ap (λ n. take n (lists ++ list_text offsets bytes)) (sym length-lists) ∙ take-append_seam lists (list_text offsets bytes)
+  tables-held : Holds (slice_range old 10 end) new 10
+  tables-held = holds-second (uint16 end) (slice_range old 10 end) 2 (length-uint16 end) end-held
 
-  new-long : word old 8 ≤ length new
-  new-long = (let a = ap length is in let b = length-append front (list_text offsets bytes) in let c = length-front in omega (arith, a, b, c))
+  list-at : word new 8 ≡ end
+  list-at = holds-word end small (holds-first (uint16 end) (slice_range old 10 end) end-held)
 
-  list-at : word new 8 ≡ word old 8
-  list-at = same-word new old (word old 8 - 4) 4 (omega (arith, far)) (let long-enough = new-long in omega (arith, far, long-enough)) (omega (arith, far, within)) lists-held
+  first-at : word new 0 ≡ 1
+  unfolding front_text
+  first-at = holds-word 1 (omega arith) (holds-first (uint16 1) _ front-held)
 
-  list-held : Holds (list_text offsets bytes) new (word old 8)
+  length-front : length (front_text old end) ≡ end
+  unfolding front_text
+  length-front = (let far = header in
+      let a = length-append (uint16 1) (uint16 0 ++ (slice_range old 4 8 ++ (uint16 end ++ slice_range old 10 end))) in
+      let b = length-append (uint16 0) (slice_range old 4 8 ++ (uint16 end ++ slice_range old 10 end)) in
+      let c = length-append (slice_range old 4 8) (uint16 end ++ slice_range old 10 end) in
+      let d = length-append (uint16 end) (slice_range old 10 end) in
+      let e = length-slice old 10 end far within in let f = length-four in
+      omega (arith, a, b, c, d, e, f, length-uint16 1, length-uint16 0, length-uint16 end, far))
+
+  list-held : Holds (list_text offsets bytes) new end
   list-held = subst (λ n. Holds (list_text offsets bytes) new n) length-front
-      (subst (λ (xs : List ℕ). Holds (list_text offsets bytes) xs (length front)) (sym is) (holds-last front (list_text offsets bytes)))
+      (subst (λ (xs : List ℕ). Holds (list_text offsets bytes) xs (length (front_text old end))) (sym is) (holds-last (front_text old end) (list_text offsets bytes)))
 
-  many-read : word new (word old 8) ≡ length offsets
+  keeps-lists : KeepsLists old new
+  keeps-lists = record {
+    version = (first-at, holds-word 0 (omega arith) (holds-first (uint16 0) _ after-version));
+    offsets = ap (λ n. take n (drop 4 new)) (sym length-four) ∙ slice-held (slice_range old 4 8) new 4 (holds-first (slice_range old 4 8) _ four-held);
+    end = subst (ListsEnd old) (sym list-at) lists;
+    tables = ap (λ n. slice_range new 10 n) list-at
+        ∙ ap (λ n. take n (drop 10 new)) (sym (length-slice old 10 end header within)) ∙ slice-held (slice_range old 10 end) new 10 tables-held
+        ∙ ap (λ n. slice_range old 10 n) (sym list-at);
+  }
+
+  many-read : word new end ≡ length offsets
   unfolding list_text
   many-read = holds-word (length offsets) (omega (arith, few)) (holds-first (uint16 (length offsets)) _ list-held)
 
-  rest-held : Holds (offsets_text (2 + length offsets * 2) offsets ++ bytes) new (word old 8 + 2)
+  rest-held : Holds (offsets_text (2 + length offsets * 2) offsets ++ bytes) new (end + 2)
   unfolding list_text
   rest-held = holds-second (uint16 (length offsets)) _ 2 (length-uint16 (length offsets)) list-held
 
-  lookups-held : Holds bytes new (word old 8 + 2 + length offsets * 2)
+  lookups-held : Holds bytes new (end + 2 + length offsets * 2)
   lookups-held = holds-second (offsets_text (2 + length offsets * 2) offsets) bytes (length offsets * 2) (length-offsets (2 + length offsets * 2) offsets) rest-held
 
-  place-read : (i : ℕ) → i < lookups_of old → lookup_at new i ≡ word old 8 + 2 + length offsets * 2 + get_or offsets i 0
+  place-read : (i : ℕ) → i < lookups_of old → lookup_at new i ≡ end + 2 + length offsets * 2 + get_or offsets i 0
   place-read i less = (let many = has.many in
-      let at = offsets-read new (word old 8 + 2) (2 + length offsets * 2) offsets i (omega (arith, less, many)) fit
+      let at = offsets-read new (end + 2) (2 + length offsets * 2) offsets i (omega (arith, less, many)) fit
       (holds-first (offsets_text (2 + length offsets * 2) offsets) bytes rest-held) in
-      ap (λ n. n + word new (n + 2 + i * 2)) list-at ∙ ap (λ n. word old 8 + n) at ∙ omega arith)
+      ap (λ n. n + word new (n + 2 + i * 2)) list-at ∙ ap (λ n. end + n) at ∙ omega arith)
 
   lookup-held : (i : ℕ) → i < lookups_of old → HasLookup (flag_of old i % 16) (kept_pair old kept (lookup_at old i)) new (lookup_at new i)
   lookup-held i less = subst (HasLookup (flag_of old i % 16) (kept_pair old kept (lookup_at old i)) new) (sym (place-read i less))
-      (lookup-in (flag_of old i % 16) (kept_pair old kept (lookup_at old i)) new bytes (word old 8 + 2 + length offsets * 2) (get_or offsets i 0) lookups-held
+      (lookup-in (flag_of old i % 16) (kept_pair old kept (lookup_at old i)) new bytes (end + 2 + length offsets * 2) (get_or offsets i 0) lookups-held
       (has.each i less))
 
   pub keeps : KeepsKerning old kept new
   keeps = record {
-    version = (
-      holds-word 1 (omega arith) (holds-first (uint16 1) (uint16 0) versions),
-      holds-word 0 (omega arith) (holds-second (uint16 1) (uint16 0) 2 (length-uint16 1) versions),
-    );
-    before = lists-held;
+    lists = keeps-lists;
     lookups = ap (word new) list-at ∙ many-read ∙ has.many;
     flags = λ i less. flag-read (flag_of old i % 16) (kept_pair old kept (lookup_at old i)) new (lookup_at new i) (lookup-held i less);
     pairs = λ i x y less. lookup-read (flag_of old i % 16) (kept_pair old kept (lookup_at old i)) new (lookup_at new i) (lookup-held i less) x y;
   }
-
-pub list-far : (gpos : List ℕ) → (ComeFirst gpos → ⊥) → 10 ≤ word gpos 8
-list-far gpos never = elim (nat_cases (word gpos 8) 10) [
-  | inl near ↦ absurd (never (inl near))
-  | inr far ↦ far
-]
-
-pub list-within : (gpos : List ℕ) → (ComeFirst gpos → ⊥) → word gpos 8 ≤ length gpos
-list-within gpos never = elim (nat_cases (length gpos) (word gpos 8)) [
-  | inl past ↦ absurd (never (inr (inl past)))
-  | inr within ↦ within
-]

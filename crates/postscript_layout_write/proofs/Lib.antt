@@ -8,3 +8,4 @@ pub mod Reading
 pub mod Collecting
 pub mod Kept
 pub mod Classed
+pub mod Ends

@@ -4,7 +4,7 @@ use Rattle.std.specs.Prelude.{◌≡◌, ℕ, ◌<◌, ◌≤◌, ◌==◌, List
 use Rattle.postscript_layout.specs.Numbers.{word}
 use Rattle.postscript_layout_write.specs.Ranges.{class_of}
 use Rattle.postscript_layout_write.specs.declared.error.Error.{Error}
-use Rattle.postscript_layout_write.specs.declared.error.Error.TheVariants.{LookupsComeFirst, Memory, TooLarge, TooLong}
+use Rattle.postscript_layout_write.specs.declared.error.Error.TheVariants.{ListsTooLong, Memory, TooLarge, TooLong}
 
 -- a class of 1 to 4, or 0 for any other number
 abbrev pub known : (class : ℕ) → ℕ
@@ -32,4 +32,4 @@ abbrev pub RefusesClasses : Error → (kept : List ℕ) → (left : ℕ) → Typ
 RefusesClasses Memory kept left = Unit {0}
 RefusesClasses TooLong kept left = left ≡ 0
 RefusesClasses TooLarge kept left = 65535 < length kept
-RefusesClasses LookupsComeFirst kept left = ⊥
+RefusesClasses ListsTooLong kept left = ⊥

@@ -11,3 +11,4 @@ pub mod Sets
 pub mod Holds
 pub mod Kerning
 pub mod Lookups
+pub mod ScriptLists

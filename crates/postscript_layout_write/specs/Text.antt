@@ -1,5 +1,5 @@
 -- Tables as they are written. Only contracts of private functions and proofs name this.
-use Rattle.std.specs.Prelude.{◌≡◌, ℕ, ◌+◌, ◌*◌, ◌<◌, ◌≤◌, List, [], ◌∷◌, ◌++◌, Option, None, Some, length, map}
+use Rattle.std.specs.Prelude.{◌≡◌, ℕ, ◌+◌, ◌*◌, ◌<◌, ◌≤◌, List, [], ◌∷◌, ◌++◌, Option, None, Some, length, map, slice_range}
 use Rattle.std.specs.Int.{to_be_bytes, w16}
 use Rattle.std.specs.List.{All, Contains}
 use Rattle.postscript_layout_write.specs.Entries.{form_of}
@@ -105,3 +105,7 @@ lookup_text flag offsets subtables =
 -- a lookup list
 unfoldable pub list_text : (offsets lookups : List ℕ) → List ℕ
 list_text offsets lookups = uint16 (length offsets) ++ (offsets_text (2 + length offsets * 2) offsets ++ lookups)
+
+-- the header, and the script list and the feature list of the old table
+unfoldable pub front_text : (gpos : List ℕ) → (end : ℕ) → List ℕ
+front_text gpos end = uint16 1 ++ (uint16 0 ++ (slice_range gpos 4 8 ++ (uint16 end ++ slice_range gpos 10 end)))

@@ -20,9 +20,9 @@ pub enum Error {
     /// An offset or a count of the new table would exceed 16 bits.
     #[error("the new table is too large for offsets of 16 bits")]
     TooLarge,
-    /// The lookup list does not follow the script list and the feature list, or it is past the end of the table.
-    #[error("the lookup list is not after the script list and the feature list")]
-    LookupsComeFirst,
+    /// The script list and the feature list do not end within the table, or within its first 65,535 bytes.
+    #[error("the script list and the feature list are truncated or too long")]
+    ListsTooLong,
 }
 
 /// Converts a failed allocation to `Memory`.

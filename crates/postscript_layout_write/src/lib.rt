@@ -10,6 +10,7 @@ mod numbers;
 mod pairs;
 mod positioning;
 mod ranges;
+mod script_lists;
 mod subtables;
 mod values;
 

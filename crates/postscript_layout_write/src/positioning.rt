@@ -1,17 +1,18 @@
 //! Writes a `GPOS` table with pair adjustments.
 ghost use Rattle.std.specs.Prelude.{◌≡◌, ◌⊎◌, true, false, ◌%◌, ◌^◌, ◌<◌, ◌≤◌, ◌++◌, length, slice_range, IfErr, IfOk, OnOk};
-ghost use Rattle.postscript_layout_write.specs.Kerning.{ComeFirst, KeepsKerning, kept_pair};
+ghost use Rattle.postscript_layout_write.specs.Kerning.{KeepsKerning, kept_pair};
 ghost use Rattle.postscript_layout_write.specs.Lookups.{AddsForms, AreForms, HasLookups, PutsList, PutsLookup};
 ghost use Rattle.postscript_layout_write.specs.Pairs.{flag_of, lookup_at as the_lookup, lookups_of};
 ghost use Rattle.postscript_layout_write.specs.Refusals.{Fails, IsUsedUp, Refuses};
 ghost use Rattle.postscript_layout_write.specs.Sets.{AddsSubtable};
-ghost use Rattle.postscript_layout_write.specs.Text.{uint16 as the_uint16};
+ghost use Rattle.postscript_layout_write.specs.Text.{front_text, uint16 as the_uint16};
 ghost use Rattle.postscript_layout_write.specs.declared.error.Error.TheVariants as errors;
 
 use crate::entries::{Entry, Form, entries_of};
 use crate::error::{Error, Result};
 use crate::limit::pay;
 use crate::numbers::{put_uint16, word};
+use crate::script_lists::lists_end;
 use crate::subtables::{Sets, put_offsets, put_subtable};
 use std::alloc::{AllocError, Global};
 
@@ -164,13 +165,19 @@ fn put_list(
     Ok(())
 }
 
-/// Returns whether the lookup list does not follow the header, the script list and the feature list, or is past the end.
-fn come_first(gpos: &[u8]) -> bool
-    ensures yes { result ≡ true → ComeFirst gpos.now }
-    ensures no { result ≡ false → ComeFirst gpos.now → ⊥ }
+/// Appends the header and the lists of a table up to an offset, as the offset of the lookup list.
+#[tactic(auto, unfolding(crate::specs::Text::front_text))]
+fn put_front(out: &mut Vec<u8>, gpos: &[u8], end: usize) -> std::result::Result<(), AllocError>
+    requires least { 10 ≤ end }
+    requires small { end < 65536 }
+    requires within { end ≤ length gpos.now }
+    ensures { OnOk result (out.new.items ≡ out.old.items ++ front_text gpos.now end) }
 {
-    let list = word(gpos, 8);
-    list < 10 || gpos.len() < list || list <= word(gpos, 4) || list <= word(gpos, 6)
+    put_uint16(out, 1)?;
+    put_uint16(out, 0)?;
+    out.extend_from_slice(&gpos[4..8])?;
+    put_uint16(out, end as u16)?;
+    out.extend_from_slice(&gpos[10..end])
 }
 
 /// Returns a `GPOS` table with the pair adjustments of the kept glyphs.
@@ -179,33 +186,33 @@ fn come_first(gpos: &[u8]) -> bool
 /// script list and the feature list of the old one, and as many lookups in the same order. Lookups of pair adjustments, also
 /// by extensions, keep the pairs of kept glyphs, listed one by one. All other lookups have no subtables.
 ///
+/// One unit of the limit is paid for each language system, script, feature and lookup, for each kept glyph as a first glyph in a
+/// lookup, and for each subtable, covered glyph, range, pair and second glyph that is looked at.
+///
 /// # Errors
 ///
-/// - `LookupsComeFirst`: the lookup list does not follow the script list and the feature list, or it is past the end of the table.
+/// - `ListsTooLong`: the script list and the feature list, with the tables that they name, do not end within the table, or within
+///   its first 65,535 bytes.
 /// - `TooLarge`: an offset or a count would exceed 16 bits.
 /// - `TooLong`: the table costs more than the limit.
 /// - `Memory`: out of memory.
 pub fn kerning(alloc: Global, gpos: &[u8], kept: &[u16], limit: &mut u64) -> Result<Vec<u8>>
-    // The lookups of the new table adjust the kept glyphs as those of the old table.
+    // The lookups of the new table adjust the kept glyphs as those of the old table, for the same scripts and features.
     ensures kept { IfOk result (λ new. KeepsKerning gpos.now kept.now new.items) }
     // The limit never grows.
     ensures spends { limit.new ≤ limit.old }
     // Each error has its cause.
     ensures why { IfErr result (λ e. Refuses e gpos.now limit.new) }
-    // A table whose lookup list comes first is refused.
-    ensures order { OnOk result (ComeFirst gpos.now → ⊥) }
 {
-    if come_first(gpos) {
-        return Err(Error::LookupsComeFirst);
-    }
     if kept.len() > 65535 {
         return Err(Error::TooLarge);
     }
-    let list = word(gpos, 8);
+    let end = lists_end(gpos, limit)?;
+    if end > 65535 || end > gpos.len() {
+        return Err(Error::ListsTooLong);
+    }
     let mut out = Vec::new(alloc);
-    put_uint16(&mut out, 1)?;
-    put_uint16(&mut out, 0)?;
-    out.extend_from_slice(&gpos[4..list])?;
+    put_front(&mut out, gpos, end)?;
     put_list(alloc, &mut out, gpos, kept, limit)?;
     Ok(out)
 }

@@ -1,18 +1,21 @@
-use Rattle.std.proofs.Common.{◌≡◌, ◌∙◌, ◌++◌, ap, ℕ, List}
-use Rattle.std.specs.Prelude.{slice_range}
-use Rattle.postscript_layout.specs.Numbers.{word}
-use Rattle.postscript_layout_write.specs.Text.{uint16}
-use Rattle.postscript_layout_write.proofs.Kept.{keeps, list-far, list-within}
+use Rattle.std.proofs.Common.{◌∙◌, ◌++◌, ap, inl, inr, ℕ, List, arith}
+use Rattle.postscript_layout_write.specs.Text.{front_text, list_text}
+use Rattle.postscript_layout_write.proofs.Kept.{keeps}
 use Rattle.postscript_layout_write.proofs.positioning.kerning.Goals as goal
 
 pub returns-clause-kept : goal.returns-clause-kept
 returns-clause-kept c =
     let p = c.in_ok-put_list.ensures.done in
     let gpos = c.args.gpos.now in
-    let never = c.come_first.ensures.no c.if-come_first.false in
-    let begins : c.extend_from_slice.new.self.items ≡ (uint16 1 ++ uint16 0) ++ slice_range gpos 4 (word gpos 8) =
-    c.in_ok-extend_from_slice.ensures.items
-    ∙ ap (λ (xs : List ℕ). xs ++ slice_range gpos 4 c.word-list.result) (c.in_ok-put_uint16-2.ensures
-    ∙ ap (λ (xs : List ℕ). xs ++ uint16 0) (c.in_ok-put_uint16.ensures ∙ ap (λ (xs : List ℕ). xs ++ uint16 1) c.new-out.ensures.items))
-    ∙ ap (λ (n : ℕ). (uint16 1 ++ uint16 0) ++ slice_range gpos 4 n) c.word-list.ensures.exact in
-    keeps gpos c.args.kept.now c.put_list.new.out.items c.extend_from_slice.new.self.items p.offsets p.bytes (list-far gpos never) (list-within gpos never) begins p.text p.are p.few p.fit
+    let end = c.in_ok-end.end in
+    keeps gpos c.args.kept.now c.put_list.new.out.items p.offsets p.bytes end c.in_ok-end.ensures.exact.holds (omega arith) (omega arith)
+    (p.text ∙ ap (λ (xs : List ℕ). xs ++ list_text p.offsets p.bytes) (c.in_ok-put_front.ensures ∙ ap (λ (xs : List ℕ). xs ++ front_text gpos end) c.new-out.ensures.items))
+    p.are p.few p.fit
+
+pub returns-then-end-gt65535-clause-why : goal.returns-then-end-gt65535-clause-why
+returns-then-end-gt65535-clause-why c = λ m small within ends.
+    (let least = c.in_ok-end.ensures.exact.least m ends in
+    elim c.then-end-gt65535.either [
+      | inl large ↦ omega (arith, large, least, small)
+      | inr past ↦ (let far = past.1 in omega (arith, far, least, within))
+    ])
