@@ -8,7 +8,8 @@ Each WORD is a font file, a folder, or an installed Debian package; of the last 
 table, and fonts without GPOS, are skipped. `psotf subset` writes each font twice: with the characters of a few words, and with those of
 Latin-1. The whole font and its subset then shape LINES random lines of these characters. All features of GSUB are turned off, and those of
 GPOS that are not made of pairs: marks and cursive attachment. The characters must have the same glyphs, by the `cmap` tables, and the same
-advances and offsets. `ots-sanitize` must accept the subset if it accepts the font.
+advances and offsets. `ots-sanitize` must accept the subset if it accepts the font. If `psotf` says that the kerning is lost, since there are
+too many pairs, the file is only counted.
 
 The script also cuts each font with `hb-subset --layout-features=kern`, and prints the sizes of both subsets as WOFF2. It prints the first line
 that differs, and for each font and for all of them the numbers of lines and of differences. Needs Debian's libharfbuzz-bin, woff2,
@@ -64,8 +65,10 @@ def compared(path, font, name, folder, draw, lines, sums):
     ours, theirs, text = folder / "ours.otf", folder / "theirs.otf", folder / "lines"
     done = subprocess.run([PSOTF, "subset", path, "--unicodes", listed, "-o", ours], capture_output=True, text=True, check=True)
     subprocess.run(["hb-subset", path, f"--unicodes={listed}", "--layout-features=kern", "-o", theirs], capture_output=True, check=True)
-    sums["lost"] += "kerning is lost" in done.stderr
     sums["files"] += 1
+    if "kerning is lost" in done.stderr:
+        sums["lost"] += 1
+        return
     sums["unsound"] += is_sound(path) and not is_sound(ours)
     sums["bytes"] += size_of(ours)
     sums["of hb-subset"] += size_of(theirs)

@@ -96,7 +96,7 @@ impl Kerning {
         }
     }
 
-    /// Adds the `GDEF` table, if there is a `GPOS` table that needs it.
+    /// Adds the `GDEF` table, if the font has glyph classes. Shapers give marks no advance.
     fn put_classes(
         &mut self,
         alloc: Global,
@@ -104,23 +104,16 @@ impl Kerning {
         glyphs: &[u16],
         left: &mut u64,
     ) -> Result<(), AllocError> {
-        if self.tables.is_empty() {
-            return Ok(());
-        }
         match face.source.file.table(*b"GDEF") {
-            Some(gdef) => self.put(*b"GDEF", glyph_classes(alloc, gdef, glyphs, left)),
-            None => Ok(()),
-        }
-    }
-
-    /// Drops the tables if one of them is lost.
-    fn end(&mut self) {
-        if self.lost.is_some() {
-            self.tables.clear();
+            Some(gdef) if word(gdef, 4) > 0 => {
+                self.put(*b"GDEF", glyph_classes(alloc, gdef, glyphs, left))
+            }
+            _ => Ok(()),
         }
     }
 
     /// Returns the tables with the kerning of the chosen glyphs and their components, within the share of one glyph.
+    /// Without glyph classes there is no kerning.
     pub fn of(
         alloc: Global,
         face: &Face<'_>,
@@ -131,10 +124,11 @@ impl Kerning {
         let share = budget.share();
         let mut left = share;
         let mut kept = Kerning::none(alloc);
-        kept.put_pairs(alloc, face, &glyphs, &mut left)?;
         kept.put_classes(alloc, face, &glyphs, &mut left)?;
+        if kept.lost.is_none() {
+            kept.put_pairs(alloc, face, &glyphs, &mut left)?;
+        }
         budget.spend(share.saturating_sub(left));
-        kept.end();
         Ok(kept)
     }
 
