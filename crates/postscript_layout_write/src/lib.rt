@@ -12,6 +12,8 @@ mod positioning;
 mod ranges;
 mod script_lists;
 mod subtables;
+#[cfg(test)]
+mod tests;
 mod values;
 
 pub use classes::glyph_classes;
