@@ -46,16 +46,16 @@ module _ (form : Form) (f : (x y : ℕ) → Adjustment) (n x : ℕ) (es : List E
     | inr far ↦ (let none = ap form_of (bounded y far) in absurd (cc))
   ]
 
-  set-of : (found : List Entry) → AreOfForm form es found → All (EntryFits form) found → (bytes : List ℕ) →
-      HasSet form (f x) (bytes ++ set_text form found) (length bytes)
-  set-of found of fit bytes = record {
+  set-of : (found : List Entry) → AreOfForm form es found → All (EntryFits form) found → (bytes : List ℕ) (offset : ℕ) →
+      Holds (set_text form found) bytes offset → HasSet form (f x) bytes offset
+  set-of found of fit bytes offset there = record {
     entries = found;
     right = All-weaker (λ e. (form_of e.adjustment ≡ Some form) × Contains es e) (λ e. (form_of e.adjustment ≡ Some form) × (e.adjustment ≡ f x e.second))
         (λ e h. (h.0, (All-contains (λ y. (y.second < n) × (y.adjustment ≡ f x y.second)) es e are.right h.1).1)) found of.right;
     all = entry-there found of;
     fit = fit;
     few = (let a = are.few in let b = of.few in omega (arith, a, b, few));
-    there = holds-last bytes (set_text form found);
+    there = there;
   }
 
   -- the sets with the pairs of one more first glyph
@@ -78,27 +78,27 @@ module _ (form : Form) (f : (x y : ℕ) → Adjustment) (n x : ℕ) (es : List E
         each = s.each;
         all = all-less old.firsts.items s.all (λ y is. (let none = entry-there [] of y is in let less = none.1 in absurd (omega (arith, less))));
       })))
-  sets-more old new (some_pairs found of fit small a b c) s =
+  sets-more old new (some_pairs found of fit small offset a b p) s =
       subst (λ (xs : List ℕ). AreSets form f (x + 1) xs new.offsets.items new.bytes.items) (sym a)
       (subst (λ (xs : List ℕ). AreSets form f (x + 1) (old.firsts.items ++ x ∷ []) xs new.bytes.items) (sym b)
-      (subst (λ (xs : List ℕ). AreSets form f (x + 1) (old.firsts.items ++ x ∷ []) (old.offsets.items ++ length old.bytes.items ∷ []) xs) (sym c)
+      (subst (λ (xs : List ℕ). AreSets form f (x + 1) (old.firsts.items ++ x ∷ []) (old.offsets.items ++ offset ∷ []) xs) (sym p.bytes)
       (record {
-        same = (let same = s.same in omega (arith, same, length-append old.firsts.items (x ∷ []), length-append old.offsets.items (length old.bytes.items ∷ [])));
+        same = (let same = s.same in omega (arith, same, length-append old.firsts.items (x ∷ []), length-append old.offsets.items (offset ∷ [])));
         fit = λ k less. elim (nat_cases k m) [
           | inl early ↦ subst (λ w. w < 65536) (sym (get_or_append_left old.firsts.items (x ∷ []) 0 k early)) (s.fit k early)
           | inr late ↦ subst (λ w. w < 65536) (sym (get_or_push old.firsts.items x 0 k (last k less late))) small
         ];
         each = λ k less. elim (nat_cases k m) [
-          | inl early ↦ subst (λ w. HasSet form (f w) bytes (get_or (old.offsets.items ++ length old.bytes.items ∷ []) k 0))
+          | inl early ↦ subst (λ w. HasSet form (f w) bytes (get_or (old.offsets.items ++ offset ∷ []) k 0))
               (sym (get_or_append_left old.firsts.items (x ∷ []) 0 k early))
               (subst (λ w. HasSet form (f (get_or old.firsts.items k 0)) bytes w)
-              (sym (get_or_append_left old.offsets.items (length old.bytes.items ∷ []) 0 k (let same = s.same in omega (arith, same, early))))
-              (set-on form (f (get_or old.firsts.items k 0)) old.bytes.items (set_text form found) _ (s.each k early)))
-          | inr late ↦ subst (λ w. HasSet form (f w) bytes (get_or (old.offsets.items ++ length old.bytes.items ∷ []) k 0))
+              (sym (get_or_append_left old.offsets.items (offset ∷ []) 0 k (let same = s.same in omega (arith, same, early))))
+              (set-on form (f (get_or old.firsts.items k 0)) old.bytes.items p.more _ (s.each k early)))
+          | inr late ↦ subst (λ w. HasSet form (f w) bytes (get_or (old.offsets.items ++ offset ∷ []) k 0))
               (sym (get_or_push old.firsts.items x 0 k (last k less late)))
               (subst (λ w. HasSet form (f x) bytes w)
-              (sym (get_or_push old.offsets.items (length old.bytes.items) 0 k (let same = s.same in let l = last k less late in omega (arith, same, l))))
-              (set-of found of fit old.bytes.items))
+              (sym (get_or_push old.offsets.items offset 0 k (let same = s.same in let l = last k less late in omega (arith, same, l))))
+              (set-of found of fit bytes offset (subst (λ (xs : List ℕ). Holds (set_text form found) xs offset) p.bytes p.there)))
         ];
         all = all-less (old.firsts.items ++ x ∷ []) (λ z y less is. Contains-append_left old.firsts.items (x ∷ []) z (s.all z y less is))
             (λ y is. Contains-push old.firsts.items x);
@@ -108,7 +108,7 @@ module _ (form : Form) (f : (x y : ℕ) → Adjustment) (n x : ℕ) (es : List E
       m = length old.firsts.items
 
       bytes : List ℕ
-      bytes = old.bytes.items ++ set_text form found
+      bytes = old.bytes.items ++ p.more
 
       last : (k : ℕ) → k < length (old.firsts.items ++ x ∷ []) → m ≤ k → m ≡ k
       last k less late = omega (arith, less, late, length-append old.firsts.items (x ∷ []))

@@ -1,8 +1,8 @@
 -- Texts at offsets.
-use Rattle.std.proofs.Common.{◌≡◌, refl, sym, ap, ◌∙◌, ℕ, zero, suc, ◌+◌, ◌*◌, ◌<◌, List, [], ◌∷◌, ◌++◌, length, get_or, take, drop, length-append, append-nil, arith}
+use Rattle.std.proofs.Common.{◌≡◌, ◌≤◌, refl, sym, ap, ◌∙◌, ℕ, zero, suc, ◌+◌, ◌*◌, ◌<◌, List, [], ◌∷◌, ◌++◌, length, get_or, take, drop, length-append, append-nil, arith}
 use Rattle.std.specs.Prelude.{nat_lt, false, if◌then◌else◌, Bool}
 use Rattle.std.proofs.lemmas.Bool.{le-ltb}
-use Rattle.std.proofs.lemmas.List.{append_assoc}
+use Rattle.std.proofs.lemmas.List.{append_assoc, length-take-le, take-append-drop}
 use Rattle.std.proofs.lemmas.Nat.{from_be_bytes-to_be_bytes_2}
 use Rattle.std.proofs.Math.Seq.{drop-append_seam, take-append_seam}
 use Rattle.postscript_base.specs.Numbers.{big_endian}
@@ -98,3 +98,13 @@ holds-array {bytes = bytes} (n ∷ ns) offset zero less small h =
 holds-array {bytes = bytes} (n ∷ ns) offset (suc k) less small h =
     ap (word bytes) (omega arith)
     ∙ holds-array ns (offset + 2) k (omega (arith, less)) small (holds-second (uint16 n) (array_text ns) 2 (length-uint16 n) h)
+
+-- bytes that are equal to a text
+pub holds-part : (text bytes : List ℕ) (offset n : ℕ) → offset ≤ length bytes → take n (drop offset bytes) ≡ text → Holds text bytes offset
+holds-part text bytes offset n within same = record {
+  front = take offset bytes;
+  behind = drop n (drop offset bytes);
+  is = sym (take-append-drop offset bytes) ∙ ap (λ xs. take offset bytes ++ xs) (sym (take-append-drop n (drop offset bytes)))
+      ∙ ap (λ xs. take offset bytes ++ (xs ++ drop n (drop offset bytes))) same;
+  place = length-take-le offset bytes within;
+}

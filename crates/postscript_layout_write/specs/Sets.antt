@@ -13,14 +13,20 @@ use Rattle.postscript_layout_write.specs.declared.values.Adjustment.{Adjustment}
 abbrev pub AreOffsets : (base : ℕ) → List ℕ → Type 0
 AreOffsets base offsets = (k : ℕ) → k < length offsets → base + slice_index offsets k < 65536
 
+-- a text is at an offset of a list of bytes, of which the old one is the beginning
+pub record Places (text old new : List ℕ) (offset : ℕ) : Type 0 where
+  pub more : List ℕ
+  pub bytes : new ≡ old ++ more
+  pub there : Holds text new offset
+
 -- the pairs of a form are added as the set of a first glyph, if there are some
 pub data Adds (form : Form) (first : ℕ) (entries : List Entry) (old new : Sets) : Type 0 where
   no_pairs : AreOfForm form entries [] → new.firsts.items ≡ old.firsts.items → new.offsets.items ≡ old.offsets.items →
       new.bytes.items ≡ old.bytes.items → Adds form first entries old new
-  some_pairs : (found : List Entry) → AreOfForm form entries found → All (EntryFits form) found → first < 65536 →
+  some_pairs : (found : List Entry) → AreOfForm form entries found → All (EntryFits form) found → first < 65536 → (offset : ℕ) →
       new.firsts.items ≡ old.firsts.items ++ first ∷ [] →
-      new.offsets.items ≡ old.offsets.items ++ length old.bytes.items ∷ [] →
-      new.bytes.items ≡ old.bytes.items ++ set_text form found → Adds form first entries old new
+      new.offsets.items ≡ old.offsets.items ++ offset ∷ [] →
+      Places (set_text form found) old.bytes.items new.bytes.items offset → Adds form first entries old new
 
 -- a set at an offset has the pairs of a form, by their second glyphs
 pub record HasSet (form : Form) (g : ℕ → Adjustment) (bytes : List ℕ) (offset : ℕ) : Type 0 where

@@ -1,4 +1,19 @@
-//! Writes OpenType layout tables for the glyphs of a subset, which have new numbers (OpenType 1.9; ISO/IEC 14496-22, 6).
+//! Writes OpenType layout tables for the glyphs of a subset, which have new numbers (OpenType 1.9; ISO/IEC 14496-22, 6): a `GPOS`
+//! table with pair adjustments (kerning), and a `GDEF` table with glyph classes.
+//!
+//! It is proved that each lookup of the new `GPOS` table adjusts each pair of kept glyphs exactly as the lookup of the same index
+//! of the old table, and no other pair (`KeepsKerning` in specs/Kerning.antt). The first subtable that applies to a pair counts, in
+//! both formats, and extensions are followed (specs/Pairs.antt). The script list and the feature list have the same bytes at the
+//! same offsets, with all tables that they name (specs/ScriptLists.antt). Each kept glyph has its class (specs/Classes.antt).
+//!
+//! What is left out:
+//!
+//! - Only pair adjustments are kept. Other lookups have no subtables, so the indices of lookups in features stay valid.
+//! - A lookup that uses a set of marks or a class of marks (a flag above bit 3) keeps no pairs, since the new `GDEF` table has neither.
+//! - Device tables, variation indexes and feature variations are dropped: the new table has version 1.0.
+//! - Numbers past the end of the old table are 0. If a coverage table, a class definition or a set of pairs is not in order, its first
+//!   entry counts. Readers that search by halves may find another entry there.
+//! - It is not proved how small the new table is, nor which limit suffices.
 #![tactic(auto)]
 
 mod classes;
@@ -12,6 +27,8 @@ mod positioning;
 mod ranges;
 mod script_lists;
 mod subtables;
+#[cfg(test)]
+mod tests;
 mod values;
 
 pub use classes::glyph_classes;

@@ -1,8 +1,9 @@
 //! Subtables of pairs that are listed one by one (format 1), with pairs of one form.
-ghost use Rattle.std.specs.Prelude.{◌≡◌, ◌⊎◌, ◌+◌, ◌*◌, ◌<◌, ◌≤◌, ◌++◌, [], length, true, false, Some, IfErr, IfOk, OnOk};
+ghost use Rattle.std.specs.Prelude.{◌≡◌, ◌⊎◌, ◌+◌, ◌*◌, ◌<◌, ◌≤◌, ◌++◌, [], length, true, false, Some, IfErr, IfOk, IfSome, OnOk};
 ghost use Rattle.std.specs.List.{All};
 ghost use Rattle.postscript_layout_write.specs.Entries.{form_of as the_form};
-ghost use Rattle.postscript_layout_write.specs.Sets.{Adds, AreOffsets};
+ghost use Rattle.postscript_layout_write.specs.Holds.{Holds};
+ghost use Rattle.postscript_layout_write.specs.Sets.{Adds, AreOffsets, Places};
 ghost use Rattle.postscript_layout_write.specs.Text.{AdjustmentFits, AreOfForm, EntryFits, ValuesFit, adjustment_text, array_text, coverage_text, entry_text, formats_text, head_text, offsets_text, set_text, subtable_text, values_text};
 ghost use Rattle.postscript_layout_write.specs.declared.error.Error.TheVariants as errors;
 
@@ -19,6 +20,9 @@ pub(crate) struct Sets {
     pub(crate) offsets: Vec<usize>,
     pub(crate) bytes: Vec<u8>,
 }
+
+/// The number of sets that a new set is compared with. An equal one is shared.
+const SHARED: usize = 256;
 
 /// Appends the four numbers of a value record.
 #[tactic(auto, unfolding(crate::specs::Text::values_text))]
@@ -102,6 +106,29 @@ fn of_form(alloc: Global, form: Form, entries: &[Entry]) -> Result<Vec<Entry>>
     Ok(found)
 }
 
+/// Returns the bytes of a set of pairs.
+fn set_of(alloc: Global, form: Form, entries: &[Entry]) -> Result<Vec<u8>>
+    requires few { length entries.now < 65536 }
+    ensures text { IfOk result (λ text. text.items ≡ set_text form entries.now) }
+    ensures fit { OnOk result (All (EntryFits form) entries.now) }
+    ensures memory { IfErr result (λ e. e ≡ errors.Memory) }
+{
+    let mut text = Vec::new(alloc);
+    put_set(&mut text, form, entries)?;
+    Ok(text)
+}
+
+/// Returns whether a text is at an offset.
+fn is_at(bytes: &[u8], text: &[u8], offset: usize) -> bool
+    ensures { result ≡ true → Holds text.now bytes.now offset }
+{
+    if offset > bytes.len() || text.len() > bytes.len() - offset {
+        return false;
+    }
+    let part = &bytes[offset..offset + text.len()];
+    part == text
+}
+
 impl Sets {
     /// Returns no sets.
     pub(crate) fn new(alloc: Global) -> Sets
@@ -114,6 +141,35 @@ impl Sets {
             offsets: Vec::new(alloc),
             bytes: Vec::new(alloc),
         }
+    }
+
+    /// Returns the offset of one of the last sets that begins with a text.
+    fn find(&self, text: &[u8]) -> Option<usize>
+        ensures { IfSome result (λ offset. Holds text.now self.now.bytes.items offset) }
+    {
+        let count = self.offsets.len();
+        for k in count.saturating_sub(SHARED)..count {
+            let offset = self.offsets[k];
+            if is_at(&self.bytes, text, offset) {
+                return Some(offset);
+            }
+        }
+        None
+    }
+
+    /// Returns the offset of a set with a text. It is appended, unless one of the last sets has the same text.
+    fn place(&mut self, text: &[u8]) -> Result<usize>
+        ensures placed { IfOk result (λ offset. Places text.now self.old.bytes.items self.new.bytes.items offset) }
+        ensures firsts { OnOk result (self.new.firsts.items ≡ self.old.firsts.items) }
+        ensures offsets { OnOk result (self.new.offsets.items ≡ self.old.offsets.items) }
+        ensures memory { IfErr result (λ e. e ≡ errors.Memory) }
+    {
+        if let Some(offset) = self.find(text) {
+            return Ok(offset);
+        }
+        let offset = self.bytes.len();
+        self.bytes.extend_from_slice(text)?;
+        Ok(offset)
     }
 
     /// Adds the set of a first glyph, if some pairs have the form.
@@ -132,9 +188,10 @@ impl Sets {
         if found.is_empty() {
             return Ok(());
         }
+        let text = set_of(alloc, form, &found)?;
+        let offset = self.place(&text)?;
         self.firsts.push(first)?;
-        self.offsets.push(self.bytes.len())?;
-        put_set(&mut self.bytes, form, &found)?;
+        self.offsets.push(offset)?;
         Ok(())
     }
 }

@@ -1,0 +1,154 @@
+//! Tables whose pairs are computed by hand from the specification. All numbers are of two bytes.
+use crate::{Error, glyph_classes, kerning};
+use std::alloc::{AllocError, Global};
+use std::process::Abort;
+
+/// The lookup list of a table, and the lookup list of the new table for the glyphs 1, 5 and 6.
+struct Row {
+    what: &'static str,
+    old: &'static [u16],
+    new: &'static [u16],
+}
+
+/// The header, and a script list and a feature list without entries. The lookup list follows.
+const HEAD: &[u16] = &[1, 0, 10, 12, 14, 0, 0];
+
+const ROWS: &[Row] = &[
+    Row {
+        what: "format 1: 1 5 by -50, 1 6 by 20, 2 5 by -30",
+        old: &[
+            1, 4, 2, 0, 1, 8, 1, 14, 4, 0, 2, 22, 32, 1, 2, 1, 2, 2, 5, 65486, 6, 20, 1, 5, 65506,
+        ],
+        new: &[
+            1, 4, 2, 0, 1, 8, 1, 12, 4, 0, 1, 18, 1, 1, 0, 2, 1, 65486, 2, 20,
+        ],
+    },
+    Row {
+        what: "format 2: 1 with class 0 by 7, with class 1, which is 5, by -9",
+        old: &[
+            1, 4, 2, 8, 1, 8, 2, 20, 4, 0, 26, 30, 1, 2, 7, 65527, 1, 1, 1, 2, 0, 1, 5, 1, 1,
+        ],
+        new: &[
+            1, 4, 2, 8, 1, 8, 1, 12, 4, 0, 1, 18, 1, 1, 0, 3, 0, 7, 1, 65527, 2, 7,
+        ],
+    },
+    Row {
+        what: "classes first: 1 6 by 0, and not by 33 of the second subtable",
+        old: &[
+            1, 4, 2, 0, 2, 10, 48, 2, 20, 4, 0, 26, 30, 1, 2, 0, 65527, 1, 1, 1, 2, 0, 1, 5, 1, 1,
+            1, 12, 4, 0, 1, 18, 1, 1, 1, 1, 6, 33,
+        ],
+        new: &[1, 4, 2, 0, 1, 8, 1, 12, 4, 0, 1, 18, 1, 1, 0, 1, 1, 65527],
+    },
+    Row {
+        what: "a list first: 1 6 by 33, and 1 5 by -9 of the second subtable",
+        old: &[
+            1, 4, 2, 0, 2, 10, 34, 1, 12, 4, 0, 1, 18, 1, 1, 1, 1, 6, 33, 2, 20, 4, 0, 26, 30, 1,
+            2, 0, 65527, 1, 1, 1, 2, 0, 1, 5, 1, 1,
+        ],
+        new: &[
+            1, 4, 2, 0, 1, 8, 1, 12, 4, 0, 1, 18, 1, 1, 0, 2, 1, 65527, 2, 33,
+        ],
+    },
+    Row {
+        what: "an extension, with a coverage table of ranges: 5 1 by 3",
+        old: &[
+            1, 4, 9, 0, 1, 8, 1, 2, 0, 8, 1, 12, 4, 0, 1, 22, 2, 1, 5, 6, 0, 1, 1, 3,
+        ],
+        new: &[1, 4, 2, 0, 1, 8, 1, 12, 4, 0, 1, 18, 1, 1, 1, 1, 0, 3],
+    },
+    Row {
+        what: "a placement: 1 5 by 2 to the right",
+        old: &[1, 4, 2, 0, 1, 8, 1, 12, 5, 0, 1, 18, 1, 1, 1, 1, 5, 2, 9],
+        new: &[
+            1, 4, 2, 0, 1, 8, 1, 12, 15, 0, 1, 18, 1, 1, 0, 1, 1, 2, 0, 9, 0,
+        ],
+    },
+    Row {
+        what: "a second glyph: 1 5 by 9, and 5 by 2 to the right",
+        old: &[1, 4, 2, 0, 1, 8, 1, 12, 4, 1, 1, 18, 1, 1, 1, 1, 5, 9, 2],
+        new: &[
+            1, 4, 2, 0, 1, 8, 1, 12, 15, 15, 1, 18, 1, 1, 0, 1, 1, 0, 0, 9, 0, 2, 0, 0, 0,
+        ],
+    },
+    Row {
+        what: "a set of marks: no pairs",
+        old: &[1, 4, 2, 17, 1, 10, 0, 1, 12, 4, 0, 1, 18, 1, 1, 1, 1, 5, 9],
+        new: &[1, 4, 2, 1, 0],
+    },
+    Row {
+        what: "another type: no pairs",
+        old: &[1, 4, 4, 8, 1, 8, 1, 12, 4, 0, 1, 18, 1, 1, 1, 1, 5, 9],
+        new: &[1, 4, 2, 8, 0],
+    },
+    Row {
+        what: "no lookups",
+        old: &[0],
+        new: &[0],
+    },
+];
+
+/// Appends numbers of two bytes.
+fn put(bytes: &mut Vec<u8>, words: &[u16]) -> Result<(), AllocError> {
+    for word in words {
+        for byte in &word.to_be_bytes() {
+            bytes.push(*byte)?;
+        }
+    }
+    Ok(())
+}
+
+/// Returns a table of two lists of numbers.
+fn table(alloc: Global, first: &[u16], second: &[u16]) -> Result<Vec<u8>, AllocError> {
+    let mut bytes = Vec::new(alloc);
+    put(&mut bytes, first)?;
+    put(&mut bytes, second)?;
+    Ok(bytes)
+}
+
+#[test]
+fn pairs(rt: HostRuntime) {
+    for row in ROWS {
+        let old = table(rt.alloc(), HEAD, row.old).expect(&rt, "memory");
+        let new = table(rt.alloc(), HEAD, row.new).expect(&rt, "memory");
+        let mut limit = 1000;
+        let written = kerning(rt.alloc(), &old, &[1, 5, 6], &mut limit).expect(&rt, row.what);
+        assert_eq!(rt; written.as_slice(), new.as_slice(), "{}", row.what);
+    }
+}
+
+/// A script table that is after the lookup list stays there, and the new lookup list follows it.
+#[test]
+fn lists_after_the_lookups(rt: HostRuntime) {
+    let old = [1, 0, 12, 10, 20, 0, 1, 0x6c61, 0x746e, 10, 0, 0, 0];
+    let new = [1, 0, 12, 10, 26, 0, 1, 0x6c61, 0x746e, 10, 0, 0, 0];
+    let old = table(rt.alloc(), &old, &[]).expect(&rt, "memory");
+    let new = table(rt.alloc(), &new, &[0]).expect(&rt, "memory");
+    let mut limit = 1000;
+    let written = kerning(rt.alloc(), &old, &[1], &mut limit).expect(&rt, "a table");
+    assert_eq!(rt; written.as_slice(), new.as_slice());
+}
+
+#[test]
+fn errors(rt: HostRuntime) {
+    let old = table(rt.alloc(), HEAD, ROWS[0].old).expect(&rt, "memory");
+    let mut limit = 5;
+    let long = kerning(rt.alloc(), &old, &[1, 5, 6], &mut limit);
+    assert!(rt; long == Err(Error::TooLong) && limit == 0);
+    let cut = table(rt.alloc(), &[1, 0, 10, 12, 14, 1], &[]).expect(&rt, "memory");
+    let mut limit = 1000;
+    let cut = kerning(rt.alloc(), &cut, &[1], &mut limit);
+    assert!(rt; cut == Err(Error::ListsTooLong));
+}
+
+/// The glyphs 1 to 3 are bases, 5 is a mark, and 6 has the unknown class 9.
+#[test]
+fn classes(rt: HostRuntime) {
+    let old = [1, 0, 12, 0, 0, 0, 2, 3, 1, 3, 1, 5, 5, 3, 6, 6, 9];
+    let old = table(rt.alloc(), &old, &[]).expect(&rt, "memory");
+    let new = [1, 0, 12, 0, 0, 0, 1, 0, 4, 1, 0, 3, 0];
+    let new = table(rt.alloc(), &new, &[]).expect(&rt, "memory");
+    let mut limit = 1000;
+    let written = glyph_classes(rt.alloc(), &old, &[3, 4, 5, 6], &mut limit).expect(&rt, "classes");
+    assert_eq!(rt; written.as_slice(), new.as_slice());
+}
