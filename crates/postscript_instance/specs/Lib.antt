@@ -11,6 +11,8 @@ pub mod Rooms
 pub mod Glyphs
 pub mod Naming
 pub mod Dictionaries
+pub mod Whole
+pub mod Found
 pub mod Tables
 pub mod Advances
 pub mod Axes

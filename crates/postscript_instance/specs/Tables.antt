@@ -12,6 +12,7 @@ use Rattle.postscript_instance.specs.Dictionaries.{KeepDictionaries}
 use Rattle.postscript_instance.specs.Glyphs.{AreWidthsOf, DoesAt, DoesRoundedAt}
 use Rattle.postscript_instance.specs.Naming.{IsCalled}
 use Rattle.postscript_instance.specs.Placed.{IsPlaceIn}
+use Rattle.postscript_instance.specs.Whole.{IsWhole}
 use Rattle.postscript_instance.specs.declared.advances.AdvancesAt.{AdvancesAt}
 use Rattle.postscript_instance.specs.declared.naming.Naming.{Naming}
 
@@ -37,7 +38,7 @@ pub record IsPlainFont (view : View) (codes : List (Vec ℕ Global)) : Type 0 wh
 
 -- The bytes contain a font without global subroutines (Technical Note 5176, "CFF Data Layout"). For each glyph, `does` holds of its advance
 -- and its code, and nothing is added to widths. Each glyph has the Font DICT with the same number as in the other font. The font and its
--- glyphs have the given names.
+-- glyphs have the given names. There is nothing else in the bytes: all of them are parts of the table.
 pub record IsTable (does : (glyph : ℕ) → (advance : ℤ) → (code : List ℕ) → Type 0) (font : Font) (naming : Naming) (advances : List ℤ)
     (bytes : List ℕ) : Type 0 where
   pub view : View
@@ -50,6 +51,8 @@ pub record IsTable (does : (glyph : ℕ) → (advance : ℤ) → (code : List �
   pub widths : HaveNoWidths view.parts
   pub called : IsCalled naming bytes view
   pub dictionaries : KeepDictionaries font bytes view (length advances)
+  pub privates : List (List ℕ)
+  pub whole : IsWhole font naming view.char_strings privates bytes
 
 -- The table of a font at the location of its advances. For each glyph, `does` holds of its code there, with its advance there as width.
 pub record IsTableAt (does : Font → Place → (glyph : ℕ) → (advance : ℤ) → (code : List ℕ) → Type 0) (font : Font) (naming : Naming)

@@ -68,7 +68,7 @@ fn operand_at(bytes: &[u8], place: usize) -> (Number, usize)
 }
 
 /// The operands of a DICT, with at most 18 significant digits in each real.
-fn readable(alloc: Global, operands: &[u8]) -> Result<Vec<u8>>
+pub(crate) fn readable(alloc: Global, operands: &[u8]) -> Result<Vec<u8>>
     ensures late { IfErr result (λ e. IsLate e) }
 {
     let mut out = Vec::new(alloc);

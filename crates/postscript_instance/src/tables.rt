@@ -1,5 +1,5 @@
 //! The `CFF ` table at a location.
-ghost use Rattle.std.specs.Prelude.{◌≡◌, ◌⊎◌, Some, length, slice_get, IsTrue, IfOk, IfErr, OnOk};
+ghost use Rattle.std.specs.Prelude.{◌≡◌, ◌⊎◌, Some, length, IsTrue, IfOk, IfErr, OnOk};
 ghost use Rattle.postscript_cff2.specs.Shown.{view_shown as varying_shown};
 ghost use Rattle.postscript_instance.specs.Advances.{AreAdvancesAt};
 ghost use Rattle.postscript_instance.specs.Dictionaries.{KeepDictionaries, KeepsDictionary};
@@ -7,7 +7,7 @@ ghost use Rattle.postscript_instance.specs.Glyphs.{AreCodes, DoesIn, HasNoRoom, 
 ghost use Rattle.postscript_instance.specs.Naming.{IsCalled};
 ghost use Rattle.postscript_instance.specs.Placed.{IsPlaceIn, LacksPlace};
 ghost use Rattle.postscript_instance.specs.Refusals.{IsLate};
-ghost use Rattle.postscript_instance.specs.Tables.{AreItems, HasNoWidths, HaveNoWidths, IsPlainFont, IsRoundedTableOf, IsTable, IsTableAt, IsTableOf};
+ghost use Rattle.postscript_instance.specs.Tables.{HasNoWidths, HaveNoWidths, IsPlainFont, IsRoundedTableOf, IsTable, IsTableAt, IsTableOf};
 ghost use Rattle.postscript_base.specs.Index.Lent.{items_of};
 ghost use Rattle.postscript_view.specs.Layout.{IsLaidOut};
 ghost use Rattle.postscript_view.specs.Contents.{View};
@@ -15,13 +15,13 @@ ghost use Rattle.postscript_view.specs.Value.{part_shown, parts_shown, view_show
 
 use crate::advances::AdvancesAt;
 use crate::error::{Error, Result};
-use crate::layout::laid_out;
+use crate::layout::{is_whole, laid_out, privates_of};
 use crate::naming::{Naming, called_back};
+use crate::parts::are_codes;
 use crate::rooms::is_too_large;
 use crate::statics::charstring;
 use crate::whole::rounded_glyph;
 use postscript_base::Error as Cause;
-use postscript_base::index::IndexView;
 use postscript_cff2::Font;
 use postscript_type2::Operand;
 use postscript_variable_font::{Error as PlaceError, Place, charstring as varying};
@@ -94,31 +94,6 @@ fn codes_of(
         codes.push(code_of(alloc, font, number, place, widths[number], numbers)?)?;
     }
     Ok(codes)
-}
-
-/// Whether an item is this charstring.
-fn is_code(items: &IndexView<'_>, number: usize, code: &[u8]) -> bool
-    ensures { IsTrue result → slice_get (items_of items.now) number ≡ Some code.now }
-{
-    match items.get(number) {
-        Some(item) => item == code,
-        None => false,
-    }
-}
-
-/// Whether the items are these charstrings.
-fn are_codes(items: &IndexView<'_>, codes: &[Vec<u8>]) -> bool
-    ensures { IsTrue result → AreItems (items_of items.now) codes.now (length codes.now) }
-{
-    if items.len() != codes.len() {
-        return false;
-    }
-    for number in 0..codes.len() {
-        if !is_code(items, number, &codes[number]) {
-            return false;
-        }
-    }
-    true
 }
 
 /// Whether a Private DICT has a nominal width of 0.
@@ -243,8 +218,12 @@ fn table_of(
     if is_too_large(font, naming, &codes) {
         return Err(Error::TooLarge);
     }
-    let bytes = laid_out(alloc, font, place, naming, &codes)?;
+    let privates = privates_of(alloc, font, place)?;
+    let bytes = laid_out(alloc, font, naming, &codes, &privates)?;
     read_back(alloc, font, &bytes, &codes, naming)?;
+    if !is_whole(alloc, font, &bytes, naming, &codes, &privates)? {
+        return Err(Error::NotReadBack);
+    }
     Ok(bytes)
 }
 
