@@ -10,7 +10,7 @@ use Rattle.postscript_instance.specs.declared.naming.Naming.{Naming}
 use Rattle.postscript_cff2.specs.declared.font.Font.{Font}
 use Rattle.postscript_instance.specs.Dictionaries.{KeepDictionaries}
 use Rattle.postscript_instance.specs.Glyphs.{AreCodes}
-use Rattle.postscript_instance.specs.Whole.{IsWhole}
+use Rattle.postscript_instance.specs.Whole.{AreOfFont, IsWhole}
 use Rattle.postscript_instance.proofs.Compared.{same-items}
 use Rattle.postscript_type2.specs.Program.Routines.{texts}
 use Rattle.postscript_instance.specs.Tables.{AreItems, IsPlainFont, IsTable}
@@ -86,9 +86,9 @@ same-code codes i a b h k = let both : Some a ≡ Some b = sym h ∙ k in cc
 pub table-of : (does : (glyph : ℕ) → (advance : ℤ) → (code : List ℕ) → Type 0) (font : Font) (naming : Naming) (advances : List ℤ)
     (bytes : List ℕ) (codes : List (Vec ℕ Global)) (view : View) →
     AreCodes does advances (length advances) codes → IsLaidOut bytes 0 view → IsPlainFont view codes → IsCalled naming bytes view →
-    KeepDictionaries font bytes view (length codes) → (privates : List (List ℕ)) → IsWhole font naming (texts codes) privates bytes →
+    KeepDictionaries font bytes view (length codes) → (privates : List (List ℕ)) → AreOfFont font privates → IsWhole font naming (texts codes) privates bytes →
     IsTable does font naming advances bytes
-table-of does font naming advances bytes codes view are stands plain called keep privates whole =
+table-of does font naming advances bytes codes view are stands plain called keep privates are_privates whole =
     let many = are.counted in
     let all = plain.items.counted in record {
       view = view;
@@ -104,6 +104,7 @@ table-of does font naming advances bytes codes view are stands plain called keep
       called = called;
       dictionaries = λ glyph less. keep glyph (omega (arith, less, many));
       privates = privates;
+      are_privates = are_privates;
       whole = subst (λ items. IsWhole font naming items privates bytes)
           (sym (same-items view.char_strings codes plain.items.counted plain.items.each)) whole;
     }

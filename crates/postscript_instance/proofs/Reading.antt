@@ -18,7 +18,7 @@ value_or default (Got value next) = value
 value_or default (Fault refusal) = default
 value_or default Past = default
 
-same-place : (text bytes : List ℕ) (place : ℕ) (o : Outcome Operation) → bytes ≡ text → place ≡ 0 → operation bytes place ≡ o →
+pub same-place : (text bytes : List ℕ) (place : ℕ) (o : Outcome Operation) → bytes ≡ text → place ≡ 0 → operation bytes place ≡ o →
     operation text 0 ≡ o
 same-place text bytes place o same begin is =
     subst (λ bs. operation bs 0 ≡ o) same (subst (λ n. operation bytes n ≡ o) begin is)

@@ -12,6 +12,7 @@ pub mod Glyphs
 pub mod Naming
 pub mod Dictionaries
 pub mod Whole
+pub mod Encoded
 pub mod Found
 pub mod Tables
 pub mod Advances

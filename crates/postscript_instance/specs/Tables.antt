@@ -12,7 +12,7 @@ use Rattle.postscript_instance.specs.Dictionaries.{KeepDictionaries}
 use Rattle.postscript_instance.specs.Glyphs.{AreWidthsOf, DoesAt, DoesRoundedAt}
 use Rattle.postscript_instance.specs.Naming.{IsCalled}
 use Rattle.postscript_instance.specs.Placed.{IsPlaceIn}
-use Rattle.postscript_instance.specs.Whole.{IsWhole}
+use Rattle.postscript_instance.specs.Whole.{AreOfFont, IsWhole}
 use Rattle.postscript_instance.specs.declared.advances.AdvancesAt.{AdvancesAt}
 use Rattle.postscript_instance.specs.declared.naming.Naming.{Naming}
 
@@ -52,6 +52,7 @@ pub record IsTable (does : (glyph : ℕ) → (advance : ℤ) → (code : List �
   pub called : IsCalled naming bytes view
   pub dictionaries : KeepDictionaries font bytes view (length advances)
   pub privates : List (List ℕ)
+  pub are_privates : AreOfFont font privates
   pub whole : IsWhole font naming view.char_strings privates bytes
 
 -- The table of a font at the location of its advances. For each glyph, `does` holds of its code there, with its advance there as width.

@@ -1,7 +1,7 @@
 -- The parts of a written `CFF ` table, one after the other (Technical Note 5176, "CFF Data Layout", sections 2, 4 to 10, 13 to 16, 18 and
 -- 19). No byte is between them or after them.
-use Rattle.std.specs.Prelude.{◌≡◌, ◌⊎◌, ℕ, ◌+◌, ◌-◌, ◌*◌, ◌<◌, pos, List, [], ◌∷◌, ◌++◌, map, take, drop, length, Option, Some, None}
-use Rattle.std.specs.List.{slice_range}
+use Rattle.std.specs.Prelude.{◌≡◌, ◌⊎◌, ℕ, ◌+◌, ◌-◌, ◌*◌, ◌<◌, pos, List, [], ◌∷◌, ◌++◌, map, take, drop, length, All, Option, Some, None}
+use Rattle.std.specs.List.{Contains, slice_range}
 use Rattle.std.specs.Borrow.{Bor}
 use Rattle.std.specs.Option.{MatchOption}
 use Rattle.std.specs.declared.alloc.Global.{Global}
@@ -12,8 +12,9 @@ use Rattle.postscript_base.specs.Compact1.Number.{whole}
 use Rattle.postscript_base.specs.Compact1.Operation.{Operation}
 use Rattle.postscript_base.specs.Index.{number_at, IsIndex}
 use Rattle.postscript_base.specs.declared.compact1.operator.Operator.{Operator}
-use Rattle.postscript_base.specs.declared.compact1.operator.Operator.TheVariants.{FontMatrix, CIDCount, CharSet, CharStrings, FDArray, FDSelect, Private, ROS}
+use Rattle.postscript_base.specs.declared.compact1.operator.Operator.TheVariants.{BlueFuzz, BlueScale, BlueShift, BlueValues, CIDCount, CharSet, CharStrings, ExpansionFactor, FDArray, FDSelect, FamilyBlues, FamilyOtherBlues, FontMatrix, LanguageGroup, OtherBlues, Private, ROS, StdHW, StdVW, StemSnapH, StemSnapV}
 use Rattle.postscript_cff2.specs.Dictionary.{Entry, last_entry}
+use Rattle.postscript_cff2.specs.Shown.{view_shown}
 use Rattle.postscript_cff2.specs.declared.font.Font.{Font}
 use Rattle.postscript_compact1.specs.StandardStrings.{standard_string}
 use Rattle.postscript_view.specs.CharSet.{covered}
@@ -158,3 +159,27 @@ pub record IsWhole (font : Font) (naming : Naming) (codes privates : List (List 
   pub is_matrix : IsMatrixOf font.dictionary.bytes.now matrix
   pub parts : MatchOption naming.glyphs (IsKeyedTable matrix naming.font.now (adobe ∷ identity ∷ []) codes privates bytes)
       (λ names. IsTableNamed names.now matrix naming.font.now codes privates bytes)
+
+-- the operators of hints: zones, stem widths and their parameters (section 15)
+abbrev pub hint_operators : List Operator
+hint_operators =
+    BlueValues ∷ OtherBlues ∷ FamilyBlues ∷ FamilyOtherBlues ∷ StdHW ∷ StdVW ∷ BlueScale ∷ BlueShift ∷ BlueFuzz ∷ StemSnapH ∷ StemSnapV
+    ∷ LanguageGroup ∷ ExpansionFactor ∷ []
+
+-- bytes that are operations of hints, one after the other
+pub data AreHints : (text : List ℕ) → List Operation → Type 0 where
+  no_hint : AreHints [] []
+  one_more : (text more : List ℕ) (hints : List Operation) (hint : Operation) → AreHints text hints → Contains hint_operators hint.0 →
+      IsDict more (hint ∷ []) → AreHints (text ++ more) (hints ++ hint ∷ [])
+
+-- `defaultWidthX` and `nominalWidthX`, which are 0 (section 15)
+abbrev pub widths_text : List ℕ
+widths_text = 0x8b ∷ 0x14 ∷ 0x8b ∷ 0x15 ∷ []
+
+-- A Private DICT has only hints and the two widths. So it has no local subroutines.
+abbrev pub IsPrivate : (text : List ℕ) → Type 0
+IsPrivate text = (front : List ℕ) × (hints : List Operation) × AreHints front hints × (text ≡ front ++ widths_text)
+
+-- there is a Private DICT for each Font DICT of the CFF2 table
+abbrev pub AreOfFont : Font → (privates : List (List ℕ)) → Type 0
+AreOfFont font privates = (length privates ≡ length (view_shown font).font_dictionaries) × All IsPrivate privates

@@ -1,17 +1,18 @@
 //! The layout of a `CFF ` table (Technical Note 5176, "CFF Data Layout", "CID-keyed Fonts"). The callers read the
 //! result back.
-ghost use Rattle.std.specs.Prelude.{◌≡◌, ◌≤◌, [], ◌∷◌, IfErr, IfOk, IsTrue, length};
+ghost use Rattle.std.specs.Prelude.{◌≡◌, ◌≤◌, ◌++◌, ℕ, List, [], ◌∷◌, IfErr, IfOk, IsTrue, OnOk, length};
 ghost use Rattle.std.specs.List.{slice_range};
 ghost use Rattle.postscript_instance.specs.Found.{matrix_of as the_matrix};
 ghost use Rattle.postscript_instance.specs.Refusals.{IsLate};
-ghost use Rattle.postscript_instance.specs.Whole.{IsMatrixOf, IsWhole, adobe, identity};
+ghost use Rattle.postscript_instance.specs.Whole.{AreOfFont, IsMatrixOf, IsWhole, adobe, header, identity};
+ghost use Rattle.postscript_instance.specs.Encoded.{IsAppended, integer_text, operation_text, ros_text};
 ghost use Rattle.postscript_type2.specs.Program.Routines.{texts};
 
 use crate::error::{Error, Result};
 use crate::indices::{put_index, put_integer, put_operation, put_short, put_single};
 use crate::naming::{Identifiers, Naming};
-use crate::parts::{Content, is_keyed, is_named, matrix_in};
-use crate::privates::{private_of, put_readable};
+use crate::parts::{Content, is_keyed, is_named, matrix_in, operation_in};
+use crate::privates::{private_of, readable};
 use postscript_base::compact1::Operand;
 use postscript_cff2::Font;
 use postscript_variable_font::Place;
@@ -40,8 +41,22 @@ impl Places {
     };
 }
 
+/// Appends FontMatrix with these operands, if they can be read.
+fn put_operands(alloc: Global, out: &mut Vec<u8>, operands: &[u8]) -> Result<()>
+    ensures more { OnOk result (IsAppended out.old.items out.new.items) }
+    ensures late { IfErr result (λ e. IsLate e) }
+{
+    let mut text = readable(alloc, operands)?;
+    text.extend_from_slice(&[0x0c, 0x07])?;
+    if let Some(_operation) = operation_in(alloc, &text)? {
+        out.extend_from_slice(&text)?;
+    }
+    Ok(())
+}
+
 /// Appends FontMatrix as it is in the CFF2 Top DICT, if there is one that can be read.
 fn put_matrix(alloc: Global, out: &mut Vec<u8>, font: &Font<'_>) -> Result<()>
+    ensures more { OnOk result (IsAppended out.old.items out.new.items) }
     ensures late { IfErr result (λ e. IsLate e) }
 {
     match font.dictionary.last(FONT_MATRIX) {
@@ -51,7 +66,7 @@ fn put_matrix(alloc: Global, out: &mut Vec<u8>, font: &Font<'_>) -> Result<()>
                 .bytes
                 .get(entry.start..entry.place)
                 .unwrap_or(&[]);
-            put_readable(alloc, out, operands, &[0x0c, 0x07])
+            put_operands(alloc, out, operands)
         }
         None => Ok(()),
     }
@@ -64,6 +79,9 @@ fn keyed_dictionary(
     glyphs: usize,
     places: Places,
 ) -> Result<Vec<u8>>
+    ensures are { IfOk result (λ top. (matrix : List ℕ) × (top.items ≡ ros_text ++ matrix ++ operation_text glyphs (0x0c ∷ 0x22 ∷ [])
+        ++ operation_text places.char_set (0x0f ∷ []) ++ operation_text places.select (0x0c ∷ 0x25 ∷ [])
+        ++ operation_text places.char_strings (0x11 ∷ []) ++ operation_text places.dictionaries (0x0c ∷ 0x24 ∷ []))) }
     ensures late { IfErr result (λ e. IsLate e) }
 {
     let mut top = Vec::new(alloc);
@@ -84,6 +102,8 @@ fn named_dictionary(
     private: usize,
     places: Places,
 ) -> Result<Vec<u8>>
+    ensures are { IfOk result (λ top. (matrix : List ℕ) × (top.items ≡ matrix ++ operation_text places.char_set (0x0f ∷ [])
+        ++ operation_text places.char_strings (0x11 ∷ []) ++ integer_text private ++ operation_text places.dictionaries (0x12 ∷ []))) }
     ensures late { IfErr result (λ e. IsLate e) }
 {
     let mut top = Vec::new(alloc);
@@ -130,6 +150,7 @@ fn select(alloc: Global, font: &Font<'_>, glyphs: usize) -> Result<Vec<u8>>
 
 /// The Private DICT of each Font DICT.
 pub(crate) fn privates_of(alloc: Global, font: &Font<'_>, place: &Place) -> Result<Vec<Vec<u8>>>
+    ensures are { IfOk result (λ privates. AreOfFont font.now (texts privates.items)) }
     ensures late { IfErr result (λ e. IsLate e) }
 {
     let mut privates = Vec::new(alloc);
@@ -168,6 +189,7 @@ fn keyed_strings(alloc: Global) -> Result<Vec<Vec<u8>>>
 
 /// The header, the name, the Top DICT, the strings, and an INDEX without subroutines.
 fn head(alloc: Global, name: &[u8], top: &[u8], strings: &[Vec<u8>]) -> Result<Vec<u8>>
+    ensures begins { IfOk result (λ out. IsAppended header out.items) }
     ensures late { IfErr result (λ e. IsLate e) }
 {
     let mut out = Vec::new(alloc);

@@ -71,8 +71,9 @@ fn is_memory(error: &Cause) -> bool
 }
 
 /// The operation that a text is, if it is one.
-fn operation_in(alloc: Global, text: &[u8]) -> Result<Option<Operation>>
+pub(crate) fn operation_in(alloc: Global, text: &[u8]) -> Result<Option<Operation>>
     ensures is { IfOk result (λ found. (o : Spoken) → IsDict text.now (o ∷ []) → option_map told found ≡ Some o) }
+    ensures found { IfOk result (λ found. IfSome found (λ operation. IsDict text.now (told operation ∷ []))) }
     ensures late { IfErr result (λ e. IsLate e) }
 {
     reads_operations();

@@ -1,17 +1,21 @@
 //! Private DICTs at a location: zones and stem widths for hinting (Technical Note 5176, "Private DICT Data"; OpenType
 //! 1.9, "CFF2", "Private DICT Data").
-ghost use Rattle.std.specs.Prelude.{◌<◌, IfErr, length};
+ghost use Rattle.std.specs.Prelude.{◌≡◌, ◌≢◌, ◌↔◌, ◌⊎◌, ◌++◌, ◌<◌, [], ◌∷◌, IfErr, IfOk, IsTrue, OnOk, length};
+ghost use Rattle.postscript_instance.specs.Encoded.{HasHints, IsHintAdded, chosen, is_hint_operator};
+ghost use Rattle.postscript_instance.specs.Whole.{IsDict, IsPrivate, hint_operators};
+ghost use Rattle.postscript_base.specs.Compact1.Operation.{Operation};
+ghost use Rattle.std.specs.List.{Contains};
 ghost use Rattle.postscript_instance.specs.Refusals.{IsLate};
 
-use crate::error::{Error, Result};
+use crate::error::Result;
 use crate::numbers::put_number;
+use crate::parts::operation_in;
 use crate::pieces::OPERANDS;
 use crate::reals::put_real;
-use postscript_base::Error as Cause;
+use postscript_base::compact1::Operator;
 use postscript_cff2::{Dictionary, Font, PrivateDict, integer_at, operand_size, operator_size};
 use postscript_type2::Operand;
 use postscript_variable_font::Place;
-use postscript_view::tables::operations_of;
 use std::alloc::Global;
 
 /// The operators vsindex and blend.
@@ -85,24 +89,69 @@ pub(crate) fn readable(alloc: Global, operands: &[u8]) -> Result<Vec<u8>>
     Ok(out)
 }
 
-/// Appends an operation of a DICT. Digits of a real after the 18th significant one are cut off. If the operands still
+/// The operators of hints.
+const HINTS: [Operator; 13] = [
+    Operator::BlueValues,
+    Operator::OtherBlues,
+    Operator::FamilyBlues,
+    Operator::FamilyOtherBlues,
+    Operator::StdHW,
+    Operator::StdVW,
+    Operator::BlueScale,
+    Operator::BlueShift,
+    Operator::BlueFuzz,
+    Operator::StemSnapH,
+    Operator::StemSnapV,
+    Operator::LanguageGroup,
+    Operator::ExpansionFactor,
+];
+
+/// Whether an operator is in a list.
+fn is_among(operator: Operator, operators: &[Operator]) -> bool
+    ensures { IsTrue result ↔ Contains operators.now operator }
+{
+    for i in 0..operators.len() {
+        if operators[i] == operator {
+            return true;
+        }
+    }
+    false
+}
+
+/// Whether a text is an operation of a hint.
+fn is_hint_operation(alloc: Global, text: &[u8]) -> Result<bool>
+    ensures is { IfOk result (λ is. IsTrue is → (hint : Operation) × Contains hint_operators hint.0 × IsDict text.now (hint ∷ [])) }
+    ensures late { IfErr result (λ e. IsLate e) }
+{
+    match operation_in(alloc, text)? {
+        Some((operator, _operands)) => Ok(is_among(operator, &HINTS)),
+        None => Ok(false),
+    }
+}
+
+/// Appends a text if it is an operation of a hint.
+fn put_operation(alloc: Global, out: &mut Vec<u8>, text: &[u8]) -> Result<()>
+    ensures more { OnOk result ((out.new.items ≡ out.old.items) ⊎ (out.new.items ≡ out.old.items ++ text.now)) }
+    ensures hints { OnOk result (HasHints out.old.items → HasHints out.new.items) }
+    ensures late { IfErr result (λ e. IsLate e) }
+{
+    if !is_hint_operation(alloc, text)? {
+        return Ok(());
+    }
+    out.extend_from_slice(text)?;
+    Ok(())
+}
+
+/// Appends the operation of a hint. Digits of a real after the 18th significant one are cut off. If the operands still
 /// cannot be read, the operation is left out, so the operator has its default.
-pub(crate) fn put_readable(
-    alloc: Global,
-    out: &mut Vec<u8>,
-    operands: &[u8],
-    operator: &[u8],
-) -> Result<()>
+fn put_readable(alloc: Global, out: &mut Vec<u8>, operands: &[u8], operator: &[u8]) -> Result<()>
+    ensures more { OnOk result (IsHintAdded operator.now out.old.items out.new.items) }
+    ensures hints { OnOk result (HasHints out.old.items → HasHints out.new.items) }
     ensures late { IfErr result (λ e. IsLate e) }
 {
     let mut text = readable(alloc, operands)?;
     text.extend_from_slice(operator)?;
-    match operations_of(alloc, &text) {
-        Ok(_dictionary) => out.extend_from_slice(&text)?,
-        Err(Cause::Memory) => return Err(Error::Font(Cause::Memory)),
-        Err(_) => {}
-    }
-    Ok(())
+    put_operation(alloc, out, &text)
 }
 
 /// A number plus its deltas, each scaled.
@@ -188,6 +237,9 @@ impl<'m> Reader<'m> {
 
     /// Appends a hint with its operands, unless one is unsupported.
     fn put_hint(&mut self, alloc: Global, operator: &[u8]) -> Result<()>
+        ensures more { OnOk result (IsHintAdded operator.now self.old.out.items self.new.out.items) }
+        ensures index { self.new.index ≡ self.old.index }
+        ensures hints { OnOk result (HasHints self.old.out.items → HasHints self.new.out.items) }
         ensures late { IfErr result (λ e. IsLate e) }
     {
         if self.stack.is_empty() || self.stack.len() > OPERANDS {
@@ -201,7 +253,10 @@ impl<'m> Reader<'m> {
 
     /// Blends numbers. The last operand is their count. Before it are the numbers and their deltas, one for each
     /// scalar.
-    fn blend(&mut self) {
+    fn blend(&mut self)
+        ensures index { self.new.index ≡ self.old.index }
+        ensures out { self.new.out.items ≡ self.old.out.items }
+    {
         let count = match self.stack.pop() {
             Some(Number::Whole(count, _, _)) => usize::try_from(count).unwrap_or(0),
             _ => 0,
@@ -234,6 +289,9 @@ impl<'m> Reader<'m> {
 
     /// Runs an operator.
     fn act(&mut self, alloc: Global, operator: &[u8]) -> Result<()>
+        ensures index { OnOk result (operator.now ≡ 22 ∷ [] → self.new.index ≡ chosen self.old.index self.old.stack.items) }
+        ensures stays { OnOk result (operator.now ≢ 22 ∷ [] → self.new.index ≡ self.old.index) }
+        ensures hints { OnOk result (HasHints self.old.out.items → HasHints self.new.out.items) }
         ensures late { IfErr result (λ e. IsLate e) }
     {
         if matches!(operator, [BLEND]) {
@@ -253,6 +311,7 @@ impl<'m> Reader<'m> {
 
     /// Reads the DICT to its end, or to a truncated operator.
     fn read(&mut self, alloc: Global) -> Result<()>
+        ensures hints { OnOk result (HasHints self.old.out.items → HasHints self.new.out.items) }
         ensures late { IfErr result (λ e. IsLate e) }
     {
         let mut place = 0usize;
@@ -276,7 +335,9 @@ impl<'m> Reader<'m> {
 }
 
 /// Whether an operator is a hint.
-fn is_hint(operator: &[u8]) -> bool {
+fn is_hint(operator: &[u8]) -> bool
+    ensures { result ≡ is_hint_operator operator.now }
+{
     matches!(operator, [6..=11] | [12, 9..=13] | [12, 17..=18])
 }
 
@@ -298,6 +359,7 @@ pub(crate) fn private_of(
     number: usize,
     place: &Place,
 ) -> Result<Vec<u8>>
+    ensures is { IfOk result (λ text. IsPrivate text.items) }
     ensures late { IfErr result (λ e. IsLate e) }
 {
     let mut reader = Reader {

@@ -29,4 +29,4 @@ returns-clause-written c =
     (subst (λ bytes. IsCalled c.args.naming.now bytes back.0) c.deref-4.ensures.value back.3)
     (subst (λ bytes. KeepDictionaries c.args.font.now bytes back.0 (length c.in_ok-codes.codes.items)) c.deref-4.ensures.value
     (subst (λ (codes : List (Vec ℕ Global)). KeepDictionaries c.args.font.now c.deref-4.result.now back.0 (length codes))
-    c.deref-5.ensures.value back.4)) (texts c.in_ok-privates.privates.items) whole
+    c.deref-5.ensures.value back.4)) (texts c.in_ok-privates.privates.items) c.in_ok-privates.ensures.are whole
