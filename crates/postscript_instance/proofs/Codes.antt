@@ -9,6 +9,8 @@ use Rattle.postscript_instance.specs.Naming.{IsCalled}
 use Rattle.postscript_instance.specs.declared.naming.Naming.{Naming}
 use Rattle.postscript_cff2.specs.declared.font.Font.{Font}
 use Rattle.postscript_instance.specs.Dictionaries.{KeepDictionaries}
+use Rattle.std.specs.Borrow.{Bor}
+use Rattle.postscript_instance.specs.Encoded.{AreSources, IsSource}
 use Rattle.postscript_instance.specs.Glyphs.{AreCodes}
 use Rattle.postscript_instance.specs.Whole.{AreOfFont, IsWhole}
 use Rattle.postscript_instance.proofs.Compared.{same-items}
@@ -107,4 +109,18 @@ table-of does font naming advances bytes codes view are stands plain called keep
       are_privates = are_privates;
       whole = subst (λ items. IsWhole font naming items privates bytes)
           (sym (same-items view.char_strings codes plain.items.counted plain.items.each)) whole;
+    }
+
+pub one-source : (font : Font) (n : ℕ) (xs : List (Bor (List ℕ))) (x : Bor (List ℕ)) → AreSources font xs n → IsSource font n x.now →
+    AreSources font (xs ++ x ∷ []) (n + 1)
+one-source font n xs x are is =
+    let many = are.counted in
+    let long = length-append xs (x ∷ []) in
+    let at_end : slice_get (xs ++ x ∷ []) n ≡ Some x = subst (λ k. slice_get (xs ++ x ∷ []) k ≡ Some x) many (last xs x) in
+    record {
+      counted = omega (arith, many, long);
+      each = λ number h. elim (either number n h) [
+        | inl less ↦ let old = are.each number less in (old.0, stays xs x number (omega (arith, less, many)) ∙ old.1, old.2)
+        | inr same ↦ (x, ap (slice_get (xs ++ x ∷ [])) same ∙ at_end, subst (λ k. IsSource font k x.now) (sym same) is)
+      ];
     }

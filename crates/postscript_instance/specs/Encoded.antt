@@ -1,6 +1,11 @@
 -- The encodings that are written (Technical Note 5176, "DICT Data", Appendix A). Only private contracts and proofs use these names.
 use Rattle.std.specs.Int.{to_be_bytes, w32}
-use Rattle.std.specs.Prelude.{◌≡◌, ◌⊎◌, ℕ, ℤ, pos, negsuc, ◌==◌, ◌&&◌, ◌||◌, Bool, false, nat_le, List, [], ◌∷◌, ◌++◌, if◌then◌else◌}
+use Rattle.std.specs.Borrow.{Bor}
+use Rattle.std.specs.declared.alloc.Global.{Global}
+use Rattle.postscript_base.specs.Index.Lent.{items_of}
+use Rattle.postscript_cff2.specs.Parts.{IsPart, PrivateDict}
+use Rattle.postscript_cff2.specs.declared.font.Font.{Font}
+use Rattle.std.specs.Prelude.{Option, Some, None, Vec, slice_get, length, ◌<◌, ◌≡◌, ◌⊎◌, ℕ, ℤ, pos, negsuc, ◌==◌, ◌&&◌, ◌||◌, Bool, false, nat_le, List, [], ◌∷◌, ◌++◌, if◌then◌else◌}
 use Rattle.postscript_base.specs.Compact1.Operation.{Operation}
 use Rattle.postscript_instance.specs.Whole.{AreHints}
 use Rattle.postscript_instance.specs.declared.privates.Number.{Number}
@@ -41,3 +46,24 @@ chosen index numbers = index
 -- bytes that are operations of hints
 abbrev pub HasHints : List ℕ → Type 0
 HasHints text = (hints : List Operation) × AreHints text hints
+
+-- the scalars of item variation data
+abbrev pub scalars_or : Option (Vec ℕ Global) → List ℕ
+scalars_or None = []
+scalars_or (Some scalars) = scalars.items
+
+abbrev pub scalars_in : List (Vec ℕ Global) → (index : ℕ) → List ℕ
+scalars_in tables index = scalars_or (slice_get tables index)
+
+-- the CFF2 Private DICT of a Font DICT, or no bytes if there is none
+abbrev pub IsSource : Font → (number : ℕ) → (source : List ℕ) → Type 0
+IsSource font number source =
+    ((dictionary : List ℕ) × (part : PrivateDict) × (slice_get (items_of font.font_dictionaries) number ≡ Some dictionary)
+    × IsPart font.bytes.now dictionary part × (source ≡ part.private_dictionary))
+    ⊎ ((source ≡ []) × ((dictionary : List ℕ) (part : PrivateDict) → slice_get (items_of font.font_dictionaries) number ≡ Some dictionary →
+    IsPart font.bytes.now dictionary part → ⊥))
+
+pub record AreSources (font : Font) (sources : List (Bor (List ℕ))) (count : ℕ) : Type 0 where
+  pub counted : length sources ≡ count
+  pub each : (number : ℕ) → number < count → (source : Bor (List ℕ)) × (slice_get sources number ≡ Some source)
+      × IsSource font number source.now

@@ -12,7 +12,7 @@ use crate::error::{Error, Result};
 use crate::indices::{put_index, put_integer, put_operation, put_short, put_single};
 use crate::naming::{Identifiers, Naming};
 use crate::parts::{Content, is_keyed, is_named, matrix_in, operation_in};
-use crate::privates::{private_of, readable};
+use crate::privates::{private_of, readable, sources_of};
 use postscript_base::compact1::Operand;
 use postscript_cff2::Font;
 use postscript_variable_font::Place;
@@ -153,9 +153,10 @@ pub(crate) fn privates_of(alloc: Global, font: &Font<'_>, place: &Place) -> Resu
     ensures are { IfOk result (λ privates. AreOfFont font.now (texts privates.items)) }
     ensures late { IfErr result (λ e. IsLate e) }
 {
+    let sources = sources_of(alloc, font)?;
     let mut privates = Vec::new(alloc);
-    for number in 0..font.font_dictionaries.len() {
-        privates.push(private_of(alloc, font, number, place)?)?;
+    for number in 0..sources.len() {
+        privates.push(private_of(alloc, sources[number], place)?)?;
     }
     Ok(privates)
 }

@@ -1,10 +1,12 @@
 //! Private DICTs at a location: zones and stem widths for hinting (Technical Note 5176, "Private DICT Data"; OpenType
 //! 1.9, "CFF2", "Private DICT Data").
-ghost use Rattle.std.specs.Prelude.{◌≡◌, ◌≢◌, ◌↔◌, ◌⊎◌, ◌++◌, ◌<◌, [], ◌∷◌, IfErr, IfOk, IsTrue, OnOk, length};
-ghost use Rattle.postscript_instance.specs.Encoded.{HasHints, IsHintAdded, chosen, is_hint_operator};
+ghost use Rattle.std.specs.Prelude.{◌≡◌, ◌≢◌, ◌+ℤ◌, pos, IfSome, ◌↔◌, ◌⊎◌, ◌++◌, ◌<◌, [], ◌∷◌, IfErr, IfOk, IsTrue, OnOk, length};
+ghost use Rattle.postscript_instance.specs.Encoded.{AreSources, HasHints, IsSource, scalars_in, IsHintAdded, chosen, is_hint_operator};
 ghost use Rattle.postscript_instance.specs.Whole.{IsDict, IsPrivate, hint_operators};
 ghost use Rattle.postscript_base.specs.Compact1.Operation.{Operation};
 ghost use Rattle.std.specs.List.{Contains};
+ghost use Rattle.std.specs.Int.{int_div_euclid};
+ghost use Rattle.postscript_base.specs.Index.Lent.{items_of};
 ghost use Rattle.postscript_instance.specs.Refusals.{IsLate};
 
 use crate::error::Result;
@@ -169,6 +171,24 @@ fn blended(number: Option<Number>, deltas: &[Number], scalars: &[u32]) -> Number
     Number::Blended(sum)
 }
 
+/// The whole number nearest to a 16.16 number, and the upper one if it is halfway. `None` if it is out of range.
+fn nearest(bits: i64) -> Option<i64>
+    ensures { IfSome result (λ unit. unit ≡ int_div_euclid (bits +ℤ pos 32768) (pos 65536)) }
+{
+    let up = bits.checked_add(32768)?;
+    Some(up.div_euclid(65536))
+}
+
+/// The scalars of item variation data. There are none if there are no such data.
+fn scalars_of(tables: &[Vec<u32>], index: usize) -> &[u32]
+    ensures { result.now ≡ scalars_in tables.now index }
+{
+    match tables.get(index) {
+        Some(scalars) => scalars,
+        None => &[],
+    }
+}
+
 /// Differences of edges after rounding each edge to the nearest whole number, halves up. `None` if one does not fit
 /// into 16 bits.
 fn edges(alloc: Global, numbers: &[Number]) -> Result<Option<Vec<i16>>>
@@ -182,7 +202,9 @@ fn edges(alloc: Global, numbers: &[Number]) -> Result<Option<Vec<i16>>>
             return Ok(None);
         };
         exact = exact.saturating_add(bits);
-        let next = exact.saturating_add(32768).div_euclid(65536);
+        let Some(next) = nearest(exact) else {
+            return Ok(None);
+        };
         let Ok(edge) = i16::try_from(next.saturating_sub(whole)) else {
             return Ok(None);
         };
@@ -261,10 +283,7 @@ impl<'m> Reader<'m> {
             Some(Number::Whole(count, _, _)) => usize::try_from(count).unwrap_or(0),
             _ => 0,
         };
-        let scalars: &[u32] = match self.tables.get(self.index) {
-            Some(scalars) => scalars,
-            None => &[],
-        };
+        let scalars = scalars_of(self.tables, self.index);
         let all = count.saturating_mul(scalars.len().saturating_add(1));
         let Some(base) = self.stack.len().checked_sub(all) else {
             self.stack.truncate(0);
@@ -342,7 +361,9 @@ fn is_hint(operator: &[u8]) -> bool
 }
 
 /// The CFF2 Private DICT of a Font DICT, or no bytes if there is none.
-fn private_bytes<'l>(font: &Font<'l>, number: usize) -> &'l [u8] {
+fn private_bytes<'l>(font: &Font<'l>, number: usize) -> &'l [u8]
+    ensures { IsSource font.now number result.now }
+{
     let Some(bytes) = font.font_dictionaries.get(number) else {
         return &[];
     };
@@ -352,18 +373,25 @@ fn private_bytes<'l>(font: &Font<'l>, number: usize) -> &'l [u8] {
     }
 }
 
-/// The CFF Private DICT of a Font DICT at a location.
-pub(crate) fn private_of(
-    alloc: Global,
-    font: &Font<'_>,
-    number: usize,
-    place: &Place,
-) -> Result<Vec<u8>>
+/// The CFF2 Private DICTs of all Font DICTs.
+pub(crate) fn sources_of<'l>(alloc: Global, font: &Font<'l>) -> Result<Vec<&'l [u8]>>
+    ensures are { IfOk result (λ sources. AreSources font.now sources.items (length (items_of font.now.font_dictionaries))) }
+    ensures late { IfErr result (λ e. IsLate e) }
+{
+    let mut sources = Vec::new(alloc);
+    for number in 0..font.font_dictionaries.len() {
+        sources.push(private_bytes(font, number))?;
+    }
+    Ok(sources)
+}
+
+/// The CFF Private DICT of a CFF2 one at a location.
+pub(crate) fn private_of(alloc: Global, source: &[u8], place: &Place) -> Result<Vec<u8>>
     ensures is { IfOk result (λ text. IsPrivate text.items) }
     ensures late { IfErr result (λ e. IsLate e) }
 {
     let mut reader = Reader {
-        bytes: private_bytes(font, number),
+        bytes: source,
         tables: &place.tables,
         index: 0,
         stack: Vec::new(alloc),
