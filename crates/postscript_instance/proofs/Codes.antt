@@ -102,7 +102,7 @@ table-of does font naming advances bytes codes view are stands plain called keep
           let same = same-code codes glyph item.0 one.1 item.1 one.3 in
           (one.0, one.1.items, one.2, item.2 ∙ ap (λ (code : Vec ℕ Global). Some code.items) same, one.4);
       none = plain.none;
-      widths = plain.widths;
+      parts = plain.parts;
       called = called;
       dictionaries = λ glyph less. keep glyph (omega (arith, less, many));
       privates = privates;

@@ -91,3 +91,7 @@ pub font-dicts-end : (items : List (List ℕ)) (privates : List (Vec ℕ Global)
 font-dicts-end items privates i place h k =
     subst (λ all. AreFontDicts all (texts (drop i privates)) place) (sym (drop_of_length-le items h))
     (subst (λ all. AreFontDicts [] all place) (sym (rest-none (λ v. v.items) privates i k)) tt)
+
+pub no_items : {X : Type 0} (xs : List X) → length xs ≡ 0 → xs ≡ []
+no_items [] h = refl
+no_items (x ∷ xs) h = absurd (omega (arith, h))

@@ -7,7 +7,7 @@ ghost use Rattle.postscript_instance.specs.Glyphs.{AreCodes, DoesIn, HasNoRoom, 
 ghost use Rattle.postscript_instance.specs.Naming.{IsCalled};
 ghost use Rattle.postscript_instance.specs.Placed.{IsPlaceIn, LacksPlace};
 ghost use Rattle.postscript_instance.specs.Refusals.{IsLate};
-ghost use Rattle.postscript_instance.specs.Tables.{HasNoWidths, HaveNoWidths, IsPlainFont, IsRoundedTableOf, IsTable, IsTableAt, IsTableOf};
+ghost use Rattle.postscript_instance.specs.Tables.{IsPlainPart, ArePlainParts, IsPlainFont, IsRoundedTableOf, IsTable, IsTableAt, IsTableOf};
 ghost use Rattle.postscript_base.specs.Index.Lent.{items_of};
 ghost use Rattle.postscript_view.specs.Layout.{IsLaidOut};
 ghost use Rattle.postscript_view.specs.Contents.{View};
@@ -96,22 +96,26 @@ fn codes_of(
     Ok(codes)
 }
 
-/// Whether a Private DICT has a nominal width of 0.
-fn has_no_width(part: &PrivateDict<'_>) -> bool
-    ensures { IsTrue result → HasNoWidths (part_shown part.now) }
+/// Whether a Private DICT has no local subroutines, and a nominal width of 0.
+#[tactic(auto, using(crate::proofs::Compared::no_items))]
+fn is_plain_part(part: &PrivateDict<'_>) -> bool
+    ensures { IsTrue result → IsPlainPart (part_shown part.now) }
 {
+    if part.subroutines.len() != 0 {
+        return false;
+    }
     match part.nominal_width() {
         Some(width) => width.to_i32() == Some(0),
         None => false,
     }
 }
 
-/// Whether all Private DICTs have a nominal width of 0.
-fn have_no_widths(parts: &[PrivateDict<'_>]) -> bool
-    ensures { IsTrue result → HaveNoWidths (parts_shown parts.now) }
+/// Whether all Private DICTs have no local subroutines, and a nominal width of 0.
+fn are_plain_parts(parts: &[PrivateDict<'_>]) -> bool
+    ensures { IsTrue result → ArePlainParts (parts_shown parts.now) }
 {
     for part in parts {
-        if !has_no_width(part) {
+        if !is_plain_part(part) {
             return false;
         }
     }
@@ -140,8 +144,8 @@ fn keep_dictionaries(old: &Font<'_>, new: &FontView<'_>, glyphs: usize) -> bool
     true
 }
 
-/// Reads back the written font. The error is `NotReadBack` if its charstrings, its names or its Font DICTs are not the
-/// intended ones, or `Font` with `Memory`.
+/// Reads back the written font. The error is `NotReadBack` if its charstrings, its names, its Private DICTs or its Font
+/// DICTs are not the intended ones, or `Font` with `Memory`.
 fn read_back(
     alloc: Global,
     old: &Font<'_>,
@@ -158,7 +162,7 @@ fn read_back(
         Err(Cause::Memory) => return Err(Error::Font(Cause::Memory)),
         Err(_) => return Err(Error::NotReadBack),
     };
-    if font.global_subroutines.len() != 0 || !have_no_widths(&font.parts) {
+    if font.global_subroutines.len() != 0 || !are_plain_parts(&font.parts) {
         return Err(Error::NotReadBack);
     }
     if !are_codes(&font.char_strings, codes) || !keep_dictionaries(old, &font, codes.len()) {
@@ -277,8 +281,10 @@ fn table_at(
 /// if it blends numbers that are not whole, or if it does not fit into 16 bits. Reals of hints and of FontMatrix are cut
 /// off after 18 significant digits. An operator whose numbers still cannot be read is left out.
 ///
-/// The table is read back after writing. The clauses cover the glyphs, their widths, nominal widths, Font DICTs and
-/// names. FontMatrix and the hints have no clause, but tests (`postscript_variable_vectors`).
+/// The table is read back after writing. The clauses cover all its parts, one after the other, up to the last byte: the
+/// header, the name, the operations of the Top DICT and the Font DICTs, the strings, the charset, FDSelect and the
+/// charstrings. They say that a Private DICT has only hints and the two widths, but not which hints: these have tests
+/// (`postscript_variable_vectors`), as has a FontMatrix with a real of more than 18 digits.
 ///
 /// # Errors
 ///
@@ -289,14 +295,14 @@ fn table_at(
 /// - The errors of [`glyph`], for the first glyph that fails.
 /// - `TooLarge`: there are more than 65,535 glyphs, more than 64,609 names, or more than 256 Font DICTs without names.
 ///   The same error is returned if charstrings and names have 2,000,000,000 bytes or more together.
-/// - `NotReadBack`: the written table is not read back as the intended font.
+/// - `NotReadBack`: the written table is not read back as the intended font, with exactly the intended parts.
 pub fn table(
     alloc: Global,
     font: &Font<'_>,
     naming: &Naming<'_>,
     advances: &AdvancesAt<'_>,
 ) -> Result<Vec<u8>>
-    // The table is a font with the glyphs at the location, their advance widths and the names.
+    // The bytes are a font with the glyphs at the location, advance widths and names, and nothing else.
     ensures written { IfOk result (λ bytes. IsTableOf font.now naming.now advances.now bytes.items) }
     // An error has a justified cause in the input, or it is `NotReadBack` or `Memory`.
     ensures refused { IfErr result (λ e. NoTable font.now naming.now advances.now e) }
