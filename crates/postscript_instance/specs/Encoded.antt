@@ -5,7 +5,7 @@ use Rattle.std.specs.declared.alloc.Global.{Global}
 use Rattle.postscript_base.specs.Index.Lent.{items_of}
 use Rattle.postscript_cff2.specs.Parts.{IsPart, PrivateDict}
 use Rattle.postscript_cff2.specs.declared.font.Font.{Font}
-use Rattle.std.specs.Prelude.{Option, Some, None, Vec, slice_get, length, ◌<◌, ◌≡◌, ◌⊎◌, ℕ, ℤ, pos, negsuc, ◌==◌, ◌&&◌, ◌||◌, Bool, false, nat_le, List, [], ◌∷◌, ◌++◌, if◌then◌else◌}
+use Rattle.std.specs.Prelude.{Option, Some, None, Vec, slice_get, length, ◌<◌, ◌≡◌, ◌⊎◌, ℕ, pos, negsuc, ◌==◌, ◌&&◌, ◌||◌, Bool, false, nat_le, List, [], ◌∷◌, ◌++◌}
 use Rattle.postscript_base.specs.Compact1.Operation.{Operation}
 use Rattle.postscript_instance.specs.Whole.{AreHints}
 use Rattle.postscript_instance.specs.declared.privates.Number.{Number}

@@ -1,4 +1,3 @@
-use Rattle.std.proofs.Common.{◌≡◌, IfSome, subst}
 use Rattle.postscript_instance.proofs.privates.is_hint_operation.Goals as goal
 
 pub returns-in-Some-clause-is : goal.returns-in-Some-clause-is

@@ -1,4 +1,4 @@
-use Rattle.std.proofs.Common.{◌≡◌, ◌++◌, ◌∷◌, [], sym, subst, not}
+use Rattle.std.proofs.Common.{◌++◌, ◌∷◌, [], sym, subst}
 use Rattle.postscript_instance.specs.Whole as whole
 use Rattle.postscript_instance.specs.Encoded.{HasHints}
 use Rattle.postscript_instance.proofs.Rests.{is-true}
