@@ -16,7 +16,7 @@ matrix_of matrix = option_map (λ operands. operands.items) matrix
 pub record HasKeyedParts (content : Content) (bytes : List ℕ) (places : Places) : Type 0 where
   pub head : HasHead bytes content.name.now places.top.now (texts content.strings.now) places.set
   pub set_ends : SetEnds bytes (length (texts content.codes.now)) places.set places.select
-  pub select_ends : SelectEnds bytes (length (texts content.codes.now)) places.select places.char_strings
+  pub select_ends : SelectEnds bytes (length (texts content.codes.now)) (length (texts content.privates.now)) places.select places.char_strings
   pub are_codes : IsIndex bytes places.char_strings (texts content.codes.now) places.private
   pub are_privates : ArePrivates bytes (texts content.privates.now) places.private places.end
 

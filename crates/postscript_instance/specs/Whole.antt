@@ -55,9 +55,10 @@ SetEnds bytes glyphs place next =
     ⊎ ((number_at bytes place 1 ≡ 2) × ((ranges : ℕ) × (covered (drop (place + 1) bytes) 2 ranges ≡ glyphs - 1)
     × (next ≡ place + 1 + 4 * ranges)))
 
--- FDSelect of format 0 has a byte for each glyph (section 19).
-abbrev pub SelectEnds : List ℕ → (glyphs place next : ℕ) → Type 0
-SelectEnds bytes glyphs place next = (number_at bytes place 1 ≡ 0) × (next ≡ place + 1 + glyphs)
+-- FDSelect of format 0 has a byte for each glyph, which is the number of a Font DICT (section 19).
+abbrev pub SelectEnds : List ℕ → (glyphs dictionaries place next : ℕ) → Type 0
+SelectEnds bytes glyphs dictionaries place next = (number_at bytes place 1 ≡ 0)
+    × ((glyph : ℕ) → glyph < glyphs → number_at bytes (place + 1 + glyph) 1 < dictionaries) × (next ≡ place + 1 + glyphs)
 
 -- These Private DICTs are there one after the other (section 15).
 abbrev pub ArePrivates : List ℕ → (privates : List (List ℕ)) → (place next : ℕ) → Type 0
@@ -111,7 +112,7 @@ pub record IsKeyedTable (matrix : Option (List Decimal)) (name : List ℕ) (stri
   pub array : ℕ
   pub head : HasHead bytes name top strings set
   pub set_ends : SetEnds bytes (length codes) set select
-  pub select_ends : SelectEnds bytes (length codes) select char_strings
+  pub select_ends : SelectEnds bytes (length codes) (length privates) select char_strings
   pub are_codes : IsIndex bytes char_strings codes private
   pub are_privates : ArePrivates bytes privates private array
   pub are_dictionaries : IsIndex bytes array dictionaries (length bytes)

@@ -1,10 +1,10 @@
 //! Reads back the parts of a written `CFF ` table (Technical Note 5176, "CFF Data Layout").
-ghost use Rattle.std.specs.Prelude.{◌≡◌, ◌↔◌, ◌+◌, ◌++◌, ◌≤◌, ◌<◌, [], ◌∷◌, map, length, IfErr, IfOk, IfSome, IsTrue, OnOk, Some, option_map, pos, slice_get};
+ghost use Rattle.std.specs.Prelude.{◌≡◌, ℕ, ◌↔◌, ◌+◌, ◌++◌, ◌≤◌, ◌<◌, [], ◌∷◌, map, length, IfErr, IfOk, IfSome, IsTrue, OnOk, Some, option_map, pos, slice_get};
 ghost use Rattle.std.specs.List.{slice_range};
 ghost use Rattle.postscript_base.specs.Compact1.Number.{whole};
 ghost use Rattle.postscript_base.specs.Compact1.Operation.{Operation as Spoken};
 ghost use Rattle.postscript_base.specs.Compact1.OperationLaw.{OperationAt};
-ghost use Rattle.postscript_base.specs.Index.{IsIndex};
+ghost use Rattle.postscript_base.specs.Index.{IsIndex, number_at as the_number};
 ghost use Rattle.postscript_base.specs.Index.Lent.{items_of};
 ghost use Rattle.postscript_instance.specs.Found.{HasKeyedParts, HasNamedParts, matrix_of};
 ghost use Rattle.postscript_instance.specs.Refusals.{IsLate};
@@ -208,13 +208,31 @@ fn set_end(bytes: &[u8], place: usize, glyphs: usize) -> Option<usize>
     }
 }
 
-/// The offset after FDSelect of format 0.
-fn select_end(bytes: &[u8], place: usize, glyphs: usize) -> Option<usize>
-    ensures { IfSome result (λ next. SelectEnds bytes.now glyphs place next) }
+/// Whether these bytes are below a number.
+fn are_below(bytes: &[u8], place: usize, count: usize, most: usize) -> bool
+    requires { place + count ≤ length bytes.now }
+    ensures { IsTrue result → (i : ℕ) → i < count → the_number bytes.now (place + i) 1 < most }
 {
-    match number_within(bytes, place, 1).ok()? {
+    for i in 0..count {
+        if number_at(bytes, place + i, 1) >= most {
+            return false;
+        }
+    }
+    true
+}
+
+/// The offset after FDSelect of format 0.
+fn select_end(bytes: &[u8], place: usize, glyphs: usize, dictionaries: usize) -> Option<usize>
+    ensures { IfSome result (λ next. SelectEnds bytes.now glyphs dictionaries place next) }
+{
+    let end = match number_within(bytes, place, 1).ok()? {
         0 => glyphs.checked_add(place + 1),
         _ => None,
+    }?;
+    if end <= bytes.len() && are_below(bytes, place + 1, glyphs, dictionaries) {
+        Some(end)
+    } else {
+        None
     }
 }
 
@@ -337,7 +355,7 @@ fn keyed_places<'l>(bytes: &'l [u8], content: &Content<'_>) -> Option<Places<'l>
     let glyphs = content.codes.len();
     let (top, set) = head_of(bytes, content.name, content.strings)?;
     let select = set_end(bytes, set, glyphs)?;
-    let char_strings = select_end(bytes, select, glyphs)?;
+    let char_strings = select_end(bytes, select, glyphs, content.privates.len())?;
     let private = index_end(bytes, char_strings, content.codes)?;
     let end = privates_end(bytes, private, content.privates)?;
     Some(Places {
