@@ -9,7 +9,12 @@ use Rattle.postscript_instance.specs.Naming.{IsCalled}
 use Rattle.postscript_instance.specs.declared.naming.Naming.{Naming}
 use Rattle.postscript_cff2.specs.declared.font.Font.{Font}
 use Rattle.postscript_instance.specs.Dictionaries.{KeepDictionaries}
+use Rattle.std.specs.Borrow.{Bor}
+use Rattle.postscript_instance.specs.Encoded.{AreSources, IsSource}
 use Rattle.postscript_instance.specs.Glyphs.{AreCodes}
+use Rattle.postscript_instance.specs.Whole.{AreOfFont, IsWhole}
+use Rattle.postscript_instance.proofs.Compared.{same-items}
+use Rattle.postscript_type2.specs.Program.Routines.{texts}
 use Rattle.postscript_instance.specs.Tables.{AreItems, IsPlainFont, IsTable}
 
 -- what stands there already stays, and the new one is the last
@@ -83,8 +88,9 @@ same-code codes i a b h k = let both : Some a ≡ Some b = sym h ∙ k in cc
 pub table-of : (does : (glyph : ℕ) → (advance : ℤ) → (code : List ℕ) → Type 0) (font : Font) (naming : Naming) (advances : List ℤ)
     (bytes : List ℕ) (codes : List (Vec ℕ Global)) (view : View) →
     AreCodes does advances (length advances) codes → IsLaidOut bytes 0 view → IsPlainFont view codes → IsCalled naming bytes view →
-    KeepDictionaries font bytes view (length codes) → IsTable does font naming advances bytes
-table-of does font naming advances bytes codes view are stands plain called keep =
+    KeepDictionaries font bytes view (length codes) → (privates : List (List ℕ)) → AreOfFont font privates → IsWhole font naming (texts codes) privates bytes →
+    IsTable does font naming advances bytes
+table-of does font naming advances bytes codes view are stands plain called keep privates are_privates whole =
     let many = are.counted in
     let all = plain.items.counted in record {
       view = view;
@@ -96,7 +102,25 @@ table-of does font naming advances bytes codes view are stands plain called keep
           let same = same-code codes glyph item.0 one.1 item.1 one.3 in
           (one.0, one.1.items, one.2, item.2 ∙ ap (λ (code : Vec ℕ Global). Some code.items) same, one.4);
       none = plain.none;
-      widths = plain.widths;
+      parts = plain.parts;
       called = called;
       dictionaries = λ glyph less. keep glyph (omega (arith, less, many));
+      privates = privates;
+      are_privates = are_privates;
+      whole = subst (λ items. IsWhole font naming items privates bytes)
+          (sym (same-items view.char_strings codes plain.items.counted plain.items.each)) whole;
+    }
+
+pub one-source : (font : Font) (n : ℕ) (xs : List (Bor (List ℕ))) (x : Bor (List ℕ)) → AreSources font xs n → IsSource font n x.now →
+    AreSources font (xs ++ x ∷ []) (n + 1)
+one-source font n xs x are is =
+    let many = are.counted in
+    let long = length-append xs (x ∷ []) in
+    let at_end : slice_get (xs ++ x ∷ []) n ≡ Some x = subst (λ k. slice_get (xs ++ x ∷ []) k ≡ Some x) many (last xs x) in
+    record {
+      counted = omega (arith, many, long);
+      each = λ number h. elim (either number n h) [
+        | inl less ↦ let old = are.each number less in (old.0, stays xs x number (omega (arith, less, many)) ∙ old.1, old.2)
+        | inr same ↦ (x, ap (slice_get (xs ++ x ∷ [])) same ∙ at_end, subst (λ k. IsSource font k x.now) (sym same) is)
+      ];
     }

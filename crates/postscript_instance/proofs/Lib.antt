@@ -1,3 +1,5 @@
+pub mod Compared
+pub mod Reading
 pub mod Rests
 pub mod Sayable
 pub mod Strokes

@@ -11,6 +11,9 @@ pub mod Rooms
 pub mod Glyphs
 pub mod Naming
 pub mod Dictionaries
+pub mod Whole
+pub mod Encoded
+pub mod Found
 pub mod Tables
 pub mod Advances
 pub mod Axes

@@ -1,5 +1,5 @@
 -- Only private contracts and proofs use these names.
-use Rattle.std.specs.Prelude.{◌≡◌, ◌⊎◌, ℕ, ◌+◌, ◌<◌, ◌≤◌, ℤ, ◌+ℤ◌, true, false, List, [], ◌∷◌, ◌++◌, length, Option, None, pos, if◌then◌else◌}
+use Rattle.std.specs.Prelude.{◌≡◌, ◌⊎◌, ℕ, ◌<◌, ◌≤◌, ℤ, ◌+ℤ◌, true, false, List, [], ◌∷◌, ◌++◌, length, Option, None, pos, if◌then◌else◌}
 use Rattle.postscript_base.specs.declared.error.Error.TheVariants as causes
 use Rattle.postscript_outline.specs.declared.point.Point.{Point}
 use Rattle.postscript_variable.specs.Defaults.{AreHeld}

@@ -12,6 +12,7 @@ use Rattle.postscript_instance.specs.Dictionaries.{KeepDictionaries}
 use Rattle.postscript_instance.specs.Glyphs.{AreWidthsOf, DoesAt, DoesRoundedAt}
 use Rattle.postscript_instance.specs.Naming.{IsCalled}
 use Rattle.postscript_instance.specs.Placed.{IsPlaceIn}
+use Rattle.postscript_instance.specs.Whole.{AreOfFont, IsWhole}
 use Rattle.postscript_instance.specs.declared.advances.AdvancesAt.{AdvancesAt}
 use Rattle.postscript_instance.specs.declared.naming.Naming.{Naming}
 
@@ -21,23 +22,24 @@ pub record AreItems (items : List (List ℕ)) (codes : List (Vec ℕ Global)) (c
   pub each : (number : ℕ) → number < count → (code : Vec ℕ Global) × (slice_get codes number ≡ Some code) ×
       (slice_get items number ≡ Some code.items)
 
--- a Private DICT whose nominal width is 0, so that the width in a charstring is the advance
-abbrev pub HasNoWidths : PrivateDict → Type 0
-HasNoWidths part = (width : Decimal) × (first_of (look part.dictionary NominalWidthX) ≡ Some width) × (to_i32 width ≡ Some (pos 0))
+-- a Private DICT without local subroutines, whose nominal width is 0, so that the width in a charstring is the advance
+abbrev pub IsPlainPart : PrivateDict → Type 0
+IsPlainPart part = (part.subroutines ≡ [])
+    × ((width : Decimal) × (first_of (look part.dictionary NominalWidthX) ≡ Some width) × (to_i32 width ≡ Some (pos 0)))
 
-abbrev pub HaveNoWidths : List PrivateDict → Type 0
-HaveNoWidths [] = Unit {0}
-HaveNoWidths (part ∷ parts) = HasNoWidths part × HaveNoWidths parts
+abbrev pub ArePlainParts : List PrivateDict → Type 0
+ArePlainParts [] = Unit {0}
+ArePlainParts (part ∷ parts) = IsPlainPart part × ArePlainParts parts
 
--- a font with these codes and without global subroutines, whose charstrings have their advances as widths
+-- a font with these codes and without subroutines, whose charstrings have their advances as widths
 pub record IsPlainFont (view : View) (codes : List (Vec ℕ Global)) : Type 0 where
   pub items : AreItems view.char_strings codes (length codes)
   pub none : view.tables.subroutines ≡ []
-  pub widths : HaveNoWidths view.parts
+  pub parts : ArePlainParts view.parts
 
--- The bytes contain a font without global subroutines (Technical Note 5176, "CFF Data Layout"). For each glyph, `does` holds of its advance
+-- The bytes contain a font without subroutines (Technical Note 5176, "CFF Data Layout"). For each glyph, `does` holds of its advance
 -- and its code, and nothing is added to widths. Each glyph has the Font DICT with the same number as in the other font. The font and its
--- glyphs have the given names.
+-- glyphs have the given names. There is nothing else in the bytes: all of them are parts of the table.
 pub record IsTable (does : (glyph : ℕ) → (advance : ℤ) → (code : List ℕ) → Type 0) (font : Font) (naming : Naming) (advances : List ℤ)
     (bytes : List ℕ) : Type 0 where
   pub view : View
@@ -47,9 +49,12 @@ pub record IsTable (does : (glyph : ℕ) → (advance : ℤ) → (code : List �
       (advance : ℤ) × (code : List ℕ) × (slice_get advances glyph ≡ Some advance) ×
       (slice_get view.char_strings glyph ≡ Some code) × does glyph advance code
   pub none : view.tables.subroutines ≡ []
-  pub widths : HaveNoWidths view.parts
+  pub parts : ArePlainParts view.parts
   pub called : IsCalled naming bytes view
   pub dictionaries : KeepDictionaries font bytes view (length advances)
+  pub privates : List (List ℕ)
+  pub are_privates : AreOfFont font privates
+  pub whole : IsWhole font naming view.char_strings privates bytes
 
 -- The table of a font at the location of its advances. For each glyph, `does` holds of its code there, with its advance there as width.
 pub record IsTableAt (does : Font → Place → (glyph : ℕ) → (advance : ℤ) → (code : List ℕ) → Type 0) (font : Font) (naming : Naming)

@@ -1,6 +1,8 @@
 //! Numbers, offsets and INDEXes of a `CFF ` table (Technical Note 5176, "Data Types", "DICT Data", "INDEX Data"). Apart
 //! from `Memory` the only error is `NotReadBack`: sizes are checked before anything is written.
-ghost use Rattle.std.specs.Prelude.{◌≤◌, IfErr};
+ghost use Rattle.std.specs.Int.{to_be_bytes, w32};
+ghost use Rattle.std.specs.Prelude.{◌≡◌, ◌≤◌, ◌++◌, IfErr, IfOk, OnOk};
+ghost use Rattle.postscript_instance.specs.Encoded.{IsAppended, integer_text, operation_text};
 ghost use Rattle.postscript_instance.specs.Refusals.{IsLate};
 
 use crate::error::{Error, Result};
@@ -8,6 +10,7 @@ use std::alloc::Global;
 
 /// Appends a number in two bytes.
 pub(crate) fn put_short(out: &mut Vec<u8>, number: usize) -> Result<()>
+    ensures more { OnOk result (IsAppended out.old.items out.new.items) }
     ensures late { IfErr result (λ e. IsLate e) }
 {
     let Ok(number) = u16::try_from(number) else {
@@ -19,6 +22,7 @@ pub(crate) fn put_short(out: &mut Vec<u8>, number: usize) -> Result<()>
 
 /// The four bytes of a number.
 fn four(number: usize) -> Result<[u8; 4]>
+    ensures are { IfOk result (λ bytes. bytes ≡ to_be_bytes w32 number) }
     ensures late { IfErr result (λ e. IsLate e) }
 {
     let Ok(number) = u32::try_from(number) else {
@@ -53,6 +57,7 @@ fn offset_behind(items: &[Vec<u8>]) -> usize {
 
 /// Appends an offset of `size` bytes.
 fn put_offset(out: &mut Vec<u8>, size: usize, offset: usize) -> Result<()>
+    ensures more { OnOk result (IsAppended out.old.items out.new.items) }
     ensures late { IfErr result (λ e. IsLate e) }
 {
     let bytes = four(offset)?;
@@ -63,6 +68,7 @@ fn put_offset(out: &mut Vec<u8>, size: usize, offset: usize) -> Result<()>
 
 /// Appends the offsets of items, and the offset after them.
 fn put_offsets(out: &mut Vec<u8>, items: &[Vec<u8>]) -> Result<()>
+    ensures more { OnOk result (IsAppended out.old.items out.new.items) }
     ensures late { IfErr result (λ e. IsLate e) }
 {
     let size = size_of(offset_behind(items));
@@ -77,6 +83,7 @@ fn put_offsets(out: &mut Vec<u8>, items: &[Vec<u8>]) -> Result<()>
 
 /// Appends an INDEX.
 pub(crate) fn put_index(out: &mut Vec<u8>, items: &[Vec<u8>]) -> Result<()>
+    ensures more { OnOk result (IsAppended out.old.items out.new.items) }
     ensures late { IfErr result (λ e. IsLate e) }
 {
     put_short(out, items.len())?;
@@ -92,6 +99,7 @@ pub(crate) fn put_index(out: &mut Vec<u8>, items: &[Vec<u8>]) -> Result<()>
 
 /// Appends an INDEX of one item.
 pub(crate) fn put_single(alloc: Global, out: &mut Vec<u8>, item: &[u8]) -> Result<()>
+    ensures more { OnOk result (IsAppended out.old.items out.new.items) }
     ensures late { IfErr result (λ e. IsLate e) }
 {
     let mut items = Vec::new(alloc);
@@ -101,6 +109,7 @@ pub(crate) fn put_single(alloc: Global, out: &mut Vec<u8>, item: &[u8]) -> Resul
 
 /// Appends an integer operand of five bytes.
 pub(crate) fn put_integer(out: &mut Vec<u8>, number: usize) -> Result<()>
+    ensures ok { OnOk result (out.new.items ≡ out.old.items ++ integer_text number) }
     ensures late { IfErr result (λ e. IsLate e) }
 {
     if number > 0x7fff_ffff {
@@ -113,6 +122,7 @@ pub(crate) fn put_integer(out: &mut Vec<u8>, number: usize) -> Result<()>
 
 /// Appends an operation of a DICT with one integer operand.
 pub(crate) fn put_operation(out: &mut Vec<u8>, number: usize, operator: &[u8]) -> Result<()>
+    ensures ok { OnOk result (out.new.items ≡ out.old.items ++ operation_text number operator.now) }
     ensures late { IfErr result (λ e. IsLate e) }
 {
     put_integer(out, number)?;

@@ -1,12 +1,19 @@
 //! The layout of a `CFF ` table (Technical Note 5176, "CFF Data Layout", "CID-keyed Fonts"). The callers read the
 //! result back.
-ghost use Rattle.std.specs.Prelude.{IfErr};
+ghost use Rattle.std.specs.Prelude.{◌≡◌, ◌≤◌, ◌++◌, ℕ, List, [], ◌∷◌, IfErr, IfOk, IsTrue, OnOk, length};
+ghost use Rattle.std.specs.List.{slice_range};
+ghost use Rattle.postscript_instance.specs.Found.{matrix_of as the_matrix};
 ghost use Rattle.postscript_instance.specs.Refusals.{IsLate};
+ghost use Rattle.postscript_instance.specs.Whole.{AreOfFont, IsMatrixOf, IsWhole, adobe, header, identity};
+ghost use Rattle.postscript_instance.specs.Encoded.{IsAppended, integer_text, operation_text, ros_text};
+ghost use Rattle.postscript_type2.specs.Program.Routines.{texts};
 
 use crate::error::{Error, Result};
 use crate::indices::{put_index, put_integer, put_operation, put_short, put_single};
 use crate::naming::{Identifiers, Naming};
-use crate::privates::{private_of, put_readable};
+use crate::parts::{Content, is_keyed, is_named, matrix_in, operation_in};
+use crate::privates::{private_of, readable, sources_of};
+use postscript_base::compact1::Operand;
 use postscript_cff2::Font;
 use postscript_variable_font::Place;
 use std::alloc::Global;
@@ -34,8 +41,22 @@ impl Places {
     };
 }
 
+/// Appends FontMatrix with these operands, if they can be read.
+fn put_operands(alloc: Global, out: &mut Vec<u8>, operands: &[u8]) -> Result<()>
+    ensures more { OnOk result (IsAppended out.old.items out.new.items) }
+    ensures late { IfErr result (λ e. IsLate e) }
+{
+    let mut text = readable(alloc, operands)?;
+    text.extend_from_slice(&[0x0c, 0x07])?;
+    if let Some(_operation) = operation_in(alloc, &text)? {
+        out.extend_from_slice(&text)?;
+    }
+    Ok(())
+}
+
 /// Appends FontMatrix as it is in the CFF2 Top DICT, if there is one that can be read.
 fn put_matrix(alloc: Global, out: &mut Vec<u8>, font: &Font<'_>) -> Result<()>
+    ensures more { OnOk result (IsAppended out.old.items out.new.items) }
     ensures late { IfErr result (λ e. IsLate e) }
 {
     match font.dictionary.last(FONT_MATRIX) {
@@ -45,7 +66,7 @@ fn put_matrix(alloc: Global, out: &mut Vec<u8>, font: &Font<'_>) -> Result<()>
                 .bytes
                 .get(entry.start..entry.place)
                 .unwrap_or(&[]);
-            put_readable(alloc, out, operands, &[0x0c, 0x07])
+            put_operands(alloc, out, operands)
         }
         None => Ok(()),
     }
@@ -58,6 +79,9 @@ fn keyed_dictionary(
     glyphs: usize,
     places: Places,
 ) -> Result<Vec<u8>>
+    ensures are { IfOk result (λ top. (matrix : List ℕ) × (top.items ≡ ros_text ++ matrix ++ operation_text glyphs (0x0c ∷ 0x22 ∷ [])
+        ++ operation_text places.char_set (0x0f ∷ []) ++ operation_text places.select (0x0c ∷ 0x25 ∷ [])
+        ++ operation_text places.char_strings (0x11 ∷ []) ++ operation_text places.dictionaries (0x0c ∷ 0x24 ∷ []))) }
     ensures late { IfErr result (λ e. IsLate e) }
 {
     let mut top = Vec::new(alloc);
@@ -78,6 +102,8 @@ fn named_dictionary(
     private: usize,
     places: Places,
 ) -> Result<Vec<u8>>
+    ensures are { IfOk result (λ top. (matrix : List ℕ) × (top.items ≡ matrix ++ operation_text places.char_set (0x0f ∷ [])
+        ++ operation_text places.char_strings (0x11 ∷ []) ++ integer_text private ++ operation_text places.dictionaries (0x12 ∷ []))) }
     ensures late { IfErr result (λ e. IsLate e) }
 {
     let mut top = Vec::new(alloc);
@@ -123,12 +149,14 @@ fn select(alloc: Global, font: &Font<'_>, glyphs: usize) -> Result<Vec<u8>>
 }
 
 /// The Private DICT of each Font DICT.
-fn privates_of(alloc: Global, font: &Font<'_>, place: &Place) -> Result<Vec<Vec<u8>>>
+pub(crate) fn privates_of(alloc: Global, font: &Font<'_>, place: &Place) -> Result<Vec<Vec<u8>>>
+    ensures are { IfOk result (λ privates. AreOfFont font.now (texts privates.items)) }
     ensures late { IfErr result (λ e. IsLate e) }
 {
+    let sources = sources_of(alloc, font)?;
     let mut privates = Vec::new(alloc);
-    for number in 0..font.font_dictionaries.len() {
-        privates.push(private_of(alloc, font, number, place)?)?;
+    for number in 0..sources.len() {
+        privates.push(private_of(alloc, sources[number], place)?)?;
     }
     Ok(privates)
 }
@@ -151,6 +179,7 @@ fn dictionaries(alloc: Global, privates: &[Vec<u8>], place: usize) -> Result<(Ve
 
 /// The strings Adobe and Identity.
 fn keyed_strings(alloc: Global) -> Result<Vec<Vec<u8>>>
+    ensures are { IfOk result (λ strings. texts strings.items ≡ adobe ∷ identity ∷ []) }
     ensures late { IfErr result (λ e. IsLate e) }
 {
     let mut strings = Vec::new(alloc);
@@ -161,6 +190,7 @@ fn keyed_strings(alloc: Global) -> Result<Vec<Vec<u8>>>
 
 /// The header, the name, the Top DICT, the strings, and an INDEX without subroutines.
 fn head(alloc: Global, name: &[u8], top: &[u8], strings: &[Vec<u8>]) -> Result<Vec<u8>>
+    ensures begins { IfOk result (λ out. IsAppended header out.items) }
     ensures late { IfErr result (λ e. IsLate e) }
 {
     let mut out = Vec::new(alloc);
@@ -176,7 +206,7 @@ fn head(alloc: Global, name: &[u8], top: &[u8], strings: &[Vec<u8>]) -> Result<V
 fn laid_out_by_numbers(
     alloc: Global,
     font: &Font<'_>,
-    place: &Place,
+    privates: &[Vec<u8>],
     name: &[u8],
     char_strings: &[u8],
     glyphs: usize,
@@ -186,13 +216,12 @@ fn laid_out_by_numbers(
     let set = keyed_set(alloc, glyphs)?;
     let select = select(alloc, font, glyphs)?;
     let strings = keyed_strings(alloc)?;
-    let privates = privates_of(alloc, font, place)?;
     let draft = keyed_dictionary(alloc, font, glyphs, Places::NONE)?;
     let start = head(alloc, name, &draft, &strings)?.len();
     let select_place = start.saturating_add(set.len());
     let strings_place = select_place.saturating_add(select.len());
     let privates_place = strings_place.saturating_add(char_strings.len());
-    let (dictionaries, end) = dictionaries(alloc, &privates, privates_place)?;
+    let (dictionaries, end) = dictionaries(alloc, privates, privates_place)?;
     let places = Places {
         char_set: start,
         select: select_place,
@@ -204,7 +233,7 @@ fn laid_out_by_numbers(
     out.extend_from_slice(&set)?;
     out.extend_from_slice(&select)?;
     out.extend_from_slice(char_strings)?;
-    for private in &privates {
+    for private in privates {
         out.extend_from_slice(private)?;
     }
     put_index(&mut out, &dictionaries)?;
@@ -215,7 +244,7 @@ fn laid_out_by_numbers(
 fn laid_out_by_names(
     alloc: Global,
     font: &Font<'_>,
-    place: &Place,
+    private: &[u8],
     name: &[u8],
     char_strings: &[u8],
     names: &[&[u8]],
@@ -224,7 +253,6 @@ fn laid_out_by_names(
 {
     let identifiers = Identifiers::of(alloc, names)?;
     let set = identifiers.char_set(alloc)?;
-    let private = private_of(alloc, font, 0, place)?;
     let draft = named_dictionary(alloc, font, private.len(), Places::NONE)?;
     let start = head(alloc, name, &draft, &identifiers.strings)?.len();
     let strings_place = start.saturating_add(set.len());
@@ -238,25 +266,100 @@ fn laid_out_by_names(
     let mut out = head(alloc, name, &top, &identifiers.strings)?;
     out.extend_from_slice(&set)?;
     out.extend_from_slice(char_strings)?;
-    out.extend_from_slice(&private)?;
+    out.extend_from_slice(private)?;
     Ok(out)
 }
 
-/// The table with these charstrings.
+/// The table with these charstrings and Private DICTs.
 pub(crate) fn laid_out(
     alloc: Global,
     font: &Font<'_>,
-    place: &Place,
     naming: &Naming<'_>,
     codes: &[Vec<u8>],
+    privates: &[Vec<u8>],
 ) -> Result<Vec<u8>>
     ensures late { IfErr result (λ e. IsLate e) }
 {
     let mut char_strings = Vec::new(alloc);
     put_index(&mut char_strings, codes)?;
     let name = naming.font;
+    match (naming.glyphs, privates) {
+        (Some(names), [private, ..]) => {
+            laid_out_by_names(alloc, font, private, name, &char_strings, names)
+        }
+        (Some(names), []) => laid_out_by_names(alloc, font, &[], name, &char_strings, names),
+        (None, _) => {
+            laid_out_by_numbers(alloc, font, privates, name, &char_strings, codes.len())
+        }
+    }
+}
+
+/// The bytes from one offset to another.
+fn between(bytes: &[u8], from: usize, to: usize) -> &[u8]
+    requires { to ≤ length bytes.now }
+    ensures { result.now ≡ slice_range bytes.now from to }
+{
+    if from < to { &bytes[from..to] } else { &[] }
+}
+
+/// The operands of FontMatrix in the CFF2 Top DICT, if it has one that can be read.
+fn matrix_of(alloc: Global, font: &Font<'_>) -> Result<Option<Vec<Operand>>>
+    ensures is { IfOk result (λ matrix. IsMatrixOf font.now.dictionary.bytes.now (the_matrix matrix)) }
+    ensures late { IfErr result (λ e. IsLate e) }
+{
+    match font.dictionary.last(FONT_MATRIX) {
+        Some(entry) => {
+            let operands = between(font.dictionary.bytes, entry.start, entry.place);
+            let matrix = matrix_in(alloc, operands)?;
+            Ok(matrix)
+        }
+        None => Ok(None),
+    }
+}
+
+/// Whether a table is exactly the one with these charstrings and Private DICTs.
+pub(crate) fn is_whole(
+    alloc: Global,
+    font: &Font<'_>,
+    bytes: &[u8],
+    naming: &Naming<'_>,
+    codes: &[Vec<u8>],
+    privates: &[Vec<u8>],
+) -> Result<bool>
+    ensures is { IfOk result (λ is. IsTrue is → IsWhole font.now naming.now (texts codes.now) (texts privates.now) bytes.now) }
+    ensures late { IfErr result (λ e. IsLate e) }
+{
+    let matrix = matrix_of(alloc, font)?;
     match naming.glyphs {
-        Some(names) => laid_out_by_names(alloc, font, place, name, &char_strings, names),
-        None => laid_out_by_numbers(alloc, font, place, name, &char_strings, codes.len()),
+        Some(names) => {
+            let identifiers = Identifiers::of(alloc, names)?;
+            let is = is_named(
+                alloc,
+                bytes,
+                &Content {
+                    matrix: &matrix,
+                    name: naming.font,
+                    strings: &identifiers.strings,
+                    codes,
+                    privates,
+                },
+            )?;
+            Ok(is)
+        }
+        None => {
+            let strings = keyed_strings(alloc)?;
+            let is = is_keyed(
+                alloc,
+                bytes,
+                &Content {
+                    matrix: &matrix,
+                    name: naming.font,
+                    strings: &strings,
+                    codes,
+                    privates,
+                },
+            )?;
+            Ok(is)
+        }
     }
 }

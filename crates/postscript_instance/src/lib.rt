@@ -10,6 +10,7 @@ pub mod laws;
 mod layout;
 mod naming;
 mod numbers;
+mod parts;
 mod pieces;
 mod privates;
 mod reals;

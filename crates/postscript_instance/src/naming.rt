@@ -1,8 +1,12 @@
 //! The names of a font and its glyphs.
-ghost use Rattle.std.specs.Prelude.{◌≡◌, Some, IfErr, IsTrue, OnOk, length, slice_get};
+ghost use Rattle.std.specs.Prelude.{◌≡◌, ◌↔◌, ◌<◌, ◌++◌, ℕ, List, [], ◌∷◌, Some, IfErr, IfNone, IfOk, IfSome, IsTrue, OnOk, length, slice_get};
 ghost use Rattle.postscript_base.specs.Index.Lent.{items_of};
+ghost use Rattle.postscript_compact1.specs.StandardStrings.{standard_string};
 ghost use Rattle.postscript_instance.specs.Naming.{AreCalled, AreCids, AreNames, IsCalled};
 ghost use Rattle.postscript_instance.specs.Refusals.{IsLate};
+ghost use Rattle.postscript_instance.specs.Whole.{AreCustom};
+ghost use Rattle.postscript_type2.specs.Program.Routines.{texts};
+ghost use Rattle.std.specs.Borrow.{Bor};
 ghost use Rattle.postscript_view.specs.Naming.{Names};
 ghost use Rattle.postscript_view.specs.Strings.{HasName};
 ghost use Rattle.postscript_view.specs.Value.{view_shown};
@@ -33,13 +37,24 @@ pub(crate) struct Identifiers {
     pub strings: Vec<Vec<u8>>,
 }
 
+/// Whether the standard string with this SID is a name.
+fn is_standard(number: u16, name: &[u8]) -> bool
+    ensures { IsTrue result ↔ standard_string number ≡ Some name.now }
+{
+    match get_standard_string(number) {
+        Some(string) => string.as_bytes() == name,
+        None => false,
+    }
+}
+
 /// The SID of a standard string.
-fn standard(name: &[u8]) -> Option<u16> {
+fn standard(name: &[u8]) -> Option<u16>
+    ensures some { IfSome result (λ number. standard_string number ≡ Some name.now) }
+    ensures none { IfNone result ((number : ℕ) → number < 391 → standard_string number ≡ Some name.now → ⊥) }
+{
     for number in 0..STANDARD {
-        if let Some(string) = get_standard_string(number) {
-            if string.as_bytes() == name {
-                return Some(number);
-            }
+        if is_standard(number, name) {
+            return Some(number);
         }
     }
     None
@@ -96,6 +111,8 @@ fn in_ranges(alloc: Global, ranges: &[Range]) -> Result<Vec<u8>>
 impl Identifiers {
     /// Adds a name. Too many names are an error.
     fn put(&mut self, alloc: Global, name: &[u8]) -> Result<()>
+        ensures more { OnOk result ((names : List (Bor (List ℕ))) (bor : Bor (List ℕ)) → bor.now ≡ name.now →
+            AreCustom names (texts self.old.strings.items) → AreCustom (names ++ bor ∷ []) (texts self.new.strings.items)) }
         ensures late { IfErr result (λ e. IsLate e) }
     {
         if let Some(number) = standard(name) {
@@ -116,14 +133,15 @@ impl Identifiers {
 
     /// The SIDs of names.
     pub(crate) fn of(alloc: Global, names: &[&[u8]]) -> Result<Identifiers>
+        ensures are { IfOk result (λ identifiers. AreCustom names.now (texts identifiers.strings.items)) }
         ensures late { IfErr result (λ e. IsLate e) }
     {
         let mut identifiers = Identifiers {
             numbers: Vec::new(alloc),
             strings: Vec::new(alloc),
         };
-        for name in names {
-            identifiers.put(alloc, name)?;
+        for i in 0..names.len() {
+            identifiers.put(alloc, names[i])?;
         }
         Ok(identifiers)
     }

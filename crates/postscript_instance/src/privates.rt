@@ -1,17 +1,23 @@
 //! Private DICTs at a location: zones and stem widths for hinting (Technical Note 5176, "Private DICT Data"; OpenType
 //! 1.9, "CFF2", "Private DICT Data").
-ghost use Rattle.std.specs.Prelude.{◌<◌, IfErr, length};
+ghost use Rattle.std.specs.Prelude.{◌≡◌, ◌≢◌, ◌+ℤ◌, pos, IfSome, ◌↔◌, ◌⊎◌, ◌++◌, ◌<◌, [], ◌∷◌, IfErr, IfOk, IsTrue, OnOk, length};
+ghost use Rattle.postscript_instance.specs.Encoded.{AreSources, HasHints, IsSource, scalars_in, IsHintAdded, chosen, is_hint_operator};
+ghost use Rattle.postscript_instance.specs.Whole.{IsDict, IsPrivate, hint_operators};
+ghost use Rattle.postscript_base.specs.Compact1.Operation.{Operation};
+ghost use Rattle.std.specs.List.{Contains};
+ghost use Rattle.std.specs.Int.{int_div_euclid};
+ghost use Rattle.postscript_base.specs.Index.Lent.{items_of};
 ghost use Rattle.postscript_instance.specs.Refusals.{IsLate};
 
-use crate::error::{Error, Result};
+use crate::error::Result;
 use crate::numbers::put_number;
+use crate::parts::operation_in;
 use crate::pieces::OPERANDS;
 use crate::reals::put_real;
-use postscript_base::Error as Cause;
+use postscript_base::compact1::Operator;
 use postscript_cff2::{Dictionary, Font, PrivateDict, integer_at, operand_size, operator_size};
 use postscript_type2::Operand;
 use postscript_variable_font::Place;
-use postscript_view::tables::operations_of;
 use std::alloc::Global;
 
 /// The operators vsindex and blend.
@@ -68,7 +74,7 @@ fn operand_at(bytes: &[u8], place: usize) -> (Number, usize)
 }
 
 /// The operands of a DICT, with at most 18 significant digits in each real.
-fn readable(alloc: Global, operands: &[u8]) -> Result<Vec<u8>>
+pub(crate) fn readable(alloc: Global, operands: &[u8]) -> Result<Vec<u8>>
     ensures late { IfErr result (λ e. IsLate e) }
 {
     let mut out = Vec::new(alloc);
@@ -85,24 +91,69 @@ fn readable(alloc: Global, operands: &[u8]) -> Result<Vec<u8>>
     Ok(out)
 }
 
-/// Appends an operation of a DICT. Digits of a real after the 18th significant one are cut off. If the operands still
+/// The operators of hints.
+const HINTS: [Operator; 13] = [
+    Operator::BlueValues,
+    Operator::OtherBlues,
+    Operator::FamilyBlues,
+    Operator::FamilyOtherBlues,
+    Operator::StdHW,
+    Operator::StdVW,
+    Operator::BlueScale,
+    Operator::BlueShift,
+    Operator::BlueFuzz,
+    Operator::StemSnapH,
+    Operator::StemSnapV,
+    Operator::LanguageGroup,
+    Operator::ExpansionFactor,
+];
+
+/// Whether an operator is in a list.
+fn is_among(operator: Operator, operators: &[Operator]) -> bool
+    ensures { IsTrue result ↔ Contains operators.now operator }
+{
+    for i in 0..operators.len() {
+        if operators[i] == operator {
+            return true;
+        }
+    }
+    false
+}
+
+/// Whether a text is an operation of a hint.
+fn is_hint_operation(alloc: Global, text: &[u8]) -> Result<bool>
+    ensures is { IfOk result (λ is. IsTrue is → (hint : Operation) × Contains hint_operators hint.0 × IsDict text.now (hint ∷ [])) }
+    ensures late { IfErr result (λ e. IsLate e) }
+{
+    match operation_in(alloc, text)? {
+        Some((operator, _operands)) => Ok(is_among(operator, &HINTS)),
+        None => Ok(false),
+    }
+}
+
+/// Appends a text if it is an operation of a hint.
+fn put_operation(alloc: Global, out: &mut Vec<u8>, text: &[u8]) -> Result<()>
+    ensures more { OnOk result ((out.new.items ≡ out.old.items) ⊎ (out.new.items ≡ out.old.items ++ text.now)) }
+    ensures hints { OnOk result (HasHints out.old.items → HasHints out.new.items) }
+    ensures late { IfErr result (λ e. IsLate e) }
+{
+    if !is_hint_operation(alloc, text)? {
+        return Ok(());
+    }
+    out.extend_from_slice(text)?;
+    Ok(())
+}
+
+/// Appends the operation of a hint. Digits of a real after the 18th significant one are cut off. If the operands still
 /// cannot be read, the operation is left out, so the operator has its default.
-pub(crate) fn put_readable(
-    alloc: Global,
-    out: &mut Vec<u8>,
-    operands: &[u8],
-    operator: &[u8],
-) -> Result<()>
+fn put_readable(alloc: Global, out: &mut Vec<u8>, operands: &[u8], operator: &[u8]) -> Result<()>
+    ensures more { OnOk result (IsHintAdded operator.now out.old.items out.new.items) }
+    ensures hints { OnOk result (HasHints out.old.items → HasHints out.new.items) }
     ensures late { IfErr result (λ e. IsLate e) }
 {
     let mut text = readable(alloc, operands)?;
     text.extend_from_slice(operator)?;
-    match operations_of(alloc, &text) {
-        Ok(_dictionary) => out.extend_from_slice(&text)?,
-        Err(Cause::Memory) => return Err(Error::Font(Cause::Memory)),
-        Err(_) => {}
-    }
-    Ok(())
+    put_operation(alloc, out, &text)
 }
 
 /// A number plus its deltas, each scaled.
@@ -120,6 +171,24 @@ fn blended(number: Option<Number>, deltas: &[Number], scalars: &[u32]) -> Number
     Number::Blended(sum)
 }
 
+/// The whole number nearest to a 16.16 number, and the upper one if it is halfway. `None` if it is out of range.
+fn nearest(bits: i64) -> Option<i64>
+    ensures { IfSome result (λ unit. unit ≡ int_div_euclid (bits +ℤ pos 32768) (pos 65536)) }
+{
+    let up = bits.checked_add(32768)?;
+    Some(up.div_euclid(65536))
+}
+
+/// The scalars of item variation data. There are none if there are no such data.
+fn scalars_of(tables: &[Vec<u32>], index: usize) -> &[u32]
+    ensures { result.now ≡ scalars_in tables.now index }
+{
+    match tables.get(index) {
+        Some(scalars) => scalars,
+        None => &[],
+    }
+}
+
 /// Differences of edges after rounding each edge to the nearest whole number, halves up. `None` if one does not fit
 /// into 16 bits.
 fn edges(alloc: Global, numbers: &[Number]) -> Result<Option<Vec<i16>>>
@@ -133,7 +202,9 @@ fn edges(alloc: Global, numbers: &[Number]) -> Result<Option<Vec<i16>>>
             return Ok(None);
         };
         exact = exact.saturating_add(bits);
-        let next = exact.saturating_add(32768).div_euclid(65536);
+        let Some(next) = nearest(exact) else {
+            return Ok(None);
+        };
         let Ok(edge) = i16::try_from(next.saturating_sub(whole)) else {
             return Ok(None);
         };
@@ -188,6 +259,9 @@ impl<'m> Reader<'m> {
 
     /// Appends a hint with its operands, unless one is unsupported.
     fn put_hint(&mut self, alloc: Global, operator: &[u8]) -> Result<()>
+        ensures more { OnOk result (IsHintAdded operator.now self.old.out.items self.new.out.items) }
+        ensures index { self.new.index ≡ self.old.index }
+        ensures hints { OnOk result (HasHints self.old.out.items → HasHints self.new.out.items) }
         ensures late { IfErr result (λ e. IsLate e) }
     {
         if self.stack.is_empty() || self.stack.len() > OPERANDS {
@@ -201,15 +275,15 @@ impl<'m> Reader<'m> {
 
     /// Blends numbers. The last operand is their count. Before it are the numbers and their deltas, one for each
     /// scalar.
-    fn blend(&mut self) {
+    fn blend(&mut self)
+        ensures index { self.new.index ≡ self.old.index }
+        ensures out { self.new.out.items ≡ self.old.out.items }
+    {
         let count = match self.stack.pop() {
             Some(Number::Whole(count, _, _)) => usize::try_from(count).unwrap_or(0),
             _ => 0,
         };
-        let scalars: &[u32] = match self.tables.get(self.index) {
-            Some(scalars) => scalars,
-            None => &[],
-        };
+        let scalars = scalars_of(self.tables, self.index);
         let all = count.saturating_mul(scalars.len().saturating_add(1));
         let Some(base) = self.stack.len().checked_sub(all) else {
             self.stack.truncate(0);
@@ -234,6 +308,9 @@ impl<'m> Reader<'m> {
 
     /// Runs an operator.
     fn act(&mut self, alloc: Global, operator: &[u8]) -> Result<()>
+        ensures index { OnOk result (operator.now ≡ 22 ∷ [] → self.new.index ≡ chosen self.old.index self.old.stack.items) }
+        ensures stays { OnOk result (operator.now ≢ 22 ∷ [] → self.new.index ≡ self.old.index) }
+        ensures hints { OnOk result (HasHints self.old.out.items → HasHints self.new.out.items) }
         ensures late { IfErr result (λ e. IsLate e) }
     {
         if matches!(operator, [BLEND]) {
@@ -253,6 +330,7 @@ impl<'m> Reader<'m> {
 
     /// Reads the DICT to its end, or to a truncated operator.
     fn read(&mut self, alloc: Global) -> Result<()>
+        ensures hints { OnOk result (HasHints self.old.out.items → HasHints self.new.out.items) }
         ensures late { IfErr result (λ e. IsLate e) }
     {
         let mut place = 0usize;
@@ -276,12 +354,16 @@ impl<'m> Reader<'m> {
 }
 
 /// Whether an operator is a hint.
-fn is_hint(operator: &[u8]) -> bool {
+fn is_hint(operator: &[u8]) -> bool
+    ensures { result ≡ is_hint_operator operator.now }
+{
     matches!(operator, [6..=11] | [12, 9..=13] | [12, 17..=18])
 }
 
 /// The CFF2 Private DICT of a Font DICT, or no bytes if there is none.
-fn private_bytes<'l>(font: &Font<'l>, number: usize) -> &'l [u8] {
+fn private_bytes<'l>(font: &Font<'l>, number: usize) -> &'l [u8]
+    ensures { IsSource font.now number result.now }
+{
     let Some(bytes) = font.font_dictionaries.get(number) else {
         return &[];
     };
@@ -291,17 +373,25 @@ fn private_bytes<'l>(font: &Font<'l>, number: usize) -> &'l [u8] {
     }
 }
 
-/// The CFF Private DICT of a Font DICT at a location.
-pub(crate) fn private_of(
-    alloc: Global,
-    font: &Font<'_>,
-    number: usize,
-    place: &Place,
-) -> Result<Vec<u8>>
+/// The CFF2 Private DICTs of all Font DICTs.
+pub(crate) fn sources_of<'l>(alloc: Global, font: &Font<'l>) -> Result<Vec<&'l [u8]>>
+    ensures are { IfOk result (λ sources. AreSources font.now sources.items (length (items_of font.now.font_dictionaries))) }
+    ensures late { IfErr result (λ e. IsLate e) }
+{
+    let mut sources = Vec::new(alloc);
+    for number in 0..font.font_dictionaries.len() {
+        sources.push(private_bytes(font, number))?;
+    }
+    Ok(sources)
+}
+
+/// The CFF Private DICT of a CFF2 one at a location.
+pub(crate) fn private_of(alloc: Global, source: &[u8], place: &Place) -> Result<Vec<u8>>
+    ensures is { IfOk result (λ text. IsPrivate text.items) }
     ensures late { IfErr result (λ e. IsLate e) }
 {
     let mut reader = Reader {
-        bytes: private_bytes(font, number),
+        bytes: source,
         tables: &place.tables,
         index: 0,
         stack: Vec::new(alloc),

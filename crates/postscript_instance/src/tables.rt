@@ -1,5 +1,5 @@
 //! The `CFF ` table at a location.
-ghost use Rattle.std.specs.Prelude.{◌≡◌, ◌⊎◌, Some, length, slice_get, IsTrue, IfOk, IfErr, OnOk};
+ghost use Rattle.std.specs.Prelude.{◌≡◌, ◌⊎◌, Some, length, IsTrue, IfOk, IfErr, OnOk};
 ghost use Rattle.postscript_cff2.specs.Shown.{view_shown as varying_shown};
 ghost use Rattle.postscript_instance.specs.Advances.{AreAdvancesAt};
 ghost use Rattle.postscript_instance.specs.Dictionaries.{KeepDictionaries, KeepsDictionary};
@@ -7,7 +7,7 @@ ghost use Rattle.postscript_instance.specs.Glyphs.{AreCodes, DoesIn, HasNoRoom, 
 ghost use Rattle.postscript_instance.specs.Naming.{IsCalled};
 ghost use Rattle.postscript_instance.specs.Placed.{IsPlaceIn, LacksPlace};
 ghost use Rattle.postscript_instance.specs.Refusals.{IsLate};
-ghost use Rattle.postscript_instance.specs.Tables.{AreItems, HasNoWidths, HaveNoWidths, IsPlainFont, IsRoundedTableOf, IsTable, IsTableAt, IsTableOf};
+ghost use Rattle.postscript_instance.specs.Tables.{IsPlainPart, ArePlainParts, IsPlainFont, IsRoundedTableOf, IsTable, IsTableAt, IsTableOf};
 ghost use Rattle.postscript_base.specs.Index.Lent.{items_of};
 ghost use Rattle.postscript_view.specs.Layout.{IsLaidOut};
 ghost use Rattle.postscript_view.specs.Contents.{View};
@@ -15,13 +15,13 @@ ghost use Rattle.postscript_view.specs.Value.{part_shown, parts_shown, view_show
 
 use crate::advances::AdvancesAt;
 use crate::error::{Error, Result};
-use crate::layout::laid_out;
+use crate::layout::{is_whole, laid_out, privates_of};
 use crate::naming::{Naming, called_back};
+use crate::parts::are_codes;
 use crate::rooms::is_too_large;
 use crate::statics::charstring;
 use crate::whole::rounded_glyph;
 use postscript_base::Error as Cause;
-use postscript_base::index::IndexView;
 use postscript_cff2::Font;
 use postscript_type2::Operand;
 use postscript_variable_font::{Error as PlaceError, Place, charstring as varying};
@@ -96,47 +96,26 @@ fn codes_of(
     Ok(codes)
 }
 
-/// Whether an item is this charstring.
-fn is_code(items: &IndexView<'_>, number: usize, code: &[u8]) -> bool
-    ensures { IsTrue result → slice_get (items_of items.now) number ≡ Some code.now }
+/// Whether a Private DICT has no local subroutines, and a nominal width of 0.
+#[tactic(auto, using(crate::proofs::Compared::no_items))]
+fn is_plain_part(part: &PrivateDict<'_>) -> bool
+    ensures { IsTrue result → IsPlainPart (part_shown part.now) }
 {
-    match items.get(number) {
-        Some(item) => item == code,
-        None => false,
-    }
-}
-
-/// Whether the items are these charstrings.
-fn are_codes(items: &IndexView<'_>, codes: &[Vec<u8>]) -> bool
-    ensures { IsTrue result → AreItems (items_of items.now) codes.now (length codes.now) }
-{
-    if items.len() != codes.len() {
+    if part.subroutines.len() != 0 {
         return false;
     }
-    for number in 0..codes.len() {
-        if !is_code(items, number, &codes[number]) {
-            return false;
-        }
-    }
-    true
-}
-
-/// Whether a Private DICT has a nominal width of 0.
-fn has_no_width(part: &PrivateDict<'_>) -> bool
-    ensures { IsTrue result → HasNoWidths (part_shown part.now) }
-{
     match part.nominal_width() {
         Some(width) => width.to_i32() == Some(0),
         None => false,
     }
 }
 
-/// Whether all Private DICTs have a nominal width of 0.
-fn have_no_widths(parts: &[PrivateDict<'_>]) -> bool
-    ensures { IsTrue result → HaveNoWidths (parts_shown parts.now) }
+/// Whether all Private DICTs have no local subroutines, and a nominal width of 0.
+fn are_plain_parts(parts: &[PrivateDict<'_>]) -> bool
+    ensures { IsTrue result → ArePlainParts (parts_shown parts.now) }
 {
     for part in parts {
-        if !has_no_width(part) {
+        if !is_plain_part(part) {
             return false;
         }
     }
@@ -165,8 +144,8 @@ fn keep_dictionaries(old: &Font<'_>, new: &FontView<'_>, glyphs: usize) -> bool
     true
 }
 
-/// Reads back the written font. The error is `NotReadBack` if its charstrings, its names or its Font DICTs are not the
-/// intended ones, or `Font` with `Memory`.
+/// Reads back the written font. The error is `NotReadBack` if its charstrings, its names, its Private DICTs or its Font
+/// DICTs are not the intended ones, or `Font` with `Memory`.
 fn read_back(
     alloc: Global,
     old: &Font<'_>,
@@ -183,7 +162,7 @@ fn read_back(
         Err(Cause::Memory) => return Err(Error::Font(Cause::Memory)),
         Err(_) => return Err(Error::NotReadBack),
     };
-    if font.global_subroutines.len() != 0 || !have_no_widths(&font.parts) {
+    if font.global_subroutines.len() != 0 || !are_plain_parts(&font.parts) {
         return Err(Error::NotReadBack);
     }
     if !are_codes(&font.char_strings, codes) || !keep_dictionaries(old, &font, codes.len()) {
@@ -243,8 +222,12 @@ fn table_of(
     if is_too_large(font, naming, &codes) {
         return Err(Error::TooLarge);
     }
-    let bytes = laid_out(alloc, font, place, naming, &codes)?;
+    let privates = privates_of(alloc, font, place)?;
+    let bytes = laid_out(alloc, font, naming, &codes, &privates)?;
     read_back(alloc, font, &bytes, &codes, naming)?;
+    if !is_whole(alloc, font, &bytes, naming, &codes, &privates)? {
+        return Err(Error::NotReadBack);
+    }
     Ok(bytes)
 }
 
@@ -298,8 +281,10 @@ fn table_at(
 /// if it blends numbers that are not whole, or if it does not fit into 16 bits. Reals of hints and of FontMatrix are cut
 /// off after 18 significant digits. An operator whose numbers still cannot be read is left out.
 ///
-/// The table is read back after writing. The clauses cover the glyphs, their widths, nominal widths, Font DICTs and
-/// names. FontMatrix and the hints have no clause, but tests (`postscript_variable_vectors`).
+/// The table is read back after writing. The clauses cover all its parts, one after the other, up to the last byte: the
+/// header, the name, the operations of the Top DICT and the Font DICTs, the strings, the charset, FDSelect and the
+/// charstrings. They say that a Private DICT has only hints and the two widths, but not which hints: these have tests
+/// (`postscript_variable_vectors`), as has a FontMatrix with a real of more than 18 digits.
 ///
 /// # Errors
 ///
@@ -310,14 +295,14 @@ fn table_at(
 /// - The errors of [`glyph`], for the first glyph that fails.
 /// - `TooLarge`: there are more than 65,535 glyphs, more than 64,609 names, or more than 256 Font DICTs without names.
 ///   The same error is returned if charstrings and names have 2,000,000,000 bytes or more together.
-/// - `NotReadBack`: the written table is not read back as the intended font.
+/// - `NotReadBack`: the written table is not read back as the intended font, with exactly the intended parts.
 pub fn table(
     alloc: Global,
     font: &Font<'_>,
     naming: &Naming<'_>,
     advances: &AdvancesAt<'_>,
 ) -> Result<Vec<u8>>
-    // The table is a font with the glyphs at the location, their advance widths and the names.
+    // The bytes are a font with the glyphs at the location, advance widths and names, and nothing else.
     ensures written { IfOk result (λ bytes. IsTableOf font.now naming.now advances.now bytes.items) }
     // An error has a justified cause in the input, or it is `NotReadBack` or `Memory`.
     ensures refused { IfErr result (λ e. NoTable font.now naming.now advances.now e) }

@@ -380,6 +380,47 @@ fn matrix_and_font_dictionaries(rt: HostRuntime) {
     }
 }
 
+/// The same table with FontMatrix 0.0005123456789012345678 0 0 0.0005 0 0, whose first number has 19 significant digits.
+fn with_long_matrix<R: Abort>(rt: &R, alloc: Global) -> Vec<u8> {
+    let long = [
+        0x1e, 0xa0, 0x00, 0x51, 0x23, 0x45, 0x67, 0x89, 0x01, 0x23, 0x45, 0x67, 0x8f,
+    ];
+    let mut bytes = Vec::new(alloc);
+    bytes.extend_from_slice(&TWO[..5]).expect(rt, "memory");
+    bytes.extend_from_slice(&long).expect(rt, "memory");
+    bytes.extend_from_slice(&TWO[9..]).expect(rt, "memory");
+    // the size of the Top DICT, and all offsets after it, are 9 more
+    let offsets = [
+        (4, 0x2b),
+        (32, 0x34),
+        (38, 0x46),
+        (45, 0x42),
+        (83, 0x5c),
+        (90, 0x5e),
+    ];
+    for (place, byte) in offsets {
+        if let Some(slot) = bytes.get_mut(place) {
+            *slot = byte;
+        }
+    }
+    bytes
+}
+
+/// A FontMatrix with more digits than a reader takes. The first 18 significant digits stay.
+#[test]
+fn long_matrix(rt: HostRuntime) {
+    let source = with_long_matrix(&rt, rt.alloc());
+    let bytes = numbered(&rt, rt.alloc(), &source, None, 0);
+    let wanted = [
+        0x1e, 0xa0, 0x00, 0x51, 0x23, 0x45, 0x67, 0x89, 0x01, 0x23, 0x45, 0x67, 0xff, 0x8b, 0x8b,
+        0x1e, 0xa0, 0x00, 0x5f, 0x8b, 0x8b, 0x0c, 0x07,
+    ];
+    let matrix = bytes.get(28..51);
+    holds(&rt, matrix == Some(wanted.as_slice()), "18 digits");
+    let view = FontView::read(rt.alloc(), &bytes).expect(&rt, "a font");
+    holds(&rt, view.part_of(1) == Some(1), "FDSelect");
+}
+
 /// The same table with hints in its Private DICT. These are `vsindex` 1, BlueValues -10 10 blended by 3 0 and 0 0,
 /// StdVW 80 blended by 20 0, and BlueScale 0.039625. fontTools 4.38 reads it so.
 const HINTED: &[u8] = &[

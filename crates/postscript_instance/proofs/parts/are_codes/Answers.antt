@@ -2,7 +2,7 @@ use Rattle.std.proofs.Common.{ap, ◌∙◌, Some}
 use Rattle.postscript_base.specs.Index.Lent.{items_of}
 use Rattle.postscript_instance.proofs.Codes.{found, one-item}
 use Rattle.postscript_instance.proofs.Rests.{is-true}
-use Rattle.postscript_instance.proofs.tables.are_codes.Goals as goal
+use Rattle.postscript_instance.proofs.parts.are_codes.Goals as goal
 
 pub loop-number-preserved : goal.loop-number-preserved
 loop-number-preserved c =

@@ -1,6 +1,6 @@
 use Rattle.postscript_base.specs.Index.Lent.{items_of}
 use Rattle.postscript_instance.specs.Tables.{AreItems}
-use Rattle.postscript_instance.proofs.tables.are_codes.Given as goal
+use Rattle.postscript_instance.proofs.parts.are_codes.Given as goal
 
 -- the items so far
 abbrev pub invariant-loop-number : goal.invariant-loop-number
