@@ -134,7 +134,7 @@ pub record IsNamedTable (matrix : Option (List Decimal)) (name : List ℕ) (stri
   pub dictionary : IsDict top (named_operations matrix set char_strings (length text) private)
 
 -- FontMatrix is that of the Top DICT of the CFF2 table, which has the same encoding (OpenType 1.9, "CFF2", "Top DICT Data"), if it can be
--- read. There is none if that DICT has none.
+-- read. There is none if that DICT has none. Nothing is said of a matrix that cannot be read.
 pub record IsMatrixOf (dictionary : List ℕ) (matrix : Option (List Decimal)) : Type 0 where
   pub kept : (entry : Entry) (o : Operation) → last_entry dictionary 0x0c07 ≡ Some entry →
       IsDict (slice_range dictionary entry.start entry.place ++ 0x0c ∷ 0x07 ∷ []) (o ∷ []) → matrix ≡ Some o.1
