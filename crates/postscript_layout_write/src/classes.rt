@@ -45,8 +45,10 @@ fn classes_of(alloc: Global, gdef: &[u8], kept: &[u16], limit: &mut u64) -> Resu
 
 /// Returns a `GDEF` table with the classes of the kept glyphs.
 ///
-/// `kept` has the old numbers of the glyphs. The new number of a glyph is its index there. The new table has version 1.0 and
-/// glyph classes (base, ligature, mark, component) only.
+/// `kept` has the old numbers of the glyphs. The new number of a glyph is its index there. The new table has version 1.0
+/// and glyph classes (base, ligature, mark, component) only.
+///
+/// One unit of the limit is paid for each kept glyph, and for each range that is looked at.
 ///
 /// # Errors
 ///
@@ -59,7 +61,7 @@ pub fn glyph_classes(alloc: Global, gdef: &[u8], kept: &[u16], limit: &mut u64) 
     ensures kept { IfOk result (λ new. KeepsClasses gdef.now kept.now new.items) }
     // The limit never grows.
     ensures spends { limit.new ≤ limit.old }
-    // Each error has its cause.
+    // `TooLong` leaves nothing of the limit. `TooLarge` means more than 65,535 glyphs.
     ensures why { IfErr result (λ e. RefusesClasses e kept.now limit.new) }
     // More than 65,535 glyphs are refused.
     ensures few { OnOk result (length kept.now < 65536) }

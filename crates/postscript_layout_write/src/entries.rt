@@ -101,8 +101,8 @@ fn tried(
     Ok(entries)
 }
 
-/// Returns the pairs of a first glyph with the kept glyphs that a lookup adjusts. A lookup that uses classes or sets of marks
-/// has none.
+/// Returns the pairs of a first glyph with the kept glyphs that a lookup adjusts. A lookup that uses classes or sets of
+/// marks has none.
 pub(crate) fn entries_of(
     alloc: Global,
     gpos: &[u8],

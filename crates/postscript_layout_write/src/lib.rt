@@ -1,19 +1,21 @@
-//! Writes OpenType layout tables for the glyphs of a subset, which have new numbers (OpenType 1.9; ISO/IEC 14496-22, 6): a `GPOS`
-//! table with pair adjustments (kerning), and a `GDEF` table with glyph classes.
+//! Writes OpenType layout tables for the glyphs of a subset, which have new numbers (OpenType 1.9; ISO/IEC 14496-22, 6):
+//! a `GPOS` table with pair adjustments (kerning), and a `GDEF` table with glyph classes.
 //!
-//! It is proved that each lookup of the new `GPOS` table adjusts each pair of kept glyphs exactly as the lookup of the same index
-//! of the old table, and no other pair (`KeepsKerning` in specs/Kerning.antt). The first subtable that applies to a pair counts, in
-//! both formats, and extensions are followed (specs/Pairs.antt). The script list and the feature list have the same bytes at the
-//! same offsets, with all tables that they name (specs/ScriptLists.antt). Each kept glyph has its class (specs/Classes.antt).
+//! It is proved that each lookup of the new `GPOS` table adjusts each pair of kept glyphs exactly as the lookup of the
+//! same index of the old table, and no other pair (`KeepsKerning` in specs/Kerning.antt). The first subtable that applies
+//! to a pair counts, in both formats, and extensions are followed (specs/Pairs.antt). The script list and the feature list
+//! have the same bytes at the same offsets, with all tables that they name (specs/ScriptLists.antt). Each kept glyph has
+//! its class (specs/Classes.antt).
 //!
 //! What is left out:
 //!
-//! - Only pair adjustments are kept. Other lookups have no subtables, so the indices of lookups in features stay valid.
-//! - A lookup that uses a set of marks or a class of marks (a flag above bit 3) keeps no pairs, since the new `GDEF` table has neither.
+//! - Only pair adjustments are kept. Other lookups have no subtables, so the lookup indices of features stay valid.
+//! - A lookup with a flag above bit 3, which uses a set or a class of marks, keeps no pairs, since the new `GDEF` table
+//!   has neither.
 //! - Device tables, variation indexes and feature variations are dropped: the new table has version 1.0.
-//! - Numbers past the end of the old table are 0. If a coverage table, a class definition or a set of pairs is not in order, its first
-//!   entry counts. Readers that search by halves may find another entry there.
-//! - It is not proved how small the new table is, nor which limit suffices.
+//! - Numbers past the end of the old table are 0. If a coverage table, a class definition or a set of pairs is not in
+//!   order, its first entry counts. Readers that search by halves may find another entry there.
+//! - No clause says when `TooLarge` comes, how small the new table is, or which limit suffices.
 #![tactic(auto)]
 
 mod classes;

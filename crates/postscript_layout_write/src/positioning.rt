@@ -3,7 +3,7 @@ ghost use Rattle.std.specs.Prelude.{◌≡◌, ◌⊎◌, true, false, ◌%◌, 
 ghost use Rattle.postscript_layout_write.specs.Kerning.{KeepsKerning, kept_pair};
 ghost use Rattle.postscript_layout_write.specs.Lookups.{AddsForms, AreForms, HasLookups, PutsList, PutsLookup};
 ghost use Rattle.postscript_layout_write.specs.Pairs.{flag_of, lookup_at as the_lookup, lookups_of};
-ghost use Rattle.postscript_layout_write.specs.Refusals.{Fails, IsUsedUp, Refuses};
+ghost use Rattle.postscript_layout_write.specs.Refusals.{Fails, Refuses};
 ghost use Rattle.postscript_layout_write.specs.Sets.{AddsSubtable};
 ghost use Rattle.postscript_layout_write.specs.Text.{front_text, uint16 as the_uint16};
 ghost use Rattle.postscript_layout_write.specs.declared.error.Error.TheVariants as errors;
@@ -29,7 +29,7 @@ impl Forms {
     fn add(&mut self, alloc: Global, first: u16, entries: &[Entry]) -> Result<()>
         requires few { length entries.now < 65536 }
         ensures done { OnOk result (AddsForms first entries.now self.old self.new) }
-        ensures memory { IfErr result (λ e. e ≡ errors.Memory) }
+        ensures why { IfErr result (λ e. (e ≡ errors.Memory) ⊎ (e ≡ errors.TooLarge)) }
     {
         self.advance.add(alloc, Form::Advance, first, entries)?;
         self.first.add(alloc, Form::First, first, entries)?;
@@ -50,7 +50,7 @@ fn forms_of(
     requires few { length kept.now < 65536 }
     ensures exact { IfOk result (λ forms. AreForms (kept_pair gpos.now kept.now lookup) (length kept.now) forms) }
     ensures spends { limit.new ≤ limit.old }
-    ensures why { IfErr result (λ e. (e ≡ errors.Memory) ⊎ IsUsedUp limit.new e) }
+    ensures why { IfErr result (λ e. Fails limit.new e) }
 {
     let mut forms = Forms {
         advance: Sets::new(alloc),
@@ -130,6 +130,9 @@ fn put_each(
     for i in 0..count {
         pay(limit)?;
         let lookup = list + word(gpos, list + 2 + i * 2);
+        if bytes.len() > 65535 {
+            return Err(Error::TooLarge);
+        }
         let forms = forms_of(alloc, gpos, lookup, kept, limit)?;
         offsets.push(bytes.len())?;
         let flag = word(gpos, lookup + 2) % 16;
@@ -182,26 +185,26 @@ fn put_front(out: &mut Vec<u8>, gpos: &[u8], end: usize) -> std::result::Result<
 
 /// Returns a `GPOS` table with the pair adjustments of the kept glyphs.
 ///
-/// `kept` has the old numbers of the glyphs. The new number of a glyph is its index there. The new table has version 1.0, the
-/// script list and the feature list of the old one, and as many lookups in the same order. Lookups of pair adjustments, also
-/// by extensions, keep the pairs of kept glyphs, listed one by one. All other lookups have no subtables.
+/// `kept` has the old numbers of the glyphs. The new number of a glyph is its index there. The new table has version 1.0,
+/// the script list and the feature list of the old one, and as many lookups in the same order. Lookups of pair
+/// adjustments, also by extensions, keep the pairs of kept glyphs, listed one by one. All other lookups have no subtables.
 ///
-/// One unit of the limit is paid for each language system, script, feature and lookup, for each kept glyph as a first glyph in a
-/// lookup, and for each subtable, covered glyph, range, pair and second glyph that is looked at.
+/// One unit of the limit is paid for each language system, script, feature and lookup, for each kept glyph as a first
+/// glyph in a lookup, and for each subtable, covered glyph, range, pair and second glyph that is looked at.
 ///
 /// # Errors
 ///
-/// - `ListsTooLong`: the script list and the feature list, with the tables that they name, do not end within the table, or within
-///   its first 65,535 bytes.
+/// - `ListsTooLong`: the script list and the feature list, with the tables that they name, do not end within the table,
+///   or within its first 65,535 bytes.
 /// - `TooLarge`: an offset or a count would exceed 16 bits.
 /// - `TooLong`: the table costs more than the limit.
 /// - `Memory`: out of memory.
 pub fn kerning(alloc: Global, gpos: &[u8], kept: &[u16], limit: &mut u64) -> Result<Vec<u8>>
-    // The lookups of the new table adjust the kept glyphs as those of the old table, for the same scripts and features.
+    // Each lookup adjusts the kept glyphs as before, for the same scripts and features.
     ensures kept { IfOk result (λ new. KeepsKerning gpos.now kept.now new.items) }
     // The limit never grows.
     ensures spends { limit.new ≤ limit.old }
-    // Each error has its cause.
+    // `TooLong` leaves nothing of the limit. `ListsTooLong` means that the lists do not end in time.
     ensures why { IfErr result (λ e. Refuses e gpos.now limit.new) }
 {
     if kept.len() > 65535 {

@@ -22,7 +22,7 @@ pub(crate) struct Sets {
 }
 
 /// The number of sets that a new set is compared with. An equal one is shared.
-const SHARED: usize = 256;
+const SHARED: usize = 64;
 
 /// Appends the four numbers of a value record.
 #[tactic(auto, unfolding(crate::specs::Text::values_text))]
@@ -158,16 +158,20 @@ impl Sets {
     }
 
     /// Returns the offset of a set with a text. It is appended, unless one of the last sets has the same text.
+    /// Sets that take more than 65,535 bytes are too large.
     fn place(&mut self, text: &[u8]) -> Result<usize>
         ensures placed { IfOk result (λ offset. Places text.now self.old.bytes.items self.new.bytes.items offset) }
         ensures firsts { OnOk result (self.new.firsts.items ≡ self.old.firsts.items) }
         ensures offsets { OnOk result (self.new.offsets.items ≡ self.old.offsets.items) }
-        ensures memory { IfErr result (λ e. e ≡ errors.Memory) }
+        ensures why { IfErr result (λ e. (e ≡ errors.Memory) ⊎ (e ≡ errors.TooLarge)) }
     {
         if let Some(offset) = self.find(text) {
             return Ok(offset);
         }
         let offset = self.bytes.len();
+        if offset > 65535 {
+            return Err(Error::TooLarge);
+        }
         self.bytes.extend_from_slice(text)?;
         Ok(offset)
     }
@@ -182,7 +186,7 @@ impl Sets {
     ) -> Result<()>
         requires few { length entries.now < 65536 }
         ensures done { OnOk result (Adds form first entries.now self.old self.new) }
-        ensures memory { IfErr result (λ e. e ≡ errors.Memory) }
+        ensures why { IfErr result (λ e. (e ≡ errors.Memory) ⊎ (e ≡ errors.TooLarge)) }
     {
         let found = of_form(alloc, form, entries)?;
         if found.is_empty() {

@@ -13,8 +13,8 @@ pub(crate) struct Values {
     pub(crate) y_advance: u16,
 }
 
-/// The adjustment of a pair of glyphs. After a pair with an adjustment of its second glyph, the next pair begins with the glyph
-/// after the second one.
+/// The adjustment of a pair of glyphs. After a pair with an adjustment of its second glyph, the next pair begins with the
+/// glyph after the second one.
 #[derive(Clone, Copy, Debug, Drop, PartialEq, Eq)]
 pub(crate) struct Adjustment {
     pub(crate) first: Values,
