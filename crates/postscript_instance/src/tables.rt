@@ -302,7 +302,7 @@ pub fn table(
     naming: &Naming<'_>,
     advances: &AdvancesAt<'_>,
 ) -> Result<Vec<u8>>
-    // The bytes are a font with the glyphs at the location, advance widths and names, and nothing else.
+    // The bytes are a font with the glyphs at the location, and nothing else.
     ensures written { IfOk result (λ bytes. IsTableOf font.now naming.now advances.now bytes.items) }
     // An error has a justified cause in the input, or it is `NotReadBack` or `Memory`.
     ensures refused { IfErr result (λ e. NoTable font.now naming.now advances.now e) }

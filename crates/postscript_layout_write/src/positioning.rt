@@ -189,8 +189,8 @@ fn put_front(out: &mut Vec<u8>, gpos: &[u8], end: usize) -> std::result::Result<
 /// the script list and the feature list of the old one, and as many lookups in the same order. Lookups of pair
 /// adjustments, also by extensions, keep the pairs of kept glyphs, listed one by one. All other lookups have no subtables.
 ///
-/// One unit of the limit is paid for each language system, script, feature and lookup, for each kept glyph as a first
-/// glyph in a lookup, and for each subtable, covered glyph, range, pair and second glyph that is looked at.
+/// One unit of the limit is paid for each language system, script, feature and lookup, and for each kept glyph in each
+/// lookup. One more is paid for each subtable, covered glyph, range, pair and second glyph that is looked at.
 ///
 /// # Errors
 ///
