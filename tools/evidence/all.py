@@ -12,6 +12,7 @@ environment variable CRATE: the source of the Rust crate `postscript`.
 """
 import os
 import pathlib
+import re
 import subprocess
 import sys
 import time
@@ -95,7 +96,9 @@ def run(name, command, fonts):
     begun = time.time()
     done = subprocess.run(words, shell=True, cwd=TOP, stdout=subprocess.PIPE, stderr=subprocess.STDOUT, text=True, check=False)
     head = f"date: {time.strftime('%Y-%m-%d')}\ncommit: {said_by('git', 'rev-parse', '--short=8', 'HEAD')}\ncommand: {command}\nstatus: {done.returncode}\nseconds: {time.time() - begun:.0f}\n"
-    (LOGS / f"{name}.log").write_text(f"{head}\n{done.stdout.replace(fonts, 'FONTS').replace(str(TOP), '.')}")
+    # apt says this if it downloads a package as root
+    said = re.sub(r"^W: Download is performed unsandboxed .*\n", "", done.stdout, flags=re.M)
+    (LOGS / f"{name}.log").write_text(f"{head}\n{said.replace(fonts, 'FONTS').replace(str(TOP), '.')}")
     (LOGS / "rows.txt").write_text("".join(row_of(one) + "\n" for one, _, _ in SCRIPTS if head_of(one)))
     return done.returncode
 
