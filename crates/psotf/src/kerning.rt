@@ -32,24 +32,9 @@ fn glyphs_of(alloc: Global, face: &Face<'_>, named: &[usize]) -> Result<Vec<u16>
     Ok(glyphs)
 }
 
-/// Returns a number of two bytes.
-fn word(table: &[u8], place: usize) -> usize {
-    number_within(table, place, 2).unwrap_or(0)
-}
-
-/// Returns whether a lookup of a written `GPOS` table has pairs.
-fn has_pairs(gpos: &[u8]) -> bool {
-    let list = word(gpos, 8);
-    for i in 0..word(gpos, list) {
-        let offset = word(
-            gpos,
-            list.saturating_add(2).saturating_add(i.saturating_mul(2)),
-        );
-        if word(gpos, list.saturating_add(offset).saturating_add(4)) > 0 {
-            return true;
-        }
-    }
-    false
+/// Returns whether a `GDEF` table has glyph classes.
+fn has_classes(gdef: &[u8]) -> bool {
+    number_within(gdef, 4, 2).unwrap_or(0) > 0
 }
 
 impl Kerning {
@@ -78,7 +63,7 @@ impl Kerning {
         Ok(())
     }
 
-    /// Adds the `GPOS` table, if it has pairs of these glyphs.
+    /// Adds the `GPOS` table, also if it has no pairs of these glyphs. Without it shapers place marks themselves.
     fn put_pairs(
         &mut self,
         alloc: Global,
@@ -86,13 +71,9 @@ impl Kerning {
         glyphs: &[u16],
         left: &mut u64,
     ) -> Result<(), AllocError> {
-        let Some(gpos) = face.source.file.table(*b"GPOS") else {
-            return Ok(());
-        };
-        let written = kerning(alloc, gpos, glyphs, left);
-        match &written {
-            Ok(table) if !has_pairs(table) => Ok(()),
-            _ => self.put(*b"GPOS", written),
+        match face.source.file.table(*b"GPOS") {
+            Some(gpos) => self.put(*b"GPOS", kerning(alloc, gpos, glyphs, left)),
+            None => Ok(()),
         }
     }
 
@@ -105,7 +86,7 @@ impl Kerning {
         left: &mut u64,
     ) -> Result<(), AllocError> {
         match face.source.file.table(*b"GDEF") {
-            Some(gdef) if word(gdef, 4) > 0 => {
+            Some(gdef) if has_classes(gdef) => {
                 self.put(*b"GDEF", glyph_classes(alloc, gdef, glyphs, left))
             }
             _ => Ok(()),
