@@ -80,7 +80,7 @@ def asked_of(font, draw):
 
 
 def line_of(draw, chars):
-    often = [char for char in OFTEN if ord(char) in chars]
+    often = [char for char in OFTEN if ord(char) in chars] or [chr(char) for char in chars]
     return "".join(draw.choice(often) if draw.random() < 0.5 else chr(draw.choice(chars)) for _ in range(draw.randint(1, LONGEST)))
 
 

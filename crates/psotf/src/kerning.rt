@@ -93,7 +93,7 @@ impl Kerning {
         }
     }
 
-    /// Returns the tables with the kerning of the chosen glyphs and their components, within the share of one glyph.
+    /// Returns the tables with the kerning of the chosen glyphs and their components, within the rest of the budget.
     /// Without glyph classes there is no kerning.
     pub fn of(
         alloc: Global,
@@ -102,14 +102,13 @@ impl Kerning {
         budget: &mut Budget,
     ) -> Result<Kerning, Failure> {
         let glyphs = glyphs_of(alloc, face, named)?;
-        let share = budget.share();
-        let mut left = share;
+        let mut left = budget.left;
         let mut kept = Kerning::none(alloc);
         kept.put_classes(alloc, face, &glyphs, &mut left)?;
         if kept.lost.is_none() {
             kept.put_pairs(alloc, face, &glyphs, &mut left)?;
         }
-        budget.spend(share.saturating_sub(left));
+        budget.left = left;
         Ok(kept)
     }
 
