@@ -1,8 +1,9 @@
 -- Tables of a face that are copied.
-use Rattle.std.proofs.Common.{◌≡◌, ◌≢◌, refl, sym, ap, ◌∙◌, subst, inl, inr, ℕ, zero, suc, ◌+◌, List, [], ◌∷◌, ◌++◌, length, get_or, arith, length-append}
-use Rattle.std.specs.Prelude.{◌⊎◌, Result, Ok, Err, IfOk, IfErr, Vec}
+use Rattle.std.proofs.Common.{◌≡◌, ◌≢◌, refl, sym, ap, ◌∙◌, subst, inl, inr, ℕ, zero, suc, ◌+◌, ◌<◌, ◌≤◌, List, [], ◌∷◌, ◌++◌, Bool, true, false, length, drop, get_or, arith, length-append}
+use Rattle.std.specs.Prelude.{◌⊎◌, ◌==◌, Result, Ok, Err, IfOk, IfErr, Vec}
 use Rattle.std.specs.declared.alloc.Global.{Global}
-use Rattle.std.proofs.lemmas.Bool.{cases_eq, cases_lt}
+use Rattle.std.specs.List.{sum_by}
+use Rattle.std.proofs.lemmas.Bool.{cases_eq, cases_lt, eqb-true}
 use Rattle.std.proofs.lemmas.Option.{slice_get-get_or, slice_get_within}
 use Rattle.postscript_sfnt.specs.Directory.{IsFirstOf}
 use Rattle.postscript_sfnt.specs.Lent.{HasNoTable, IsFaceOf, IsTableOf, tables_of, tag_of}
@@ -11,7 +12,9 @@ use Rattle.postscript_sfnt_write.specs.Tables.{IsGiven}
 use Rattle.postscript_sfnt_write.specs.declared.file.Table.{Table}
 use Rattle.postscript_files.specs.Copies.{HasAll, HasCopy, IsFileOf, NoFileOf}
 use Rattle.postscript_files.specs.Faces.{cff_tag}
-use Rattle.postscript_files.specs.Flats.{IsFlatFont, IsFlatOf, NoFlatOf, Stays, dsig_tag}
+use Rattle.postscript_files.specs.Flats.{AreStaying, IsFlatFont, IsFlatOf, NoFlatOf, Stays, StayingHaveMore, dsig_tag}
+use Rattle.postscript_files.specs.Listed.{tagged}
+use Rattle.postscript_files.proofs.Twice.{none-tagged, once-tagged, other-tagged, twice-tagged}
 use Rattle.postscript_files.specs.Others.{AreListedTo, AreOthers, Has, HasOthers, IsFileWith, IsUnwritten}
 use Rattle.postscript_files.specs.declared.error.Error.{Error}
 use Rattle.postscript_files.specs.declared.error.Error.TheVariants.{Cut, File, Font, Memory, MissingCharacter, MissingTable, NoAdvances, NoMap, Overlap, SameTag, TooLarge}
@@ -64,8 +67,8 @@ pub has-last : (tables : List Table) (u : Table) → Has (tables ++ u ∷ []) u.
 has-last tables u = (length tables, u, given-last tables u, refl)
 
 pub others-more : (file : FontFile) (font : List ℕ) (tables : List Table) (u : Table) → AreOthers file font tables → Stays u.tag →
-    IsTableOf file u.tag u.bytes.now → AreOthers file font (tables ++ u ∷ [])
-others-more file font tables u it stays is = record {
+    IsTableOf file u.tag u.bytes.now → (Has tables u.tag → ⊥) → AreOthers file font (tables ++ u ∷ [])
+others-more file font tables u it stays is none = record {
   first = λ t h. elim (given-cases tables u 0 t h) [
     | inl there ↦ it.first t there
     | inr last ↦ let s = it.some in let e = last.0 in absurd (omega (arith, s, e))
@@ -75,6 +78,16 @@ others-more file font tables u it stays is = record {
     | inl there ↦ it.rest k t some there
     | inr last ↦ subst (λ (v : Table). Stays v.tag × IsTableOf file v.tag v.bytes.now) last.1 (stays, is)
   ];
+  once = λ i j a b less x y. elim (given-cases tables u j b y) [
+    | inl there ↦ elim (given-cases tables u i a x) [
+      | inl here ↦ it.once i j a b less here there
+      | inr last ↦ absurd (let w = slice_get_within tables j b there in let e = last.0 in omega (arith, w, e, less))
+    ]
+    | inr last ↦ elim (given-cases tables u i a x) [
+      | inl here ↦ λ same. none (i, a, here, same ∙ sym (ap (λ (t : Table). t.tag) last.1))
+      | inr end ↦ absurd (let e = last.0 in let f = end.0 in omega (arith, e, f, less))
+    ]
+  ];
 }
 
 pub others-first : (file : FontFile) (font : List ℕ) (u : Table) → u.tag ≡ cff_tag → u.bytes.now ≡ font → AreOthers file font (u ∷ [])
@@ -82,6 +95,7 @@ others-first file font u a b = record {
   first = λ t h. let e : u ≡ t = cc in subst (λ (v : Table). (v.tag ≡ cff_tag) × (v.bytes.now ≡ font)) e (a, b);
   some = omega arith;
   rest = λ k t some h. absurd (let p = slice_get_within (u ∷ []) k t h in omega (arith, some, p));
+  once = λ i j a b less x y. absurd (let p = slice_get_within (u ∷ []) j b y in omega (arith, less, p));
 }
 
 abbrev empty : Table
@@ -164,27 +178,80 @@ if-file-with (Ok file) old font tables given same it listed is =
     file-with old font tables file.items it listed (subst (λ (xs : List Table). IsFileOf xs file.items) same is)
 if-file-with (Err e) old font tables given same it listed is = tt
 
-unwritten : (e : Error) (tables : List Table) → NoFileOf e tables → IsUnwritten e
-unwritten Memory tables h = tt
-unwritten TooLarge tables h = tt
-unwritten (SameTag tag) tables h = tt
-unwritten Overlap tables h = tt
-unwritten (File e) tables h = absurd h
-unwritten (MissingTable tag) tables h = absurd h
-unwritten NoMap tables h = absurd h
-unwritten NoAdvances tables h = absurd h
-unwritten (MissingCharacter char) tables h = absurd h
-unwritten (Font e) tables h = absurd h
-unwritten Cut tables h = absurd h
+-- the tables after the first one are those that stay
+pub are-staying : (old : FontFile) (font : List ℕ) (u : Table) (us : List Table) → AreOthers old font (u ∷ us) →
+    AreListedTo old (tables_of old) (u ∷ us) → AreStaying old us
+are-staying old font u us it listed = record {
+  each = λ i t h. it.rest (suc i) t (omega arith) h;
+  all = λ tag table stays is.
+      let named : tag_of old is.i ≡ tag = is.chosen.names.named in
+      let there = listed is.i is.chosen.listed (λ e. stays.1 (sym named ∙ e)) table
+      (subst (λ n. IsTableOf old n table) (sym named) is) in
+      after tag stays there.0 there.1 there.2 (there.3 ∙ named);
+  once = λ i j a b less x y. it.once (suc i) (suc j) a b (omega (arith, less)) x y;
+}
+  where
+    after : (tag : ℕ) → Stays tag → (k : ℕ) (t : Table) → IsGiven (u ∷ us) k t → t.tag ≡ tag →
+        (i : ℕ) × (v : Table) × IsGiven us i v × (v.tag ≡ tag)
+    after tag stays zero t h same = absurd (stays.0 (sym same ∙ (it.first t h).0))
+    after tag stays (suc k) t h same = (k, t, h, same)
 
-pub if-unwritten : (r : Result (Vec ℕ Global) Error) (tables : List Table) → IfErr r (λ e. NoFileOf e tables) → IfErr r (λ e. IsUnwritten e)
-if-unwritten (Ok file) tables h = tt
-if-unwritten (Err e) tables h = unwritten e tables h
+-- these tables have more bytes than a number
+pub have-more : (old : FontFile) (font : List ℕ) (tables : List Table) (most sum : ℕ) → AreOthers old font tables →
+    AreListedTo old (tables_of old) tables → sum ≤ sum_by (λ (t : Table). length t.bytes.now) (drop 1 tables) → most < sum →
+    StayingHaveMore old most
+have-more old font [] most sum it listed small more = absurd (let s = it.some in omega (arith, s))
+have-more old font (u ∷ us) most sum it listed small more =
+    record { tables = us; are = are-staying old font u us it listed; more = omega (arith, small, more) }
 
-pub unlisted : (e : Error) → (e ≡ errors.Memory) ⊎ (e ≡ errors.Overlap) → IsUnwritten e
-unlisted e h = elim h [
-  | inl a ↦ subst IsUnwritten (sym a) tt
-  | inr b ↦ subst IsUnwritten (sym b) tt
+-- each tag is there once
+no-twice : (tables : List Table) (tag : ℕ) →
+    ((i j : ℕ) (a b : Table) → i < j → IsGiven tables i a → IsGiven tables j b → a.tag ≢ b.tag) → tagged tables tag ≤ 1
+no-twice [] tag once = omega arith
+no-twice (u ∷ us) tag once =
+    by (u.tag == tag) refl (no-twice us tag (λ i j a b less x y. once (suc i) (suc j) a b (omega (arith, less)) x y))
+  where
+    by : (b : Bool) → (u.tag == tag) ≡ b → tagged us tag ≤ 1 → tagged (u ∷ us) tag ≤ 1
+    by false e rest = let same = other-tagged u us tag e in omega (arith, same, rest)
+    by true e rest =
+        let named = eqb-true u.tag tag e in
+        once-tagged u us tag named (none-tagged us tag (λ k t h same. once 0 (suc k) u t (omega arith) refl h (named ∙ sym same)))
+
+unwritten : (e : Error) (old : FontFile) (most : ℕ) (font : List ℕ) (tables : List Table) → AreOthers old font tables →
+    AreListedTo old (tables_of old) tables → NoFileOf e tables → IsUnwritten old most font e
+unwritten Memory old most font tables it listed h = tt
+unwritten TooLarge old most font [] it listed h = absurd (let s = it.some in omega (arith, s))
+unwritten TooLarge old most font (u ∷ us) it listed h = record {
+  first = u;
+  rest = us;
+  named = (it.first u refl).0;
+  is = (it.first u refl).1;
+  stay = are-staying old font u us it listed;
+  too_large = h;
+}
+unwritten (SameTag tag) old most font tables it listed h =
+    let two = twice-tagged tables tag h in let one = no-twice tables tag it.once in absurd (omega (arith, two, one))
+unwritten Overlap old most font tables it listed h = absurd h
+unwritten (File e) old most font tables it listed h = absurd h
+unwritten (MissingTable tag) old most font tables it listed h = absurd h
+unwritten NoMap old most font tables it listed h = absurd h
+unwritten NoAdvances old most font tables it listed h = absurd h
+unwritten (MissingCharacter char) old most font tables it listed h = absurd h
+unwritten (Font e) old most font tables it listed h = absurd h
+unwritten Cut old most font tables it listed h = absurd h
+
+pub if-unwritten : (r : Result (Vec ℕ Global) Error) (old : FontFile) (most : ℕ) (font : List ℕ) (tables given : List Table) →
+    given ≡ tables → AreOthers old font tables → AreListedTo old (tables_of old) tables → IfErr r (λ e. NoFileOf e given) →
+    IfErr r (λ e. IsUnwritten old most font e)
+if-unwritten (Ok file) old most font tables given same it listed h = tt
+if-unwritten (Err e) old most font tables given same it listed h =
+    unwritten e old most font tables it listed (subst (NoFileOf e) same h)
+
+pub unlisted : (e : Error) (old : FontFile) (most : ℕ) (font : List ℕ) →
+    (e ≡ errors.Memory) ⊎ ((e ≡ errors.Overlap) × StayingHaveMore old most) → IsUnwritten old most font e
+unlisted e old most font h = elim h [
+  | inl a ↦ subst (IsUnwritten old most font) (sym a) tt
+  | inr b ↦ subst (IsUnwritten old most font) (sym b.0) b.1
 ]
 
 pub flat-so : (r : Result (Vec ℕ Global) Error) (bytes : List ℕ) (number : ℕ) (old : FontFile) (cff font given : List ℕ) →
@@ -208,23 +275,26 @@ flat-so (Ok file) bytes number old cff font given read table flat same is = reco
 }
 flat-so (Err e) bytes number old cff font given read table flat same is = tt
 
-not-flat : (e : Error) (bytes : List ℕ) (number : ℕ) → IsUnwritten e → NoFlatOf bytes number e
-not-flat Memory bytes number h = tt
-not-flat TooLarge bytes number h = tt
-not-flat (SameTag tag) bytes number h = tt
-not-flat Overlap bytes number h = tt
-not-flat (File e) bytes number h = absurd h
-not-flat (MissingTable tag) bytes number h = absurd h
-not-flat NoMap bytes number h = absurd h
-not-flat NoAdvances bytes number h = absurd h
-not-flat (MissingCharacter char) bytes number h = absurd h
-not-flat (Font e) bytes number h = absurd h
-not-flat Cut bytes number h = absurd h
+not-flat : (e : Error) (bytes : List ℕ) (number : ℕ) (old : FontFile) (cff font : List ℕ) → IsFaceOf bytes number old →
+    IsTableOf old cff_tag cff → IsFlatFont cff font → IsUnwritten old (length bytes) font e → NoFlatOf bytes number e
+not-flat Memory bytes number old cff font read table flat h = tt
+not-flat TooLarge bytes number old cff font read table flat h = (old, read, (cff, font, table, flat, h))
+not-flat Overlap bytes number old cff font read table flat h = (old, read, h)
+not-flat (SameTag tag) bytes number old cff font read table flat h = absurd h
+not-flat (File e) bytes number old cff font read table flat h = absurd h
+not-flat (MissingTable tag) bytes number old cff font read table flat h = absurd h
+not-flat NoMap bytes number old cff font read table flat h = absurd h
+not-flat NoAdvances bytes number old cff font read table flat h = absurd h
+not-flat (MissingCharacter char) bytes number old cff font read table flat h = absurd h
+not-flat (Font e) bytes number old cff font read table flat h = absurd h
+not-flat Cut bytes number old cff font read table flat h = absurd h
 
-pub if-not-flat : (r : Result (Vec ℕ Global) Error) (bytes : List ℕ) (number : ℕ) → IfErr r (λ e. IsUnwritten e) →
-    IfErr r (λ e. NoFlatOf bytes number e)
-if-not-flat (Ok file) bytes number h = tt
-if-not-flat (Err e) bytes number h = not-flat e bytes number h
+pub if-not-flat : (r : Result (Vec ℕ Global) Error) (bytes : List ℕ) (number : ℕ) (old : FontFile) (cff font given : List ℕ) →
+    IsFaceOf bytes number old → IsTableOf old cff_tag cff → IsFlatFont cff font → given ≡ font →
+    IfErr r (λ e. IsUnwritten old (length bytes) given e) → IfErr r (λ e. NoFlatOf bytes number e)
+if-not-flat (Ok file) bytes number old cff font given read table flat same h = tt
+if-not-flat (Err e) bytes number old cff font given read table flat same h =
+    not-flat e bytes number old cff font read table flat (subst (λ (xs : List ℕ). IsUnwritten old (length bytes) xs e) same h)
 
 pub no-cff-so : (bytes : List ℕ) (number : ℕ) (old : FontFile) (e : Error) → IsFaceOf bytes number old →
     (e ≡ errors.MissingTable cff_tag) × HasNoTable old cff_tag → NoFlatOf bytes number e

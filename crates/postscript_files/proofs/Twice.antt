@@ -35,6 +35,26 @@ tagged-more tables u tag =
 counted : (tag : ℕ) (u : Table) → u.tag ≡ tag → has_tag tag u ≡ 1
 counted tag u same = ap (λ b. if b then 1 else 0) (eq-eqb u.tag tag same)
 
+-- the first table has another tag, or it counts once
+pub other-tagged : (u : Table) (us : List Table) (tag : ℕ) → (u.tag == tag) ≡ false → tagged (u ∷ us) tag ≡ tagged us tag
+other-tagged u us tag other =
+    let all = sum_by-cons (has_tag tag) u us in
+    let none : has_tag tag u ≡ 0 = ap (λ b. if b then 1 else 0) other in omega (arith, all, none)
+
+pub once-tagged : (u : Table) (us : List Table) (tag : ℕ) → u.tag ≡ tag → tagged us tag ≡ 0 → tagged (u ∷ us) tag ≤ 1
+once-tagged u us tag same none =
+    let all = sum_by-cons (has_tag tag) u us in
+    let one = counted tag u same in omega (arith, all, one, none)
+
+-- no table has the tag
+pub none-tagged : (tables : List Table) (tag : ℕ) → ((k : ℕ) (t : Table) → IsGiven tables k t → t.tag ≡ tag → ⊥) → tagged tables tag ≡ 0
+none-tagged [] tag none = refl
+none-tagged (u ∷ us) tag none = by (u.tag == tag) refl (none-tagged us tag (λ k t h same. none (suc k) t h same))
+  where
+    by : (b : Bool) → (u.tag == tag) ≡ b → tagged us tag ≡ 0 → tagged (u ∷ us) tag ≡ 0
+    by true e rest = absurd (none 0 u refl (eqb-true u.tag tag e))
+    by false e rest = other-tagged u us tag e ∙ rest
+
 -- one table, and then two, with the tag
 some-tagged : (tables : List Table) (i : ℕ) (u : Table) (tag : ℕ) → IsGiven tables i u → u.tag ≡ tag → 1 ≤ tagged tables tag
 some-tagged [] i u tag h same = absurd (cc)
@@ -58,7 +78,7 @@ two-tagged (v ∷ vs) (suc i) a b tag h k x y =
     let rest = two-tagged vs i a b tag h k x y in
     let all = sum_by-cons (has_tag tag) v vs in omega (arith, rest, all)
 
-twice-tagged : (tables : List Table) (tag : ℕ) → HasTwice tables tag → 2 ≤ tagged tables tag
+pub twice-tagged : (tables : List Table) (tag : ℕ) → HasTwice tables tag → 2 ≤ tagged tables tag
 twice-tagged tables tag h =
     let next : h.2.i + 1 ≡ suc h.2.i = omega arith in
     let second : IsGiven h.0 (suc h.2.i) h.2.b = subst (λ k. IsGiven h.0 k h.2.b) next h.2.second in

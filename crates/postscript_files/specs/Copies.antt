@@ -49,9 +49,13 @@ NoNeighbours tables = (i : ℕ) (a b : Table) → IsGiven tables i a → IsGiven
 abbrev pub HasTwice : List Table → (tag : ℕ) → Type 0
 HasTwice tables tag = (sorted : List Table) × IsPermutation tables sorted × HasNeighbours sorted tag
 
+-- A file of the tables would have 4,096 tables or more, or 2^32 bytes or more.
+abbrev pub AreTooLarge : List Table → Type 0
+AreTooLarge tables = (4096 ≤ length tables) ⊎ (2 ^ 32 ≤ size_of tables)
+
 -- why no file of the tables is written
 abbrev pub NoFileOf : Error → List Table → Type 0
 NoFileOf Memory tables = Unit {0}
 NoFileOf (SameTag tag) tables = HasTwice tables tag
-NoFileOf TooLarge tables = (4096 ≤ length tables) ⊎ (2 ^ 32 ≤ size_of tables)
+NoFileOf TooLarge tables = AreTooLarge tables
 NoFileOf _ tables = ⊥

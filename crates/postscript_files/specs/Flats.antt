@@ -1,19 +1,22 @@
 -- A file of a face without subroutines.
-use Rattle.std.specs.Prelude.{◌≡◌, ◌≢◌, ◌⊎◌, ℕ, ◌<◌, List}
+use Rattle.std.specs.Prelude.{◌≡◌, ◌≢◌, ◌⊎◌, ℕ, ◌<◌, List, ◌∷◌, length}
+use Rattle.std.specs.List.{sum_by}
 use Rattle.postscript_sfnt.specs.Lent.{HasNoTable, IsFaceOf, IsTableOf, tables_of, tag_of}
 use Rattle.postscript_sfnt.specs.Refusals.{NoFace}
 use Rattle.postscript_sfnt.specs.declared.file.FontFile.{FontFile}
 use Rattle.postscript_sfnt_write.specs.Files.{Opens}
+use Rattle.postscript_sfnt_write.specs.Tables.{IsGiven}
+use Rattle.postscript_sfnt_write.specs.declared.file.Table.{Table}
 use Rattle.postscript_write.specs.Drawings.{KeepsDrawings}
 use Rattle.postscript_write.specs.Making.{IsKeptFont}
 use Rattle.postscript_write.specs.Refusals.{IsRefusedBy}
 use Rattle.postscript_write.specs.SameGlyphs.{KeepsGlyphs}
 use Rattle.postscript_write.specs.Sources.{IsWritten, every}
 use Rattle.postscript_write.specs.Whole.{IsWholeFont}
-use Rattle.postscript_files.specs.Copies.{HasCopy}
+use Rattle.postscript_files.specs.Copies.{AreTooLarge, HasCopy}
 use Rattle.postscript_files.specs.Faces.{OfFile, cff_tag}
 use Rattle.postscript_files.specs.declared.error.Error.{Error}
-use Rattle.postscript_files.specs.declared.error.Error.TheVariants.{File, Font, Memory, MissingTable, Overlap, SameTag, TooLarge}
+use Rattle.postscript_files.specs.declared.error.Error.TheVariants.{File, Font, Memory, MissingTable, Overlap, TooLarge}
 
 -- The new `CFF ` table is one that `flat_font` writes.
 pub record IsFlatFont (cff new : List ℕ) : Type 0 where
@@ -48,13 +51,34 @@ pub record IsFlatOf (bytes : List ℕ) (number : ℕ) (file : List ℕ) : Type 0
   pub opens : (count : ℕ) × Opens file count
   pub is : (new : FontFile) → IsFaceOf file 0 new → IsFlatFace old new
 
+-- The list has the tables of a face that are copied, each once. If two records have a tag, its table is that of the first one.
+pub record AreStaying (old : FontFile) (tables : List Table) : Type 0 where
+  pub each : (i : ℕ) (t : Table) → IsGiven tables i t → Stays t.tag × IsTableOf old t.tag t.bytes.now
+  pub all : (tag : ℕ) (table : List ℕ) → Stays tag → IsTableOf old tag table → (i : ℕ) × (t : Table) × IsGiven tables i t × (t.tag ≡ tag)
+  pub once : (i j : ℕ) (a b : Table) → i < j → IsGiven tables i a → IsGiven tables j b → a.tag ≢ b.tag
+
+-- The tables that are copied have more than this number of bytes together.
+pub record StayingHaveMore (old : FontFile) (most : ℕ) : Type 0 where
+  pub tables : List Table
+  pub are : AreStaying old tables
+  pub more : most < sum_by (λ (t : Table). length t.bytes.now) tables
+
+-- The tables that would be written are too large: another `CFF ` table, and the tables that are copied.
+pub record IsFlatTooLarge (old : FontFile) (font : List ℕ) : Type 0 where
+  pub first : Table
+  pub rest : List Table
+  pub named : first.tag ≡ cff_tag
+  pub is : first.bytes.now ≡ font
+  pub stay : AreStaying old rest
+  pub too_large : AreTooLarge (first ∷ rest)
+
 -- why no such file is written
 abbrev pub NoFlatOf : (bytes : List ℕ) → (number : ℕ) → Error → Type 0
 NoFlatOf bytes number (File e) = NoFace e bytes number
 NoFlatOf bytes number (MissingTable tag) = (tag ≡ cff_tag) × OfFile bytes number (λ old. HasNoTable old cff_tag)
 NoFlatOf bytes number (Font e) = OfFile bytes number (λ old. (cff : List ℕ) × IsTableOf old cff_tag cff × IsRefusedBy every cff e)
 NoFlatOf bytes number Memory = Unit {0}
-NoFlatOf bytes number Overlap = Unit {0}
-NoFlatOf bytes number TooLarge = Unit {0}
-NoFlatOf bytes number (SameTag tag) = Unit {0}
+NoFlatOf bytes number Overlap = OfFile bytes number (λ old. StayingHaveMore old (length bytes))
+NoFlatOf bytes number TooLarge = OfFile bytes number (λ old. (cff font : List ℕ) × IsTableOf old cff_tag cff × IsFlatFont cff font
+    × IsFlatTooLarge old font)
 NoFlatOf bytes number _ = ⊥

@@ -8,8 +8,8 @@ use Rattle.postscript_sfnt_write.specs.declared.file.Table.{Table}
 use Rattle.postscript_files.specs.Copies.{HasCopy}
 use Rattle.postscript_files.specs.Faces.{cff_tag}
 use Rattle.postscript_files.specs.declared.error.Error.{Error}
-use Rattle.postscript_files.specs.declared.error.Error.TheVariants.{Memory, Overlap, SameTag, TooLarge}
-use Rattle.postscript_files.specs.Flats.{Stays, dsig_tag}
+use Rattle.postscript_files.specs.declared.error.Error.TheVariants.{Memory, Overlap, TooLarge}
+use Rattle.postscript_files.specs.Flats.{IsFlatTooLarge, Stays, StayingHaveMore, dsig_tag}
 
 -- there is a table with the tag
 abbrev pub Has : List Table → (tag : ℕ) → Type 0
@@ -20,6 +20,7 @@ pub record AreOthers (file : FontFile) (font : List ℕ) (tables : List Table) :
   pub first : (t : Table) → IsGiven tables 0 t → (t.tag ≡ cff_tag) × (t.bytes.now ≡ font)
   pub some : 0 < length tables
   pub rest : (k : ℕ) (t : Table) → 0 < k → IsGiven tables k t → Stays t.tag × IsTableOf file t.tag t.bytes.now
+  pub once : (i j : ℕ) (a b : Table) → i < j → IsGiven tables i a → IsGiven tables j b → a.tag ≢ b.tag
 
 -- the tables of the first records are in the list, apart from the signature
 abbrev pub AreListedTo : FontFile → (i : ℕ) → List Table → Type 0
@@ -36,10 +37,9 @@ pub record IsFileWith (old : FontFile) (font bytes : List ℕ) : Type 0 where
   pub opens : (count : ℕ) × Opens bytes count
   pub is : (new : FontFile) → IsFaceOf bytes 0 new → HasOthers old font new
 
--- the cause is memory, size, overlapping tables or a repeated tag
-abbrev pub IsUnwritten : Error → Type 0
-IsUnwritten Memory = Unit {0}
-IsUnwritten Overlap = Unit {0}
-IsUnwritten TooLarge = Unit {0}
-IsUnwritten (SameTag tag) = Unit {0}
-IsUnwritten _ = ⊥
+-- why no file with this `CFF ` table is written, if the tables that are copied may have this number of bytes
+abbrev pub IsUnwritten : (old : FontFile) → (most : ℕ) → (font : List ℕ) → Error → Type 0
+IsUnwritten old most font Memory = Unit {0}
+IsUnwritten old most font Overlap = StayingHaveMore old most
+IsUnwritten old most font TooLarge = IsFlatTooLarge old font
+IsUnwritten old most font _ = ⊥

@@ -1,12 +1,12 @@
 -- Why no file is written of tables in ascending order. Only private contracts use this definition.
-use Rattle.std.specs.Prelude.{◌⊎◌, ◌^◌, ◌≤◌, List, length}
-use Rattle.postscript_sfnt_write.specs.Tables.{size_of}
+use Rattle.std.specs.Prelude.{List}
 use Rattle.postscript_sfnt_write.specs.declared.file.Table.{Table}
+use Rattle.postscript_files.specs.Copies.{AreTooLarge}
 use Rattle.postscript_files.specs.declared.error.Error.{Error}
 use Rattle.postscript_files.specs.declared.error.Error.TheVariants.{Memory, TooLarge}
 
 -- out of memory, or there are too many tables or bytes
 abbrev pub IsTooMuch : Error → List Table → Type 0
 IsTooMuch Memory tables = Unit {0}
-IsTooMuch TooLarge tables = (4096 ≤ length tables) ⊎ (2 ^ 32 ≤ size_of tables)
+IsTooMuch TooLarge tables = AreTooLarge tables
 IsTooMuch _ tables = ⊥

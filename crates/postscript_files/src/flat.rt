@@ -1,10 +1,12 @@
 //! Files of a face without subroutines.
-ghost use Rattle.std.specs.Prelude.{◌≡◌, ◌≢◌, ℕ, ◌<◌, List, length, OnOk, IfOk, IfErr, IsTrue, ◌↔◌, ◌⊎◌};
+ghost use Rattle.std.specs.Prelude.{◌≡◌, ◌≢◌, ℕ, ◌<◌, List, length, OnOk, IfOk, IfErr, IsTrue, ◌↔◌, ◌⊎◌, ◌≤◌, drop};
+ghost use Rattle.std.specs.List.{sum_by};
 ghost use Rattle.postscript_sfnt.specs.Lent.{IsTableOf, tables_of, tag_of};
 ghost use Rattle.postscript_write.specs.Refusals.{IsRefusedBy};
 ghost use Rattle.postscript_write.specs.declared.error.Error.{Error as Refusal};
 ghost use Rattle.postscript_write.specs.Sources.{every as the_every};
-ghost use Rattle.postscript_files.specs.Flats.{IsFlatFont, IsFlatOf, NoFlatOf};
+ghost use Rattle.postscript_files.specs.Flats.{IsFlatFont, IsFlatOf, NoFlatOf, StayingHaveMore};
+ghost use Rattle.postscript_sfnt_write.specs.declared.file.Table.{Table as Table_};
 ghost use Rattle.postscript_files.specs.Others.{AreListedTo, AreOthers, Has, IsFileWith, IsUnwritten};
 ghost use Rattle.postscript_files.specs.declared.error.Error.TheVariants as errors;
 
@@ -80,7 +82,9 @@ fn put_others<'t>(tables: &mut Vec<Table<'t>>, file: &FontFile<'t>, font: &[u8])
 }
 
 /// Returns the number of bytes of all tables but the first.
-fn size(tables: &[Table<'_>]) -> usize {
+fn size(tables: &[Table<'_>]) -> usize
+    ensures { result ≤ sum_by (λ (t : Table_). length t.bytes.now) (drop 1 tables.now) }
+{
     let mut sum = 0usize;
     for i in 1..tables.len() {
         sum = sum.saturating_add(tables[i].bytes.len());
@@ -108,7 +112,7 @@ fn others_of<'t>(
 ) -> Result<Vec<Table<'t>>>
     ensures others { IfOk result (λ tables. AreOthers face.now font.now tables.items) }
     ensures listed { IfOk result (λ tables. AreListedTo face.now (tables_of face.now) tables.items) }
-    ensures refused { IfErr result (λ e. (e ≡ errors.Memory) ⊎ (e ≡ errors.Overlap)) }
+    ensures refused { IfErr result (λ e. (e ≡ errors.Memory) ⊎ ((e ≡ errors.Overlap) × StayingHaveMore face.now most)) }
 {
     let mut tables = Vec::new(alloc);
     tables.push(Table {
@@ -125,7 +129,7 @@ fn others_of<'t>(
 /// Returns the file of a face with another `CFF ` table.
 fn with_font(alloc: Global, most: usize, face: &FontFile<'_>, font: &[u8]) -> Result<Vec<u8>>
     ensures file { IfOk result (λ file. IsFileWith face.now font.now file.items) }
-    ensures refused { IfErr result (λ e. IsUnwritten e) }
+    ensures refused { IfErr result (λ e. IsUnwritten face.now most font.now e) }
 {
     let tables = others_of(alloc, most, face, font)?;
     file_with(alloc, &tables)
@@ -147,7 +151,7 @@ fn with_font(alloc: Global, most: usize, face: &FontFile<'_>, font: &[u8]) -> Re
 pub fn flat_file(alloc: Global, file: &[u8], number: usize) -> Result<Vec<u8>>
     // The new file has one face: the font without calls, and copies of all other tables.
     ensures flat { IfOk result (λ flat. IsFlatOf file.now number flat.items) }
-    // An error is justified by the file, the missing table or the font.
+    // An error is justified by the file, the missing table, the font, or the size of the tables.
     ensures refused { IfErr result (λ e. NoFlatOf file.now number e) }
 {
     let face = FontFile::read(file, number)?;

@@ -15,13 +15,15 @@
 //!   `maxp`, `hhea` and `hmtx` have the same number of glyphs. Tables of the choice are copied byte for byte, apart from
 //!   `checkSumAdjustment`. There are no other tables.
 //! - Errors of `subset_file`: `MissingCharacter`, `Font`, `Cut` and `SameTag`, and the errors of `Face::open`, come only
-//!   if the old file or the choice has that fault. The same is true of `File`, `MissingTable` and `Font` of `flat_file`.
+//!   if the old file or the choice has that fault.
+//! - Errors of `flat_file`: `File`, `MissingTable` and `Font` come only if the old file has that fault. `Overlap` comes only
+//!   if the tables that are copied have more bytes together than the file. `TooLarge` comes only if the tables of the new
+//!   file are 4,096 or more, or if the file of them would have 2^32 bytes or more. Other errors except `Memory` never come.
 //!
 //! # What is not proved
 //!
 //! - That there is enough memory.
-//! - That `TooLarge`, and `Overlap` and `SameTag` of `flat_file`, come only if the tables are too large, overlap or have
-//!   the same tag.
+//! - That `TooLarge` of `subset_file` comes only if the tables are too large.
 //! - That text is shaped as before: `GSUB`, `GPOS` and `kern` are not written unless the choice has them, and a copied
 //!   `GSUB` or `GPOS` has the old glyph numbers.
 #![tactic(auto)]

@@ -8,7 +8,10 @@ returns-clause-flat c =
     c.in_ok-face.ensures.exact c.in_ok-cff.ensures c.in_ok-font.ensures.font c.deref.ensures.value c.with_font.ensures.file
 
 pub returns-clause-refused : goal.returns-clause-refused
-returns-clause-refused c = if-not-flat c.with_font.result c.args.file.now c.args.number c.with_font.ensures.refused
+returns-clause-refused c =
+    if-not-flat c.with_font.result c.args.file.now c.args.number c.in_ok-face.face c.in_ok-cff.cff.now c.in_ok-font.font.items
+    c.deref.result.now c.in_ok-face.ensures.exact c.in_ok-cff.ensures c.in_ok-font.ensures.font c.deref.ensures.value
+    c.with_font.ensures.refused
 
 pub returns-in_err-cff-clause-refused : goal.returns-in_err-cff-clause-refused
 returns-in_err-cff-clause-refused c =

@@ -11,7 +11,7 @@ returns-in_ok-push-clause-others c =
     let u : Table = record { tag = c.args.tag; bytes = c.in-Some.bytes } in
     subst (λ (xs : List Table). AreOthers c.args.file.now c.args.font.now xs) (sym c.in_ok-push.ensures.items)
     (others-more c.args.file.now c.args.font.now c.args.tables.now.items (record { tag = c.args.tag; bytes = c.in-Some.bytes }) c.requires
-    (stays-so c.args.file.now c.args.font.now c.args.tables.now.items c.args.tag c.requires c.if-tag-ne-DSIG.true none) c.in-Some.ensures)
+    (stays-so c.args.file.now c.args.font.now c.args.tables.now.items c.args.tag c.requires c.if-tag-ne-DSIG.true none) c.in-Some.ensures none)
 
 pub returns-in_ok-push-clause-kept : goal.returns-in_ok-push-clause-kept
 returns-in_ok-push-clause-kept c = λ t h.

@@ -8,9 +8,11 @@ returns-clause-file c =
     c.in_ok-tables.ensures.others c.in_ok-tables.ensures.listed c.file_with.ensures.file
 
 pub returns-clause-refused : goal.returns-clause-refused
-returns-clause-refused c = if-unwritten c.file_with.result c.deref.result.now c.file_with.ensures.refused
+returns-clause-refused c =
+    if-unwritten c.file_with.result c.args.face.now c.args.most c.args.font.now c.in_ok-tables.tables.items c.deref.result.now
+    c.deref.ensures.value c.in_ok-tables.ensures.others c.in_ok-tables.ensures.listed c.file_with.ensures.refused
 
 pub returns-in_err-tables-clause-refused : goal.returns-in_err-tables-clause-refused
 returns-in_err-tables-clause-refused c =
     let error = err_from_is_err_and c.from_residual.result c.from_residual.ensures.1 in
-    rw (error.1, error.2) (unlisted _ c.in_err-tables.ensures.refused)
+    rw (error.1, error.2) (unlisted _ c.args.face.now c.args.most c.args.font.now c.in_err-tables.ensures.refused)
