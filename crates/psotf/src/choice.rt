@@ -11,6 +11,9 @@ use std::alloc::{AllocError, Global};
 const NOT_IN_HEX: &str =
     "--unicodes takes a list of hexadecimal numbers and ranges, e.g. 41,U+42,61-7a";
 
+/// The last character of Unicode.
+const LAST: u32 = 0x10ffff;
+
 /// The characters and glyphs of a subset.
 #[derive(Drop)]
 pub struct Choice {
@@ -23,10 +26,11 @@ pub struct Choice {
 }
 
 impl Choice {
-    /// Adds a character. It fails if the font has no glyph for it.
+    /// Adds a character. It fails if the font has no glyph for it, or if it is no character of Unicode.
     fn put_char(&mut self, face: &Face<'_>, char: u32) -> Result<(), Failure> {
         match glyph_of(&face.map, char) {
             0 => Err(Failure::no_char(char)),
+            _ if char > LAST => Err(Failure::no_char(char)),
             _ => Ok(self.chars.push(char)?),
         }
     }
@@ -147,8 +151,9 @@ impl Choice {
         let mut glyphs = Vec::from_slice(alloc, &[0])?;
         glyphs.extend_from_slice(&self.glyphs)?;
         glyphs.extend_from_slice(&self.added)?;
+        let all = all_of(alloc, &face.map)?;
         for char in &self.chars {
-            glyphs.push(usize::from(glyph_of(&face.map, *char)))?;
+            glyphs.push(glyph_in(&all, *char))?;
         }
         glyphs.sort()?;
         glyphs.dedup();
@@ -189,6 +194,15 @@ impl Choice {
         };
         choice.put(alloc, face, words)?;
         Ok(choice)
+    }
+}
+
+/// Returns the glyph of a character, from a list of all characters.
+fn glyph_in(all: &[(u32, u16)], char: u32) -> usize {
+    let at = all.partition_point(|mapped| mapped.0 < char);
+    match all.get(at) {
+        Some((found, glyph)) if *found == char => usize::from(*glyph),
+        _ => 0,
     }
 }
 

@@ -73,7 +73,7 @@ fn file_of(
         chars: &choice.chars,
         glyphs: &choice.glyphs,
         unmapped: &choice.added,
-        lenient: false,
+        lenient: true,
         retain_gids: words.get_flag("retain-gids"),
         copied: &copied,
         given,
