@@ -1,5 +1,5 @@
 -- A file with only some glyphs of a face (ISO/IEC 14496-22, 4.5 and 5.2).
-use Rattle.std.specs.Prelude.{◌≡◌, ◌⊎◌, ℕ, ℤ, ◌+◌, ◌*◌, ◌<◌, ◌≤◌, ◌==◌, List, [], ◌∷◌, Bool, true, false, Some, length, map, take, drop, slice_get, if◌then◌else◌}
+use Rattle.std.specs.Prelude.{◌≡◌, ◌⊎◌, ℕ, ℤ, ◌+◌, ◌*◌, ◌<◌, ◌≤◌, ◌==◌, List, [], ◌∷◌, Bool, true, false, Some, length, map, take, drop, replicate, slice_get, if◌then◌else◌}
 use Rattle.std.specs.List.{Contains}
 use Rattle.postscript_base.specs.Index.{number_at}
 use Rattle.postscript_sfnt.specs.Lent.{HasNoTable, IsTableOf, advance_in, tables_of, tag_of}
@@ -77,11 +77,12 @@ pub record AreCounted (new : Face) (count : ℕ) : Type 0 where
   pub hhea : IsWord new.hhea.now 34 count
   pub hmtx : length new.hmtx.now ≡ count * 4
 
--- The `post` table has version 3.0, which has no names, and the other values of the old one, if this has 32 bytes.
+-- The `post` table has version 3.0, which has no names. Its other values are those of the old one, if this has 32 bytes, otherwise 0.
 pub record IsPost (old new : Face) (post : List ℕ) : Type 0 where
   pub is : IsTableOf new.file post_tag post
   pub version : number_at post 0 4 ≡ 0x00030000
   pub kept : (was : List ℕ) → IsTableOf old.file post_tag was → 32 ≤ length was → drop 4 post ≡ drop 4 (take 32 was)
+  pub lacking : ((was : List ℕ) → IsTableOf old.file post_tag was → length was < 32) → drop 4 post ≡ replicate 28 0
 
 -- the tag of a table that is copied, and that the old face has
 abbrev pub IsCopied : FontFile → (tags : List ℕ) → (tag : ℕ) → Type 0
