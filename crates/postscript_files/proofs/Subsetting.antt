@@ -356,7 +356,7 @@ pub no-subset-so : (r : Result (Vec ℕ Global) Error) (choice : Choice) (bytes 
 no-subset-so (Ok file) choice bytes number old was h = tt
 no-subset-so (Err e) choice bytes number old was h = inr (old, was, h)
 
-unmade-so : (e : Error) (choice : Choice) (old : Face) → IsUnmade old e → NoSubsetFrom choice old e
+pub unmade-so : (e : Error) (choice : Choice) (old : Face) → IsUnmade old e → NoSubsetFrom choice old e
 unmade-so Memory choice old h = tt
 unmade-so TooLarge choice old h = tt
 unmade-so Cut choice old h = h

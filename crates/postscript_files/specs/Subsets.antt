@@ -14,15 +14,16 @@ use Rattle.postscript_view.specs.Layout.{IsLaidOut}
 use Rattle.postscript_view.specs.declared.font.FontView.{FontView}
 use Rattle.postscript_write.specs.Components.{IsOpened, IsSubset}
 use Rattle.postscript_write.specs.Drawings.{DrawsKept, DrawsTheSame}
+use Rattle.postscript_write.specs.Kept.{HasAllInPlace, HasAllKept}
 use Rattle.postscript_write.specs.Making.{IsFontBy}
 use Rattle.postscript_write.specs.Refusals.{IsSubsetRefusedBy}
 use Rattle.postscript_write.specs.SameGlyphs.{GlyphsKept, IsSameGlyph}
 use Rattle.postscript_write.specs.Sources.{AreThere, choice_by}
-use Rattle.postscript_write.specs.Whole.{IsWholeFont}
 use Rattle.postscript_files.specs.Choices.{AreKeptPairs, IsFirstOf, IsKept, NoneIsMissing, glyphs_of, named_of}
 use Rattle.postscript_files.specs.Copies.{HasCopy}
 use Rattle.postscript_files.specs.Faces.{IsFaceIn, IsNeeded, NoFaceIn, cff_tag, cmap_tag, hhea_tag, hmtx_tag, maxp_tag, post_tag}
 use Rattle.postscript_files.specs.Measures.{bearing_in}
+use Rattle.postscript_files.specs.Sound.{IsSoundFont}
 use Rattle.postscript_files.specs.declared.choice.Choice.{Choice}
 use Rattle.postscript_files.specs.declared.choice.Given.{Given}
 use Rattle.postscript_files.specs.declared.error.Error.{Error}
@@ -34,12 +35,18 @@ abbrev pub AreNamed : Choice → (old : Face) → (named : List ℕ) → Type 0
 AreNamed choice old named = (glyph : ℕ) → Contains named glyph →
     Contains (glyphs_of choice) glyph ⊎ ((char : ℕ) × IsKept choice old.map char glyph)
 
+-- the glyphs that `kept_glyphs` returns are in the new table, in order, or under their old numbers if glyphs keep them
+abbrev pub HasAllBy : (retain : Bool) → (named cff new : List ℕ) → Type 0
+HasAllBy true named cff new = HasAllInPlace named cff new
+HasAllBy false named cff new = HasAllKept named cff new
+
 -- The new `CFF ` table is one that `subset` writes, or `subset_keeping` if glyphs keep their numbers.
 pub record IsSubsetFont (retain : Bool) (named cff new : List ℕ) : Type 0 where
   pub drawn : DrawsKept (choice_by retain) named cff new
   pub same : GlyphsKept (choice_by retain) named cff new
   pub written : IsSubset (IsFontBy retain) (choice_by retain) named cff new
-  pub whole : IsWholeFont new
+  pub kept : HasAllBy retain named cff new
+  pub sound : IsSoundFont cff new
   pub some : 0 < length named
   pub there : (font : View) → IsLaidOut cff 0 font → AreThere named (length font.char_strings)
 
