@@ -158,7 +158,7 @@ typedef struct psf_font {
     uint64_t global_subroutines; /* the offset of the Global Subr INDEX */
     uint64_t font_dictionaries;  /* CID-keyed fonts: the offset of FDArray; otherwise 0 */
     uint64_t fd_select;          /* CID-keyed fonts: the offset of FDSelect; otherwise 0 */
-    psf_part part;               /* all other fonts: the Private DICT */
+    psf_part part;               /* all other fonts: the Private DICT; CID-keyed fonts: zeros */
     uint64_t glyphs;             /* the number of glyphs */
     uint32_t is_cid;             /* 1 if the font is CID-keyed, otherwise 0 */
     uint64_t limit;              /* how many units a call may spend on a glyph; psf_font_open sets PSF_LIMIT */

@@ -486,7 +486,7 @@ plain_same bytes font v glyph q c is plain part alone fd p found first-one e in_
     let named : naming v.dictionary p.font_dictionary ≡ v.dictionary = ap (naming v.dictionary) are.1 in
     let of = same_of bytes v.dictionary p font.part c.at c.next (NamesSubroutinesOf v p 0) are.0
     (not_start bytes v v.dictionary p c.there named)
-    (plain_local bytes v.dictionary c.at font.part.local_subroutines c.next plain c.local) (c.widths plain) in
+    (plain_local bytes v.dictionary c.at font.part.local_subroutines c.next plain c.local) (c.widths.plain plain) in
     subst (λ (found : PsfPart). Same bytes (NamesSubroutinesOf v p 0) p found) (sym (in_c.0 is)) of
 
 plain_tells : (bytes : List ℕ) (font : PsfFont) (v : FontView) (glyph : ℕ) (q : contents.PrivateDict) → Common bytes font v →

@@ -177,7 +177,7 @@ subset-face choice old new pairs origins font made kept is are m has file read =
           (one-table new.file hhea_tag made.hhea.items new.hhea.now has.hhea read.hhea) m.hhea_kept;
       maxp = subst (λ (xs : List ℕ). KeepsBut 4 old.maxp.now xs)
           (one-table new.file maxp_tag made.maxp.items new.maxp.now has.maxp read.maxp) m.maxp_kept;
-      post = (made.post.items, record { is = has.post; version = m.post.version; kept = m.post.kept });
+      post = (made.post.items, record { is = has.post; version = m.post.version; kept = m.post.kept; lacking = m.post.lacking });
       copied = has.copied;
       given = has.given;
       only = has.only;
@@ -356,7 +356,7 @@ pub no-subset-so : (r : Result (Vec ℕ Global) Error) (choice : Choice) (bytes 
 no-subset-so (Ok file) choice bytes number old was h = tt
 no-subset-so (Err e) choice bytes number old was h = inr (old, was, h)
 
-unmade-so : (e : Error) (choice : Choice) (old : Face) → IsUnmade old e → NoSubsetFrom choice old e
+pub unmade-so : (e : Error) (choice : Choice) (old : Face) → IsUnmade old e → NoSubsetFrom choice old e
 unmade-so Memory choice old h = tt
 unmade-so TooLarge choice old h = tt
 unmade-so Cut choice old h = h

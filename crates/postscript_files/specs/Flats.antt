@@ -12,9 +12,9 @@ use Rattle.postscript_write.specs.Making.{IsKeptFont}
 use Rattle.postscript_write.specs.Refusals.{IsRefusedBy}
 use Rattle.postscript_write.specs.SameGlyphs.{KeepsGlyphs}
 use Rattle.postscript_write.specs.Sources.{IsWritten, every}
-use Rattle.postscript_write.specs.Whole.{IsWholeFont}
 use Rattle.postscript_files.specs.Copies.{AreTooLarge, HasCopy}
 use Rattle.postscript_files.specs.Faces.{OfFile, cff_tag}
+use Rattle.postscript_files.specs.Sound.{IsSoundFont}
 use Rattle.postscript_files.specs.declared.error.Error.{Error}
 use Rattle.postscript_files.specs.declared.error.Error.TheVariants.{File, Font, Memory, MissingTable, Overlap, TooLarge}
 
@@ -23,7 +23,7 @@ pub record IsFlatFont (cff new : List ℕ) : Type 0 where
   pub drawn : KeepsDrawings every cff new
   pub same : KeepsGlyphs every cff new
   pub written : IsWritten IsKeptFont every cff new
-  pub whole : IsWholeFont new
+  pub sound : IsSoundFont cff new
 
 -- the tag of the digital signature, which would not be valid for the new file: "DSIG"
 abbrev pub dsig_tag : ℕ

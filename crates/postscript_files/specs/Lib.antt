@@ -4,6 +4,7 @@ pub mod Renumbered
 pub mod Measures
 pub mod Copies
 pub mod Refused
+pub mod Sound
 pub mod Subsets
 pub mod Flats
 pub mod Others

@@ -1,5 +1,5 @@
 -- The origins of new glyphs, and the tables that are made. Only private contracts, laws and proofs use these definitions.
-use Rattle.std.specs.Prelude.{◌≡◌, ◌≢◌, ◌⊎◌, ℕ, ◌*◌, ◌<◌, ◌≤◌, Bool, true, false, List, length, map, take, drop, slice_index_or}
+use Rattle.std.specs.Prelude.{◌≡◌, ◌≢◌, ◌⊎◌, ℕ, ◌*◌, ◌<◌, ◌≤◌, Bool, true, false, List, length, map, take, drop, replicate, slice_index_or}
 use Rattle.postscript_base.specs.Index.{number_at}
 use Rattle.std.specs.List.{range_with_len}
 use Rattle.postscript_drawing.specs.Components.{glyphs_of}
@@ -55,10 +55,11 @@ pub record IsMapOf (pairs : List Mapping) (origins cmap : List ℕ) : Type 0 whe
   pub readable : IsReadable cmap
   pub told : AreTold cmap mappings
 
--- a `post` table without names, with the other values of the old one
+-- a `post` table without names, with the other values of the old one, or zeros
 pub record IsPostOf (file : FontFile) (post : List ℕ) : Type 0 where
   pub version : number_at post 0 4 ≡ 0x00030000
   pub kept : (was : List ℕ) → IsTableOf file post_tag was → 32 ≤ length was → drop 4 post ≡ drop 4 (take 32 was)
+  pub lacking : ((was : List ℕ) → IsTableOf file post_tag was → length was < 32) → drop 4 post ≡ replicate 28 0
 
 -- an `hmtx` table with the metrics of the origins
 pub record IsHmtxOf (face : Face) (origins hmtx : List ℕ) : Type 0 where

@@ -1,5 +1,5 @@
 -- A file with only some glyphs of a face (ISO/IEC 14496-22, 4.5 and 5.2).
-use Rattle.std.specs.Prelude.{◌≡◌, ◌⊎◌, ℕ, ℤ, ◌+◌, ◌*◌, ◌<◌, ◌≤◌, ◌==◌, List, [], ◌∷◌, Bool, true, false, Some, length, map, take, drop, slice_get, if◌then◌else◌}
+use Rattle.std.specs.Prelude.{◌≡◌, ◌⊎◌, ℕ, ℤ, ◌+◌, ◌*◌, ◌<◌, ◌≤◌, ◌==◌, List, [], ◌∷◌, Bool, true, false, Some, length, map, take, drop, replicate, slice_get, if◌then◌else◌}
 use Rattle.std.specs.List.{Contains}
 use Rattle.postscript_base.specs.Index.{number_at}
 use Rattle.postscript_sfnt.specs.Lent.{HasNoTable, IsTableOf, advance_in, tables_of, tag_of}
@@ -14,15 +14,16 @@ use Rattle.postscript_view.specs.Layout.{IsLaidOut}
 use Rattle.postscript_view.specs.declared.font.FontView.{FontView}
 use Rattle.postscript_write.specs.Components.{IsOpened, IsSubset}
 use Rattle.postscript_write.specs.Drawings.{DrawsKept, DrawsTheSame}
+use Rattle.postscript_write.specs.Kept.{HasAllInPlace, HasAllKept}
 use Rattle.postscript_write.specs.Making.{IsFontBy}
 use Rattle.postscript_write.specs.Refusals.{IsSubsetRefusedBy}
 use Rattle.postscript_write.specs.SameGlyphs.{GlyphsKept, IsSameGlyph}
 use Rattle.postscript_write.specs.Sources.{AreThere, choice_by}
-use Rattle.postscript_write.specs.Whole.{IsWholeFont}
 use Rattle.postscript_files.specs.Choices.{AreKeptPairs, IsFirstOf, IsKept, NoneIsMissing, glyphs_of, named_of}
 use Rattle.postscript_files.specs.Copies.{HasCopy}
 use Rattle.postscript_files.specs.Faces.{IsFaceIn, IsNeeded, NoFaceIn, cff_tag, cmap_tag, hhea_tag, hmtx_tag, maxp_tag, post_tag}
 use Rattle.postscript_files.specs.Measures.{bearing_in}
+use Rattle.postscript_files.specs.Sound.{IsSoundFont}
 use Rattle.postscript_files.specs.declared.choice.Choice.{Choice}
 use Rattle.postscript_files.specs.declared.choice.Given.{Given}
 use Rattle.postscript_files.specs.declared.error.Error.{Error}
@@ -34,12 +35,18 @@ abbrev pub AreNamed : Choice → (old : Face) → (named : List ℕ) → Type 0
 AreNamed choice old named = (glyph : ℕ) → Contains named glyph →
     Contains (glyphs_of choice) glyph ⊎ ((char : ℕ) × IsKept choice old.map char glyph)
 
+-- the glyphs that `kept_glyphs` returns are in the new table, in order, or under their old numbers if glyphs keep them
+abbrev pub HasAllBy : (retain : Bool) → (named cff new : List ℕ) → Type 0
+HasAllBy true named cff new = HasAllInPlace named cff new
+HasAllBy false named cff new = HasAllKept named cff new
+
 -- The new `CFF ` table is one that `subset` writes, or `subset_keeping` if glyphs keep their numbers.
 pub record IsSubsetFont (retain : Bool) (named cff new : List ℕ) : Type 0 where
   pub drawn : DrawsKept (choice_by retain) named cff new
   pub same : GlyphsKept (choice_by retain) named cff new
   pub written : IsSubset (IsFontBy retain) (choice_by retain) named cff new
-  pub whole : IsWholeFont new
+  pub kept : HasAllBy retain named cff new
+  pub sound : IsSoundFont cff new
   pub some : 0 < length named
   pub there : (font : View) → IsLaidOut cff 0 font → AreThere named (length font.char_strings)
 
@@ -77,11 +84,12 @@ pub record AreCounted (new : Face) (count : ℕ) : Type 0 where
   pub hhea : IsWord new.hhea.now 34 count
   pub hmtx : length new.hmtx.now ≡ count * 4
 
--- The `post` table has version 3.0, which has no names, and the other values of the old one, if this has 32 bytes.
+-- The `post` table has version 3.0, which has no names. Its other values are those of the old one, if this has 32 bytes, otherwise 0.
 pub record IsPost (old new : Face) (post : List ℕ) : Type 0 where
   pub is : IsTableOf new.file post_tag post
   pub version : number_at post 0 4 ≡ 0x00030000
   pub kept : (was : List ℕ) → IsTableOf old.file post_tag was → 32 ≤ length was → drop 4 post ≡ drop 4 (take 32 was)
+  pub lacking : ((was : List ℕ) → IsTableOf old.file post_tag was → length was < 32) → drop 4 post ≡ replicate 28 0
 
 -- the tag of a table that is copied, and that the old face has
 abbrev pub IsCopied : FontFile → (tags : List ℕ) → (tag : ℕ) → Type 0

@@ -6,7 +6,7 @@ use Rattle.postscript_files.specs.Choices.{glyphs_of, named_of}
 use Rattle.postscript_files.specs.Listed.{IsFileOfParts}
 use Rattle.postscript_files.specs.Made.{AreOrigins, IsMade}
 use Rattle.postscript_files.specs.Subsets.{IsSubsetFont}
-use Rattle.postscript_files.proofs.Subsetting.{if-subset, no-origins-so, no-written-so}
+use Rattle.postscript_files.proofs.Subsetting.{if-subset, no-origins-so, no-written-so, unmade-so}
 use Rattle.postscript_files.proofs.subset.subset_of.Goals as goal
 
 pub returns-clause-subset : goal.returns-clause-subset
@@ -33,3 +33,8 @@ returns-in_err-origins-clause-refused c =
     c.deref-3.result.now c.in_ok-pairs.ensures.kept
     (c.in_ok-named.ensures.named ∙ ap (named_of (glyphs_of c.args.choice.now)) c.deref.ensures.value) c.deref-3.ensures.value
     c.in_err-origins.ensures.refused)
+
+pub returns-in_err-made-clause-refused : goal.returns-in_err-made-clause-refused
+returns-in_err-made-clause-refused c =
+    let error = err_from_is_err_and c.from_residual-in_err-made.result c.from_residual-in_err-made.ensures.1 in
+    rw (error.1, error.2) (unmade-so _ c.args.choice.now c.args.face.now c.in_err-made.ensures.refused)

@@ -1,0 +1,18 @@
+use Rattle.postscript_files.proofs.flat.font_of.Goals as goal
+
+pub returns-in-Ok-clause-font : goal.returns-in-Ok-clause-font
+returns-in-Ok-clause-font c = record {
+  drawn = c.in-Ok.ensures.drawn;
+  same = c.in-Ok.ensures.same;
+  written = c.in-Ok.ensures.written;
+  sound = record {
+    whole = c.in-Ok.ensures.whole;
+    once = c.in-Ok.ensures.once;
+    ros = c.in-Ok.ensures.ros;
+    selects = c.in-Ok.ensures.selects;
+    short = c.in-Ok.ensures.short;
+    small = c.in-Ok.ensures.small;
+    lenient = c.in-Ok.ensures.lenient;
+    one = c.in-Ok.ensures.one;
+  };
+}
