@@ -39,6 +39,7 @@ SCRIPTS = [
     ("written", "/usr/bin/python3 tools/evidence/written.py 42 FONTS", "psotf"),
     ("accented", "/usr/bin/python3 tools/evidence/accented.py", "psotf"),
     ("shaped", "/usr/bin/python3 tools/evidence/shaped.py 1 100 fonts-ebgaramond fonts-cantarell fonts-lobster fonts-jura", "psotf"),
+    ("kerning", "/usr/bin/python3 tools/evidence/kerning.py 1 100 fonts-ebgaramond fonts-cantarell fonts-lobster fonts-jura", "psotf"),
     ("report", "tools/evidence/report.py", "psotf"),
     ("changed_fonts", "python3 tools/evidence/changed_fonts.py --seed 1", "psfont"),
     ("random_programs", "python3 tools/evidence/random_programs.py --seed 1", "psfont"),
