@@ -75,6 +75,7 @@ case_of 'the archive: psfont' 'test "$(printf "code 8e8c8d150e\nrun\n" | $N/bin/
 case_of 'the archive: what is proved is said' 'grep -q "LLVM, and put together" $N/PROOF.txt; test $(grep -c "^[a-z_0-9]*: logic=proved" $N/PROOF.txt) -ge 10;
     test $(grep -c ": logic=" $N/PROOF.txt) = $(grep -c "^[a-z_0-9 ]*: logic=proved " $N/PROOF.txt)
     grep -q "^postscript_c for aarch64: logic=proved .* target=aarch64-unknown-linux-gnu" $N/PROOF.txt; grep -q "bindings/c/heap.c" $N/PROOF.txt; grep -q "^## What is proved" $N/docs/proof.md'
+case_of 'the archive: psotf proof' '$N/bin/psotf proof | cmp - $N/PROOF.txt; mkdir alone; cp $N/bin/psotf alone; refused alone/psotf proof'
 got gcc libc6-dev pkg-config
 case_of 'the archive: a program in C, by pkg-config' 'export PKG_CONFIG_PATH=$N/lib/pkgconfig
     cc -Wall -Werror $N/examples/svg_glyph.c $(pkg-config --cflags --libs postscript) -o svg_glyph
@@ -146,7 +147,7 @@ case_of 'the packages: what they want' 'for one in amd64 arm64; do for deb in di
     for deb in dist/psotf_*.deb dist/libpostscript-proved0_*.deb; do dpkg-deb -f $deb Depends | grep -q "^libc6 (>= 2\.[0-9]*)"; done'
 case_of 'the packages: those of two processors share their files' 'for one in amd64 arm64; do mkdir -p two/$one; for deb in dist/lib*_$one.deb; do
     dpkg-deb -x $deb two/$one; done; done; diff -r two/amd64/usr/share two/arm64/usr/share; diff -r two/amd64/usr/include two/arm64/usr/include'
-case_of 'the packages: installed' 'apt-get install -y -qq --no-install-recommends ./dist/*_amd64.deb ./dist/*_all.deb; psotf glyph $F --char A --json > out/packages.json'
+case_of 'the packages: installed' 'apt-get install -y -qq --no-install-recommends ./dist/*_amd64.deb ./dist/*_all.deb; psotf glyph $F --char A --json > out/packages.json; psotf proof | cmp - $N/PROOF.txt'
 case_of 'the packages: a program in C' 'cc $N/examples/svg_glyph.c $(pkg-config --cflags --libs postscript) -o shared; ldd shared | grep -q libpostscript.so.0
     ./shared $F 0x41 > out/packages_c.svg; ./shared $S 0x41 > out/small_packages_c.svg'
 case_of 'the packages: Python' 'python3 -c "import postscript, sys; print(\"d=\\\"%s\\\"\" % postscript.Font.open(sys.argv[1]).glyph_of(\"A\").svg_path())" \
@@ -249,7 +250,7 @@ sys.exit(1 if differ or len(real) < 8 or len(small) < 5 or len(wanted) < 50 else
 END
 
 # --- on this machine
-if "$top/tools/dist/install.sh" "$work/installed" && test "$("$work/installed/bin/psotf" --version)" = "psotf $version" &&
+if "$top/tools/dist/install.sh" "$work/installed" && "$work/installed/bin/psotf" proof | grep -q ': logic=proved' && test "$("$work/installed/bin/psotf" --version)" = "psotf $version" &&
     cc "$work/installed/share/doc/postscript-proved/examples/advance.c" $(PKG_CONFIG_PATH=$work/installed/lib/pkgconfig pkg-config --cflags --libs postscript) -o "$work/advance" &&
     test "$("$work/advance" "$work/installed/share/doc/postscript-proved/examples/small.otf" 0x41)" = 500; then
     echo 'passed: make install'

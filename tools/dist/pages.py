@@ -67,7 +67,7 @@ def option_of(line):
 
 
 def word_of(line):
-    found = re.fullmatch(r" +<?(\w+)>? {2,}(.*)", line)
+    found = re.fullmatch(r" +[<\[]?(\w+)[>\]]?(?:\.\.\.)? {2,}(.*)", line)
     assert found, f"no word: {line!r}"
     return found[1], found[2]
 

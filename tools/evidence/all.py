@@ -36,7 +36,7 @@ SCRIPTS = [
     ("linked", "tools/bindings/linked.sh 10000000 1 FONTS", C),
     ("psotf", "/usr/bin/python3 tools/evidence/psotf.py FONTS", "psotf"),
     ("command_line", "tools/evidence/command_line.py", "psotf"),
-    ("written", "/usr/bin/python3 tools/evidence/written.py 42 FONTS", "psotf"),
+    ("written", "/usr/bin/python3 tools/evidence/written.py 42 FONTS --instances pango1.0-tests", "psotf"),
     ("accented", "/usr/bin/python3 tools/evidence/accented.py", "psotf"),
     ("shaped", "/usr/bin/python3 tools/evidence/shaped.py 1 100 fonts-ebgaramond fonts-cantarell fonts-lobster fonts-jura", "psotf"),
     ("kerning", "/usr/bin/python3 tools/evidence/kerning.py 1 100 fonts-ebgaramond fonts-cantarell fonts-lobster fonts-jura", "psotf"),

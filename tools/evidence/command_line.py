@@ -24,6 +24,7 @@ Needs Debian's python3-fonttools, fonts-ebgaramond and time, and uses fonts-noto
 """
 
 import functools
+import json
 import math
 import pathlib
 import re
@@ -224,7 +225,7 @@ def _(folder):
     path = folder / "font"
     sound = file_of(plain_font([END, END]), 2)[0]
     kinds = {
-        b"wOFF" + sound[4:]: "a compressed WOFF file", b"wOF2" + sound[4:]: "a compressed WOFF2 file",
+        b"wOFF" + sound[4:]: "a WOFF file (to unpack it: woff2sfnt FILE > OUT.otf)", b"wOF2" + sound[4:]: "a WOFF2 file (to unpack it: woff2_decompress FILE)",
         b"%!PS-AdobeFont-1.0: A": "a Type 1 font", b"\x80\x01" + bytes(20): "a Type 1 font",
         b"\x00\x01\x00\x00" + sound[4:].replace(b"CFF ", b"glyf", 1): "a TrueType font, with its outlines in a glyf table",
     }  # fmt: skip
@@ -233,6 +234,32 @@ def _(folder):
         for words in (["inspect", path], ["report", path, "-o", folder / "report.html"]):
             said = run(*words, status=1)[1]
             assert said == f"psotf: {path}: {kind}: psotf reads OpenType files with a CFF or CFF2 table\n", said
+
+
+@case("files: several have a row each, also those with errors, and from a list")
+def _(folder):
+    sound, bad, gone, bare = (folder / name for name in ("sound.otf", "bad", "gone", "bare.otf"))
+    sound.write_bytes(file_of(plain_font([END, END]), 2)[0])
+    bare.write_bytes(file_of(plain_font([END, END, END]), 3)[0])
+    bad.write_bytes(b"no font")
+    paths = [sound, bad, gone, bare]
+    out, said = run("inspect", *paths, "--json", status=1)
+    rows = [json.loads(line) for line in out.splitlines()]
+    assert [row["file"] for row in rows] == [str(path) for path in paths], out
+    assert [row.get("error") for row in rows][:2] == [None, "cannot open the font: not an OpenType file"], out
+    assert "error" in rows[2] and [row.get("glyphs") for row in rows] == [2, None, None, 3], out
+    assert said.splitlines()[-1] == "psotf: inspect: files with errors: 2", said
+    assert {**rows[0], "file": None} == {"file": None, **json.loads(run("inspect", sound, "--json")[0])}
+    listed = folder / "list"
+    listed.write_text("".join(f"{path}\n" for path in paths))
+    assert run("inspect", "--files-from", listed, "--json", status=1) == (out, said)
+    assert run("inspect", sound, bare)[0] == "".join(f"{path}:\n{run('inspect', path)[0]}" for path in (sound, bare))
+    assert run("inspect", status=2)[0] == ""
+
+
+@case("proof: without PROOF.txt one line says where it comes from")
+def _(folder):
+    assert run("proof", status=1)[1] == "psotf: proof: there is no PROOF.txt; it comes with the packages and the archive\n"
 
 
 @case("inspect: of Noto Sans CJK no more memory than 1.5 times the file")

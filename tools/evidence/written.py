@@ -2,10 +2,11 @@
 """Writes fonts with psotf and compares their glyphs with those of the source fonts, using fontTools, FreeType and HarfBuzz.
 
     (cd crates/psotf && rt run -- --help)
-    /usr/bin/python3 tools/evidence/written.py SEED [--some N] WORD..
+    /usr/bin/python3 tools/evidence/written.py SEED [--some N] WORD.. [--instances VARIABLE..]
 
 Each WORD is a font file, a folder, or an installed Debian package; of the last two, the script takes each .otf file. `--some N` takes N of
-these fonts, chosen with SEED, and prints them. Each font is written once by `psotf flat`. For glyphs chosen at random from SEED it is
+these fonts, chosen with SEED, and prints them. Each VARIABLE is a file with a `CFF2` table or a package, which is downloaded. The script
+adds static fonts that `psotf instance` writes of it, at each end of each axis, every second one with `--round`. Each font is written once by `psotf flat`. For glyphs chosen at random from SEED it is
 written three times by `psotf subset` and once by `psotf subset --retain-gids`. The checks on each file are:
 - fontTools draws each glyph with the same segments, and reads the same metrics and the same name or CID.
 - FreeType gives the same points, unscaled and unhinted, and the same advance.
@@ -37,6 +38,7 @@ from fontTools.ttLib import TTFont
 
 from building import PROGRAMS, PSOTF
 from font_files import files_of
+from variable_fonts import files_in
 
 MOST = 400
 SUBSETS = 3
@@ -157,22 +159,42 @@ def counted(path, folder, programs, draw):
     return sums
 
 
+def instances_of(folder, words):
+    """Writes static fonts of variable fonts, at each end of each axis, and returns their paths."""
+    paths = []
+    for word in words:
+        for path in files_in(folder, word):
+            ends = [(axis.axisTag, value) for axis in TTFont(path, lazy=True)["fvar"].axes for value in (axis.minValue, axis.maxValue)]
+            for number, (tag, value) in enumerate(ends):
+                out = folder / f"{path.stem}-{tag}{value:g}.otf"
+                subprocess.run([PSOTF, "instance", path, "--quiet", "--variations", f"{tag}={value:g}", *(["--round"] if number % 2 else []), "-o", out], check=True)
+                paths.append(str(out))
+    return paths
+
+
 def main(words):
     if len(words) < 2:
         sys.exit(__doc__)
+    with tempfile.TemporaryDirectory() as name:
+        words, variable = (words[: words.index("--instances")], words[words.index("--instances") + 1 :]) if "--instances" in words else (words, [])
+        return compared(words, instances_of(pathlib.Path(name), variable))
+
+
+def compared(words, instances):
+    """Compares the fonts of the words, and instances."""
     seed = int(words[0])
     if words[1] == "--some":
         all_fonts = list(files_of(*words[3:]))
         fonts = sorted(random.Random(seed).sample(all_fonts, min(int(words[2]), len(all_fonts))))
         print(*fonts, sep="\n")
     else:
-        fonts = files_of(*words[1:])
+        fonts = list(files_of(*words[1:]))
     sums = collections.Counter()
     with tempfile.TemporaryDirectory() as name, concurrent.futures.ProcessPoolExecutor() as pool:
         programs = [built(pathlib.Path(name), "written_ft", "freetype2"), built(pathlib.Path(name), "written_hb", "harfbuzz")]
-        for done in concurrent.futures.as_completed([pool.submit(tallied, path, seed, programs) for path in fonts]):
+        for done in concurrent.futures.as_completed([pool.submit(tallied, path, seed, programs) for path in fonts + instances]):
             sums.update(done.result())
-    print(f"seed {words[0]}: {sums['fonts']} fonts, {sums['refused']} refused, {sums['files']} files, {sums['glyphs']} glyphs, {sums['points']} also by FreeType, {sums['shapes']} by HarfBuzz, {sums['differ']} differ, {sums['unsound']} not accepted")
+    print(f"seed {words[0]}: {sums['fonts']} fonts, {len(instances)} of them instances, {sums['refused']} refused, {sums['files']} files, {sums['glyphs']} glyphs, {sums['points']} also by FreeType, {sums['shapes']} by HarfBuzz, {sums['differ']} differ, {sums['unsound']} not accepted")
     if sums["their_bytes"]:
         print(f"compared with hb-subset without layout tables: {sums['own_bytes'] / sums['their_bytes']:.4f} of its bytes, {sums['own_seconds'] / sums['their_seconds']:.2f} of its time")
     return sums["differ"] or sums["unsound"]

@@ -5,6 +5,7 @@ use std::alloc::{AllocError, Global};
 /// Examples in the help.
 const EXAMPLES: &str = "Examples:
   psotf inspect Font.otf --json
+  find fonts -name '*.otf' | psotf inspect --files-from - --json
   psotf glyph Font.otf --char A
   psotf glyph Fonts.ttc --face 2 --all --json
   psotf svg Font.otf --text Hello -o hello.svg
@@ -17,11 +18,16 @@ const EXAMPLES: &str = "Examples:
   psotf instance Variable.otf --instance Bold -o Bold.otf
   psotf subset Font.otf --unicodes 20-7e,U+20AC --retain-gids -o Small.otf";
 
+/// The help of `proof`, which takes no font.
+const PROOF: &str = "Print how this program was proved: commit, toolchain, verdicts";
+
 /// An argument of a subcommand.
 #[derive(Clone, Copy)]
 enum Word {
     /// An input file: its name and its help.
     File(&'static str, &'static str),
+    /// Input files, which another option can list: their name, that option and the help.
+    Files(&'static str, &'static str, &'static str),
     /// An option without a value: its name and its help.
     Flag(&'static str, &'static str),
     /// An option with a text: its name, the name of the value and the help.
@@ -58,9 +64,21 @@ enum Place {
     One,
 }
 
+/// The file of a subcommand.
+const FILE: &[Word] = &[Word::File("FILE", "OpenType file or collection")];
+
+/// The files of a subcommand that takes several.
+const FILES: &[Word] = &[
+    Word::Files("FILE", "files-from", "OpenType files or collections"),
+    Word::Text(
+        "files-from",
+        "PATH",
+        "Read more file names from this file, one a line (- is standard input)",
+    ),
+];
+
 /// The arguments of all subcommands: the font and the limit.
 const FACE: &[Word] = &[
-    Word::File("FILE", "OpenType file or collection"),
     Word::Given("face", "0", "Select a font of a collection, counted from 0"),
     Word::Units(
         "limit",
@@ -225,9 +243,29 @@ const SUBCOMMANDS: &[Subcommand] = &[
 ];
 
 /// Converts to an argument of clap.
-fn arg<'a>(alloc: Global, word: &Word) -> Arg<'a> {
+fn arg<'a>(alloc: Global, word: &Word) -> Result<Arg<'a>, AllocError> {
+    match *word {
+        Word::Files(name, list, help) => several(alloc, name, list, help),
+        other => Ok(single(alloc, &other)),
+    }
+}
+
+/// Returns an argument with several values, which is required unless another one is there.
+fn several<'a>(
+    alloc: Global,
+    name: &'a str,
+    unless: &'a str,
+    help: &'a str,
+) -> Result<Arg<'a>, AllocError> {
+    let arg = plain(alloc, name, help).num_args(1..);
+    arg.required_unless_present(unless)
+}
+
+/// Converts an argument with at most one value.
+fn single<'a>(alloc: Global, word: &Word) -> Arg<'a> {
     match *word {
         Word::File(name, help) => plain(alloc, name, help).required(true),
+        Word::Files(name, _, help) => plain(alloc, name, help),
         Word::Flag(name, help) => named(alloc, name, help).action(ArgAction::SetTrue),
         Word::Text(name, value, help) => named(alloc, name, help).value_name(value),
         Word::Number(name, help) => number(alloc, name, help),
@@ -269,7 +307,7 @@ fn put<T: Drop>(list: &mut Vec<T>, value: T) -> Result<(), AllocError> {
 
 fn put_words<'a>(alloc: Global, args: &mut Vec<Arg<'a>>, words: &[Word]) -> Result<(), AllocError> {
     for word in words {
-        put(args, arg(alloc, word))?;
+        put(args, arg(alloc, word)?)?;
     }
     Ok(())
 }
@@ -283,8 +321,17 @@ fn words_of(place: Place) -> &'static [Word] {
     }
 }
 
+/// Returns the arguments that select files.
+fn files_of(name: &str) -> &'static [Word] {
+    match name {
+        "inspect" => FILES,
+        _ => FILE,
+    }
+}
+
 /// Adds all arguments of a subcommand.
 fn put_all<'a>(alloc: Global, args: &mut Vec<Arg<'a>>, one: &Subcommand) -> Result<(), AllocError> {
+    put_words(alloc, args, files_of(one.name))?;
     put_words(alloc, args, FACE)?;
     put_words(alloc, args, words_of(one.place))?;
     put_words(alloc, args, one.words)
@@ -322,6 +369,7 @@ fn commands<'a>(alloc: Global) -> Result<Vec<Command<'a>>, AllocError> {
     for one in SUBCOMMANDS {
         put_command(alloc, &mut commands, one)?;
     }
+    put(&mut commands, Command::new(alloc, "proof").about(PROOF))?;
     Ok(commands)
 }
 

@@ -93,9 +93,9 @@ pub fn refusal_of(alloc: Global, cff: &[u8]) -> Option<(Spot, Error)> {
 /// Returns the kind of a file that this program cannot read, if it is a known one.
 fn other_kind(bytes: &[u8]) -> Option<&'static str> {
     if bytes.starts_with(b"wOFF") {
-        Some("a compressed WOFF file")
+        Some("a WOFF file (to unpack it: woff2sfnt FILE > OUT.otf)")
     } else if bytes.starts_with(b"wOF2") {
-        Some("a compressed WOFF2 file")
+        Some("a WOFF2 file (to unpack it: woff2_decompress FILE)")
     } else if bytes.starts_with(b"%!PS") || bytes.starts_with(&[0x80, 0x01]) {
         Some("a Type 1 font")
     } else {

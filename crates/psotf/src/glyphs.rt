@@ -138,7 +138,7 @@ fn lines<G: Glyphs, W: Write>(
     let mut line = Text::new(alloc);
     let mut refused = 0u64;
     for gid in gids {
-        progress.at(gid);
+        progress.at_glyph(gid);
         if !put_line(alloc, &mut line, glyphs, gid, budget) {
             refused = refused.saturating_add(1);
         }
@@ -160,7 +160,7 @@ fn objects<G: Glyphs, W: Write>(
     let mut sheet = Sheet::new(alloc);
     let mut refused = 0u64;
     for gid in gids {
-        progress.at(gid);
+        progress.at_glyph(gid);
         if !glyphs.object(alloc, &mut sheet, &mapped, gid, budget)? {
             refused = refused.saturating_add(1);
         }

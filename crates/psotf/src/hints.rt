@@ -110,7 +110,7 @@ pub fn hinted(
     let mut hinted = 0u64;
     let mut progress = Progress::new(rt, count(face));
     for gid in 0..count(face) {
-        progress.at(gid);
+        progress.at_glyph(gid);
         if let Some(glyph) = face.font.glyph(usize::from(gid)) {
             if sees_hint(rt.alloc(), gid, &glyph, budget, stopped)? {
                 hinted = hinted.saturating_add(1);

@@ -27,8 +27,10 @@ mod layout;
 mod leaving;
 mod limit;
 mod made;
+mod many;
 mod naming;
 mod progress;
+mod proof;
 mod readings;
 mod refused;
 mod report;
@@ -91,14 +93,14 @@ fn bytes_of(rt: &HostRuntime, path: &str) -> Result<Vec<u8>, Failure> {
     Ok(bytes)
 }
 
-/// Opens the font that the arguments select, and runs the subcommand.
+/// Opens the font that the arguments select of a file, and runs the subcommand.
 fn answer<W: Write>(
     rt: &HostRuntime,
     name: &str,
     words: &ArgMatches<'_>,
+    path: &str,
     out: &mut W,
 ) -> Result<(), Failure> {
-    let path = words.get_str("FILE").unwrap_or("");
     let number = words.get_one::<u16>("face").unwrap_or(0);
     let bytes = bytes_of(rt, path)?;
     let source = source_of(bytes.as_slice(), number)?;
@@ -185,20 +187,40 @@ fn write<W: Write>(
     }
 }
 
-/// Runs a subcommand, prints its failure, and returns the exit status: 0, 1 for a failure, or 2 for wrong arguments. A
-/// closed pipe is no failure.
+/// Prints a failure, and returns the exit status: 1, or 2 for wrong arguments. A closed pipe is no failure.
+fn told(rt: &HostRuntime, path: &str, failure: &Failure) -> io::Result<ExitCode> {
+    if failure.is_closed_pipe() {
+        return Ok(ExitCode::SUCCESS);
+    }
+    eprintln!(rt; "psotf: {path}: {failure}")?;
+    Ok(ExitCode::from(failure.status()))
+}
+
+/// Runs a subcommand for a file, prints its failure, and returns the exit status.
 fn start(rt: &HostRuntime, name: &str, words: &ArgMatches<'_>) -> io::Result<ExitCode> {
     let mut out = BufWriter::new(rt.alloc(), io::writer(rt))?;
-    match answer(rt, name, words, &mut out) {
+    let path = words.get_str("FILE").unwrap_or("");
+    match answer(rt, name, words, path, &mut out) {
         Ok(()) => Ok(ExitCode::SUCCESS),
-        Err(failure) => {
-            if failure.is_closed_pipe() {
-                return Ok(ExitCode::SUCCESS);
-            }
-            let path = words.get_str("FILE").unwrap_or("");
-            eprintln!(rt; "psotf: {path}: {failure}")?;
-            Ok(ExitCode::from(failure.status()))
-        }
+        Err(failure) => told(rt, path, &failure),
+    }
+}
+
+/// Runs a subcommand for several files, prints how many have errors, and returns the exit status.
+fn start_many(rt: &HostRuntime, name: &str, words: &ArgMatches<'_>) -> io::Result<ExitCode> {
+    let mut out = BufWriter::new(rt.alloc(), io::writer(rt))?;
+    match many::write(rt, name, words, &mut out) {
+        Ok(()) => Ok(ExitCode::SUCCESS),
+        Err(failure) => told(rt, name, &failure),
+    }
+}
+
+/// Runs `proof`, prints its failure, and returns the exit status.
+fn start_proof(rt: &HostRuntime) -> io::Result<ExitCode> {
+    let mut out = BufWriter::new(rt.alloc(), io::writer(rt))?;
+    match proof::write(rt, &mut out) {
+        Ok(()) => Ok(ExitCode::SUCCESS),
+        Err(failure) => told(rt, "proof", &failure),
     }
 }
 
@@ -234,6 +256,8 @@ fn told_by(rt: &HostRuntime, error: &clap::Error) -> io::Result<ExitCode> {
 /// Runs the subcommand of parsed arguments.
 fn answer_to(rt: &HostRuntime, matches: &ArgMatches<'_>) -> io::Result<ExitCode> {
     match matches.subcommand() {
+        Some(("proof", _)) => start_proof(rt),
+        Some((name, words)) if many::is_chosen(words) => start_many(rt, name, words),
         Some((name, words)) => start(rt, name, words),
         None => Ok(ExitCode::from(2)),
     }

@@ -2,12 +2,14 @@
 use std::io::IsTerminal;
 use std::time::Instant;
 
-/// The progress of a loop over glyphs. It is shown once a second on standard error, if that is a terminal.
+/// The progress of a loop over glyphs or files. It is shown once a second on standard error, if that is a terminal.
 #[derive(Clone, Copy)]
 pub struct Progress<'r> {
     rt: &'r HostRuntime,
-    /// The number after the last glyph.
-    to: u16,
+    /// What is counted.
+    what: &'static str,
+    /// The number after the last glyph, or that of the last file.
+    to: u64,
     /// The start. `None` if nothing is shown.
     since: Option<Instant>,
     /// The last second with a message.
@@ -15,8 +17,8 @@ pub struct Progress<'r> {
 }
 
 impl<'r> Progress<'r> {
-    /// Begins to measure.
-    pub fn new(rt: &'r HostRuntime, to: u16) -> Progress<'r> {
+    /// Begins to measure a loop.
+    fn of(rt: &'r HostRuntime, what: &'static str, to: u64) -> Progress<'r> {
         let since = if rt.stderr().is_terminal() {
             Instant::now(rt).ok()
         } else {
@@ -24,23 +26,43 @@ impl<'r> Progress<'r> {
         };
         Progress {
             rt,
+            what,
             to,
             since,
             told: 0,
         }
     }
 
+    /// Begins to measure a loop over glyphs.
+    pub fn new(rt: &'r HostRuntime, to: u16) -> Progress<'r> {
+        Progress::of(rt, "glyph", u64::from(to))
+    }
+
+    /// Begins to measure a loop over files. It shows nothing if standard output is a terminal too.
+    pub fn of_files(rt: &'r HostRuntime, to: u64) -> Progress<'r> {
+        Progress::of(rt, "file", to).unless_shown()
+    }
+
     /// The same, but shows nothing if standard output is a terminal too, since the output shows the progress.
     pub fn of_answers(rt: &'r HostRuntime, to: u16) -> Progress<'r> {
-        let mut progress = Progress::new(rt, to);
-        if rt.stdout().is_terminal() {
-            progress.since = None;
+        Progress::new(rt, to).unless_shown()
+    }
+
+    /// Shows nothing if standard output is a terminal.
+    fn unless_shown(mut self) -> Progress<'r> {
+        if self.rt.stdout().is_terminal() {
+            self.since = None;
         }
-        progress
+        self
     }
 
     /// Shows the current glyph, at most once a second.
-    pub fn at(&mut self, gid: u16) {
+    pub fn at_glyph(&mut self, gid: u16) {
+        self.at(u64::from(gid));
+    }
+
+    /// Shows the current number, at most once a second.
+    pub fn at(&mut self, number: u64) {
         let Some(since) = self.since else {
             return;
         };
@@ -50,8 +72,8 @@ impl<'r> Progress<'r> {
         };
         if seconds > self.told {
             self.told = seconds;
-            let to = self.to;
-            let _ = eprint!(self.rt; "glyph {gid} of {to}\r");
+            let (what, to) = (self.what, self.to);
+            let _ = eprint!(self.rt; "{what} {number} of {to}\r");
         }
     }
 

@@ -50,7 +50,7 @@ fn put_glyphs(
     let mut progress = Progress::new(rt, gids.end);
     let mut sheet = Sheet::new(rt.alloc());
     for gid in gids {
-        progress.at(gid);
+        progress.at_glyph(gid);
         if gid > from {
             page.extend_from_slice(b",\n")?;
         }

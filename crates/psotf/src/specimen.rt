@@ -126,7 +126,7 @@ fn put_cells(
     let from = gids.start;
     let mut progress = Progress::new(rt, gids.end);
     for gid in gids {
-        progress.at(gid);
+        progress.at_glyph(gid);
         let cell = u64::from(gid.saturating_sub(from));
         match put_cell(rt.alloc(), face, gid, cell, budget, picture) {
             Some(refusal) if refusal.is_by_limit() => stopped.add(gid, &refusal)?,

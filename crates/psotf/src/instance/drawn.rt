@@ -215,7 +215,7 @@ impl Drawn {
     ) -> Result<(), Failure> {
         let mut progress = Progress::new(rt, glyphs);
         for gid in 0..glyphs {
-            progress.at(gid);
+            progress.at_glyph(gid);
             let width = self
                 .widths
                 .get(usize::from(gid))
