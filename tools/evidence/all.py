@@ -62,6 +62,7 @@ SCRIPTS = [
     ("pages", "tools/bindings/pages.py crates/psotf/out/psotf crates/psfont/out/psfont bindings/c/build", f"{C} psotf psfont {PAGES} bindings"),
     ("bindings", "tools/bindings/bindings.sh", f"{C} bindings"),
     ("aarch64", "make --no-print-directory -s -C bindings/c check-aarch64", C),
+    ("threads", "make --no-print-directory -s -C bindings/c check-threads", C),
     ("fuzz", "make --no-print-directory -s -C bindings/c check-fuzz", C),
     ("reproducible", "tools/dist/reproducible.sh", f"{C} psotf psfont {PAGES} bindings tools/dist"),
     ("dist_test", "tools/dist/dist_test.sh", f"{C} psotf psfont {PAGES} bindings tools/dist tools/bindings/pages.py"),

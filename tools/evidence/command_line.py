@@ -257,6 +257,25 @@ def _(folder):
     assert run("inspect", status=2)[0] == ""
 
 
+@case("inspect: scripts, features and lookups as fontTools reads them")
+def _(folder):
+    names = {
+        "GSUB": ["single", "multiple", "alternate", "ligature", "context", "chained context", "extension", "reverse chained"],
+        "GPOS": ["single", "pair", "cursive", "mark to base", "mark to ligature", "mark to mark", "context", "chained context", "extension"],
+    }
+    for path in sorted(pathlib.Path("/usr/share/fonts/opentype").rglob("*.otf"))[:12]:
+        font, told = TTFont(path), json.loads(run("inspect", path, "--json")[0])["layout"]
+        assert set(told) == {tag for tag in names if tag in font}, path
+        for tag in told:
+            table, counts = font[tag].table, {}
+            for lookup in table.LookupList.Lookup if table.LookupList else []:
+                kind = lookup.SubTable[0].ExtensionLookupType if lookup.LookupType == {"GSUB": 7, "GPOS": 9}[tag] else lookup.LookupType
+                counts[names[tag][kind - 1]] = counts.get(names[tag][kind - 1], 0) + 1
+            assert told[tag]["lookups"] == counts, (path, told[tag]["lookups"], counts)
+            assert told[tag]["scripts"] == sorted({one.ScriptTag for one in table.ScriptList.ScriptRecord}), path
+            assert told[tag]["features"] == sorted({one.FeatureTag for one in table.FeatureList.FeatureRecord}), path
+
+
 @case("proof: without PROOF.txt one line says where it comes from")
 def _(folder):
     assert run("proof", status=1)[1] == "psotf: proof: there is no PROOF.txt; it comes with the packages and the archive\n"

@@ -5,10 +5,10 @@ use crate::face::{Face, called};
 use crate::failure::Failure;
 use crate::hints::hinted;
 use crate::limit::Budget;
-use crate::readings;
 use crate::sheet::Sheet;
 use crate::stopped::Stopped;
 use crate::text::Text;
+use crate::{layouts, readings};
 use postscript_base::compact1::Operator;
 use postscript_sfnt::Name;
 use postscript_view::Identifiers;
@@ -147,6 +147,7 @@ fn head(alloc: Global, sheet: &mut Sheet, face: &Face<'_>) {
 pub fn put(alloc: Global, sheet: &mut Sheet, face: &Face<'_>, hinted: u64) {
     sheet.begin_object();
     head(alloc, sheet, face);
+    layouts::put(alloc, sheet, &face.source.file);
     font(alloc, sheet, face, hinted);
     sheet.end_object();
 }
@@ -223,6 +224,7 @@ fn lines<W: Write>(
     name_lines(alloc, &mut lines, face);
     let characters = lines.found(count(alloc, &face.map));
     count_lines(&mut lines, face, hinted, characters);
+    layouts::put_lines(alloc, &mut lines, &face.source.file);
     font_lines(alloc, &mut lines, face);
     part_lines(alloc, &mut lines, face);
     readings::put_lines(alloc, &mut lines, face.cff);

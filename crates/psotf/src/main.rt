@@ -24,6 +24,7 @@ mod instance;
 mod kerning;
 mod labels;
 mod layout;
+mod layouts;
 mod leaving;
 mod limit;
 mod made;

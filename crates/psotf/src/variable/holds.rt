@@ -5,6 +5,7 @@ use crate::characters::count;
 use crate::decimal::put_bits;
 use crate::face::called;
 use crate::failure::Failure;
+use crate::layouts;
 use crate::sheet::Sheet;
 use crate::text::Text;
 use postscript_variation::{Axes, Axis};
@@ -97,6 +98,7 @@ fn put(alloc: Global, sheet: &mut Sheet, face: &VariableFace<'_>) {
     for (key, count) in &counts(face, characters) {
         sheet.number(*key, *count);
     }
+    layouts::put(alloc, sheet, &face.file);
     axes(sheet, face);
     instances(sheet, face);
     sheet.end_object();
@@ -177,6 +179,7 @@ fn instance_lines(lines: &mut Text, face: &VariableFace<'_>, axes: &Axes<'_>) {
 fn lines<W: Write>(alloc: Global, face: &VariableFace<'_>, out: &mut W) -> Result<(), Failure> {
     let mut lines = Text::new(alloc);
     head_lines(alloc, &mut lines, face);
+    layouts::put_lines(alloc, &mut lines, &face.file);
     if let Some(axes) = &face.axes {
         axis_lines(alloc, &mut lines, face, axes);
         instance_lines(&mut lines, face, axes);
