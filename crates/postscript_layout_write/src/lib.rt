@@ -27,7 +27,11 @@ mod numbers;
 mod pairs;
 mod positioning;
 mod ranges;
+mod renumbering;
+mod rule_sets;
+mod rules;
 mod script_lists;
+mod substituting;
 mod subtables;
 #[cfg(test)]
 mod tests;
@@ -36,3 +40,4 @@ mod values;
 pub use classes::glyph_classes;
 pub use error::{Error, Result};
 pub use positioning::kerning;
+pub use substituting::substitutions;
