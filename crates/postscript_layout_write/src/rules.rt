@@ -1,4 +1,12 @@
 //! The rules of a lookup of substitutions for a first glyph, under new numbers.
+ghost use Rattle.std.specs.Prelude.{◌≡◌, ◌⊎◌, ◌+◌, ◌^◌, ◌<◌, ◌≤◌, ◌++◌, [], ◌∷◌, length, is_some, IfErr, IfOk, IfSome, OnOk};
+ghost use Rattle.postscript_layout.specs.Numbers.{word as the_word, words as the_words};
+ghost use Rattle.postscript_layout.specs.Substitutions.{glyphs_of};
+ghost use Rattle.postscript_layout_write.specs.Refusals.{IsUsedUp};
+ghost use Rattle.postscript_layout_write.specs.Renumbering.{AreNumbers, kept_rules};
+ghost use Rattle.postscript_layout_write.specs.RuleSets.{lists};
+ghost use Rattle.postscript_layout_write.specs.Rules.{all_rules as the_all, first_rules as the_first, ligature_rule, ligature_rules, or_none, part_at as the_part, rules_by, rules_in, rules_of_type, set_at as the_set, single_of as the_single, type_at};
+ghost use Rattle.postscript_layout_write.specs.declared.error.Error.TheVariants as errors;
 
 use crate::error::Result;
 use crate::limit::pay;
@@ -9,6 +17,9 @@ use std::alloc::Global;
 
 /// Returns the type of a lookup. An extension has the type of its first subtable.
 pub(crate) fn type_of(gsub: &[u8], lookup: usize) -> usize
+    requires near { lookup < 2 ^ 31 }
+    ensures exact { result ≡ type_at gsub.now lookup }
+    ensures small { result < 65536 }
 {
     let kind = word(gsub, lookup);
     if kind == 7 {
@@ -20,6 +31,10 @@ pub(crate) fn type_of(gsub: &[u8], lookup: usize) -> usize
 
 /// Returns the offset of subtable `j` of a lookup, or of the subtable that its extension names, if that has a type.
 fn part_at(gsub: &[u8], lookup: usize, kind: usize, j: usize) -> Option<usize>
+    requires near { lookup < 2 ^ 31 }
+    requires few { j < 65536 }
+    ensures exact { result ≡ the_part gsub.now lookup kind j }
+    ensures near { IfSome result (λ at. at < 2 ^ 33) }
 {
     let part = lookup + word(gsub, lookup + 6 + j * 2);
     if word(gsub, lookup) == kind {
@@ -33,6 +48,11 @@ fn part_at(gsub: &[u8], lookup: usize, kind: usize, j: usize) -> Option<usize>
 
 /// Returns the glyph that a subtable of type 1 puts in the place of a glyph with coverage index `i`.
 fn single_of(gsub: &[u8], subtable: usize, i: usize, glyph: usize) -> Option<usize>
+    requires near { subtable < 2 ^ 33 }
+    requires few { i < 2 ^ 17 }
+    requires glyph { glyph < 65536 }
+    ensures exact { result ≡ the_single gsub.now subtable i glyph }
+    ensures small { IfSome result (λ other. other < 65536) }
 {
     match word(gsub, subtable) {
         1 => Some((glyph + word(gsub, subtable + 4)) % 65536),
@@ -49,6 +69,10 @@ fn single_of(gsub: &[u8], subtable: usize, i: usize, glyph: usize) -> Option<usi
 
 /// Returns the offset of the sequence, the set of alternates or the set of ligatures for coverage index `i`.
 fn set_at(gsub: &[u8], subtable: usize, i: usize) -> Option<usize>
+    requires near { subtable < 2 ^ 33 }
+    requires few { i < 2 ^ 17 }
+    ensures exact { result ≡ the_set gsub.now subtable i }
+    ensures near { IfSome result (λ at. at < 2 ^ 34) }
 {
     if word(gsub, subtable) == 1 && i < word(gsub, subtable + 4) {
         Some(subtable + word(gsub, subtable + 6 + i * 2))
@@ -65,10 +89,16 @@ fn read_glyphs(
     count: usize,
     limit: &mut u64,
 ) -> Result<()>
+    requires near { offset < 2 ^ 35 }
+    requires few { count < 65536 }
+    ensures exact { OnOk result (out.new.items ≡ out.old.items ++ the_words gsub.now offset count) }
+    ensures spends { limit.new ≤ limit.old }
+    ensures why { IfErr result (λ e. (e ≡ errors.Memory) ⊎ IsUsedUp limit.new e) }
 {
     for k in 0..count {
         pay(limit)?;
-        out.push(word(gsub, offset + k * 2) as u16)?;
+        let glyph = word(gsub, offset + k * 2);
+        out.push(glyph as u16)?;
     }
     Ok(())
 }
@@ -76,12 +106,17 @@ fn read_glyphs(
 /// Appends a rule under new numbers, if all of its glyphs are kept.
 fn add_rule(
     alloc: Global,
+    kept: &[u16],
     numbers: &[Option<usize>],
     rule: &[u16],
     rules: &mut Vec<Vec<u16>>,
 ) -> Result<()>
+    requires small { length kept.now < 65536 }
+    requires exact { AreNumbers kept.now numbers.now }
+    ensures added { OnOk result (lists rules.new.items ≡ lists rules.old.items ++ kept_rules kept.now (rule.now ∷ [])) }
+    ensures memory { IfErr result (λ e. e ≡ errors.Memory) }
 {
-    if let Some(new) = renumbered(alloc, numbers, rule)? {
+    if let Some(new) = renumbered(alloc, kept, numbers, rule)? {
         rules.push(new)?;
     }
     Ok(())
@@ -92,15 +127,22 @@ fn add_several(
     alloc: Global,
     gsub: &[u8],
     set: usize,
+    kept: &[u16],
     numbers: &[Option<usize>],
     rules: &mut Vec<Vec<u16>>,
     limit: &mut u64,
 ) -> Result<()>
+    requires near { set < 2 ^ 34 }
+    requires small { length kept.now < 65536 }
+    requires exact { AreNumbers kept.now numbers.now }
+    ensures added { OnOk result (lists rules.new.items ≡ lists rules.old.items ++ kept_rules kept.now (glyphs_of gsub.now set ∷ [])) }
+    ensures spends { limit.new ≤ limit.old }
+    ensures why { IfErr result (λ e. (e ≡ errors.Memory) ⊎ IsUsedUp limit.new e) }
 {
     let mut rule = Vec::new(alloc);
     let count = word(gsub, set);
     read_glyphs(&mut rule, gsub, set + 2, count, limit)?;
-    add_rule(alloc, numbers, &rule, rules)?;
+    add_rule(alloc, kept, numbers, &rule, rules)?;
     Ok(())
 }
 
@@ -109,16 +151,23 @@ fn add_ligature(
     alloc: Global,
     gsub: &[u8],
     ligature: usize,
+    kept: &[u16],
     numbers: &[Option<usize>],
     rules: &mut Vec<Vec<u16>>,
     limit: &mut u64,
 ) -> Result<()>
+    requires near { ligature < 2 ^ 34 + 2 ^ 16 }
+    requires small { length kept.now < 65536 }
+    requires exact { AreNumbers kept.now numbers.now }
+    ensures added { OnOk result (lists rules.new.items ≡ lists rules.old.items ++ kept_rules kept.now (ligature_rule gsub.now ligature ∷ [])) }
+    ensures spends { limit.new ≤ limit.old }
+    ensures why { IfErr result (λ e. (e ≡ errors.Memory) ⊎ IsUsedUp limit.new e) }
 {
     let mut rule = Vec::new(alloc);
     rule.push(word(gsub, ligature) as u16)?;
     let count = word(gsub, ligature + 2).saturating_sub(1);
     read_glyphs(&mut rule, gsub, ligature + 4, count, limit)?;
-    add_rule(alloc, numbers, &rule, rules)?;
+    add_rule(alloc, kept, numbers, &rule, rules)?;
     Ok(())
 }
 
@@ -127,16 +176,23 @@ fn add_ligatures(
     alloc: Global,
     gsub: &[u8],
     set: usize,
+    kept: &[u16],
     numbers: &[Option<usize>],
     rules: &mut Vec<Vec<u16>>,
     limit: &mut u64,
 ) -> Result<()>
+    requires near { set < 2 ^ 34 }
+    requires small { length kept.now < 65536 }
+    requires exact { AreNumbers kept.now numbers.now }
+    ensures added { OnOk result (lists rules.new.items ≡ lists rules.old.items ++ kept_rules kept.now (ligature_rules gsub.now set (the_word gsub.now set))) }
+    ensures spends { limit.new ≤ limit.old }
+    ensures why { IfErr result (λ e. (e ≡ errors.Memory) ⊎ IsUsedUp limit.new e) }
 {
     let count = word(gsub, set);
     for k in 0..count {
         pay(limit)?;
         let ligature = set + word(gsub, set + 2 + k * 2);
-        add_ligature(alloc, gsub, ligature, numbers, rules, limit)?;
+        add_ligature(alloc, gsub, ligature, kept, numbers, rules, limit)?;
     }
     Ok(())
 }
@@ -149,15 +205,25 @@ fn add_covered(
     subtable: usize,
     i: usize,
     glyph: usize,
+    kept: &[u16],
     numbers: &[Option<usize>],
     rules: &mut Vec<Vec<u16>>,
     limit: &mut u64,
 ) -> Result<bool>
+    requires near { subtable < 2 ^ 33 }
+    requires few { i < 2 ^ 17 }
+    requires glyph { glyph < 65536 }
+    requires small { length kept.now < 65536 }
+    requires exact { AreNumbers kept.now numbers.now }
+    ensures added { OnOk result (lists rules.new.items ≡ lists rules.old.items ++ kept_rules kept.now (or_none (rules_by gsub.now kind subtable i glyph))) }
+    ensures there { IfOk result (λ there. there ≡ is_some (rules_by gsub.now kind subtable i glyph)) }
+    ensures spends { limit.new ≤ limit.old }
+    ensures why { IfErr result (λ e. (e ≡ errors.Memory) ⊎ IsUsedUp limit.new e) }
 {
     if kind == 1 {
         return match single_of(gsub, subtable, i, glyph) {
             Some(result) => {
-                add_rule(alloc, numbers, &[result as u16], rules)?;
+                add_rule(alloc, kept, numbers, &[result as u16], rules)?;
                 Ok(true)
             }
             None => Ok(false),
@@ -166,9 +232,9 @@ fn add_covered(
     match set_at(gsub, subtable, i) {
         Some(set) => {
             if kind == 4 {
-                add_ligatures(alloc, gsub, set, numbers, rules, limit)?;
+                add_ligatures(alloc, gsub, set, kept, numbers, rules, limit)?;
             } else {
-                add_several(alloc, gsub, set, numbers, rules, limit)?;
+                add_several(alloc, gsub, set, kept, numbers, rules, limit)?;
             }
             Ok(true)
         }
@@ -184,18 +250,29 @@ fn add_part(
     kind: usize,
     j: usize,
     glyph: usize,
+    kept: &[u16],
     numbers: &[Option<usize>],
     rules: &mut Vec<Vec<u16>>,
     limit: &mut u64,
 ) -> Result<bool>
+    requires near { lookup < 2 ^ 31 }
+    requires few { j < 65536 }
+    requires glyph { glyph < 65536 }
+    requires small { length kept.now < 65536 }
+    requires exact { AreNumbers kept.now numbers.now }
+    ensures added { OnOk result (lists rules.new.items ≡ lists rules.old.items ++ kept_rules kept.now (or_none (rules_in gsub.now kind (the_part gsub.now lookup kind j) glyph))) }
+    ensures there { IfOk result (λ there. there ≡ is_some (rules_in gsub.now kind (the_part gsub.now lookup kind j) glyph)) }
+    ensures spends { limit.new ≤ limit.old }
+    ensures why { IfErr result (λ e. (e ≡ errors.Memory) ⊎ IsUsedUp limit.new e) }
 {
     match part_at(gsub, lookup, kind, j) {
         Some(subtable) => {
             let coverage = subtable + word(gsub, subtable + 2);
             match coverage_index(gsub, coverage, glyph, limit)? {
                 Some(i) => {
-                    let found =
-                        add_covered(alloc, gsub, kind, subtable, i, glyph, numbers, rules, limit)?;
+                    let found = add_covered(
+                        alloc, gsub, kind, subtable, i, glyph, kept, numbers, rules, limit,
+                    )?;
                     Ok(found)
                 }
                 None => Ok(false),
@@ -212,15 +289,25 @@ fn first_rules(
     lookup: usize,
     kind: usize,
     glyph: usize,
+    kept: &[u16],
     numbers: &[Option<usize>],
     limit: &mut u64,
 ) -> Result<Vec<Vec<u16>>>
+    requires near { lookup < 2 ^ 31 }
+    requires glyph { glyph < 65536 }
+    requires small { length kept.now < 65536 }
+    requires exact { AreNumbers kept.now numbers.now }
+    ensures exact { IfOk result (λ rules. lists rules.items ≡ kept_rules kept.now (the_first gsub.now lookup kind glyph)) }
+    ensures spends { limit.new ≤ limit.old }
+    ensures why { IfErr result (λ e. (e ≡ errors.Memory) ⊎ IsUsedUp limit.new e) }
 {
     let mut rules = Vec::new(alloc);
     let count = word(gsub, lookup + 4);
     for j in 0..count {
         pay(limit)?;
-        if add_part(alloc, gsub, lookup, kind, j, glyph, numbers, &mut rules, limit)? {
+        if add_part(
+            alloc, gsub, lookup, kind, j, glyph, kept, numbers, &mut rules, limit,
+        )? {
             return Ok(rules);
         }
     }
@@ -234,15 +321,25 @@ fn all_rules(
     lookup: usize,
     kind: usize,
     glyph: usize,
+    kept: &[u16],
     numbers: &[Option<usize>],
     limit: &mut u64,
 ) -> Result<Vec<Vec<u16>>>
+    requires near { lookup < 2 ^ 31 }
+    requires glyph { glyph < 65536 }
+    requires small { length kept.now < 65536 }
+    requires exact { AreNumbers kept.now numbers.now }
+    ensures exact { IfOk result (λ rules. lists rules.items ≡ kept_rules kept.now (the_all gsub.now lookup kind glyph (the_word gsub.now (lookup + 4)))) }
+    ensures spends { limit.new ≤ limit.old }
+    ensures why { IfErr result (λ e. (e ≡ errors.Memory) ⊎ IsUsedUp limit.new e) }
 {
     let mut rules = Vec::new(alloc);
     let count = word(gsub, lookup + 4);
     for j in 0..count {
         pay(limit)?;
-        add_part(alloc, gsub, lookup, kind, j, glyph, numbers, &mut rules, limit)?;
+        add_part(
+            alloc, gsub, lookup, kind, j, glyph, kept, numbers, &mut rules, limit,
+        )?;
     }
     Ok(rules)
 }
@@ -254,15 +351,23 @@ pub(crate) fn new_rules(
     lookup: usize,
     kind: usize,
     glyph: usize,
+    kept: &[u16],
     numbers: &[Option<usize>],
     limit: &mut u64,
 ) -> Result<Vec<Vec<u16>>>
+    requires near { lookup < 2 ^ 31 }
+    requires glyph { glyph < 65536 }
+    requires small { length kept.now < 65536 }
+    requires exact { AreNumbers kept.now numbers.now }
+    ensures exact { IfOk result (λ rules. lists rules.items ≡ kept_rules kept.now (rules_of_type gsub.now lookup kind glyph)) }
+    ensures spends { limit.new ≤ limit.old }
+    ensures why { IfErr result (λ e. (e ≡ errors.Memory) ⊎ IsUsedUp limit.new e) }
 {
     if kind == 4 {
-        let rules = all_rules(alloc, gsub, lookup, kind, glyph, numbers, limit)?;
+        let rules = all_rules(alloc, gsub, lookup, kind, glyph, kept, numbers, limit)?;
         Ok(rules)
     } else {
-        let rules = first_rules(alloc, gsub, lookup, kind, glyph, numbers, limit)?;
+        let rules = first_rules(alloc, gsub, lookup, kind, glyph, kept, numbers, limit)?;
         Ok(rules)
     }
 }
