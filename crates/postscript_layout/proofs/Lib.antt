@@ -5,3 +5,4 @@ pub mod ClosureRows
 pub mod Listing
 pub mod Rounds
 pub mod Stays
+pub mod Named
