@@ -6,3 +6,4 @@ pub mod Listing
 pub mod Rounds
 pub mod Stays
 pub mod Named
+pub mod FeatureRows
