@@ -1,12 +1,13 @@
 -- The substitutions of a glyph, by the type and the format of the subtable.
-use Rattle.std.proofs.Common.{◌≡◌, refl, sym, subst, inl, inr, ℕ, ◌+◌, ◌-◌, ◌*◌, ◌%◌, ◌<◌, ◌≤◌, List, [], ◌∷◌, arith}
-use Rattle.std.specs.Prelude.{◌⊎◌}
+use Rattle.std.proofs.Common.{◌≡◌, refl, sym, subst, inl, inr, ℕ, ◌+◌, ◌-◌, ◌*◌, ◌%◌, ◌<◌, ◌≤◌, List, [], ◌∷◌, length, ◌∙◌, arith}
+use Rattle.std.specs.Prelude.{◌⊎◌, slice_index}
 use Rattle.std.specs.List.{All}
-use Rattle.std.proofs.lemmas.List.Elements.{All-head}
+use Rattle.std.proofs.lemmas.Grind.{get_or_default_zero}
+use Rattle.std.proofs.lemmas.List.Elements.{All-head, Contains-get_or}
 use Rattle.postscript_layout.specs.Closure.{Rules}
 use Rattle.postscript_layout.specs.Numbers.{word, words}
 use Rattle.postscript_layout.specs.Steps.{Below, Follows, IsHeld, Makes, in_range, joins}
-use Rattle.postscript_layout.specs.Substitutions.{BySubtable, Covers, by_list, by_range, SubstitutesGlyph, by_delta, by_glyph, by_several, by_ligature, in_reverse, coverage_of, part_of, reverse_offset}
+use Rattle.postscript_layout.specs.Substitutions.{ByIndex, ByLookup, BySubtable, Substitutes, Covers, by_list, by_range, SubstitutesGlyph, by_delta, by_glyph, by_several, by_ligature, in_reverse, coverage_of, part_of, reverse_offset}
 use Rattle.postscript_layout.specs.declared.glyph_set.GlyphSet.{GlyphSet}
 use Rattle.postscript_layout.proofs.Following.{follows-as, follows-none, follows-unmade}
 
@@ -280,3 +281,26 @@ covered-ranges gsub type subtable a b form x =
               (by_range r (word gsub at + n) form less (omega arith) (omega (arith, below))),
           is.2,
         )
+
+-- the rules of the chosen lookups, one lookup after the other
+pub follows-chosen : (gsub lookups : List ℕ) (count : ℕ) (a b : GlyphSet) → count ≡ length lookups →
+    Follows (Below (λ k. ByIndex gsub (slice_index lookups k)) count) a b → Follows (Substitutes gsub lookups) a b
+follows-chosen gsub lookups count a b all f = follows-as (Below (λ k. ByIndex gsub (slice_index lookups k)) count) (Substitutes gsub lookups) a b f to from
+  where
+    to : (ins outs : List ℕ) → Substitutes gsub lookups ins outs → Below (λ k. ByIndex gsub (slice_index lookups k)) count ins outs
+    to ins outs is =
+        let k = is.1.0 in
+        let less : k < length lookups = is.1.1 in
+        let same : is.0 ≡ slice_index lookups k = sym is.1.2 ∙ get_or_default_zero lookups k is.0 less in
+        (k, omega (arith, less, all), subst (λ (i : ℕ). ByIndex gsub i ins outs) same is.2)
+
+    from : (ins outs : List ℕ) → Below (λ k. ByIndex gsub (slice_index lookups k)) count ins outs → Substitutes gsub lookups ins outs
+    from ins outs is =
+        let less = is.1 in
+        (slice_index lookups is.0, Contains-get_or lookups is.0 0 (omega (arith, less, all)), is.2)
+
+-- the rules of the lookup with an index in the lookup list
+pub follows-index : (gsub : List ℕ) (i : ℕ) (a b : GlyphSet) → i < word gsub (word gsub 8) →
+    Follows (ByLookup gsub (part_of gsub (word gsub 8) (word gsub 8 + 2) i)) a b → Follows (ByIndex gsub i) a b
+follows-index gsub i a b less f =
+    follows-as (ByLookup gsub (part_of gsub (word gsub 8) (word gsub 8 + 2) i)) (ByIndex gsub i) a b f (λ ins outs is. is.1) (λ ins outs is. (less, is))

@@ -5,3 +5,5 @@ pub mod ClosureRows
 pub mod Listing
 pub mod Rounds
 pub mod Stays
+pub mod Named
+pub mod FeatureRows

@@ -75,17 +75,17 @@ lists-unset marks n glyphs l off = record {
 }
 
 -- The set after some rounds.
-pub record Reaches (gsub : List ℕ) (old new : GlyphSet) : Type 0 where
+pub record Reaches (gsub lookups : List ℕ) (old new : GlyphSet) : Type 0 where
   pub grows : (glyph : ℕ) → IsHeld old glyph → IsHeld new glyph
-  pub least : (other : List ℕ) → IsClosedBy (Substitutes gsub) (Contains other) → ((glyph : ℕ) → IsHeld old glyph → Contains other glyph) →
+  pub least : (other : List ℕ) → IsClosedBy (Substitutes gsub lookups) (Contains other) → ((glyph : ℕ) → IsHeld old glyph → Contains other glyph) →
       (glyph : ℕ) → IsHeld new glyph → Contains other glyph
 
-pub reaches-none : (gsub : List ℕ) (a : GlyphSet) → Reaches gsub a a
-reaches-none gsub a = record { grows = λ glyph h. h; least = λ other closed has glyph h. has glyph h }
+pub reaches-none : (gsub lookups : List ℕ) (a : GlyphSet) → Reaches gsub lookups a a
+reaches-none gsub lookups a = record { grows = λ glyph h. h; least = λ other closed has glyph h. has glyph h }
 
-pub reaches-more : (gsub : List ℕ) (a b c d : GlyphSet) → Reaches gsub a b → c.marks.items ≡ b.marks.items → Follows (Substitutes gsub) c d →
-    Reaches gsub a d
-reaches-more gsub a b c d r same f = record {
+pub reaches-more : (gsub lookups : List ℕ) (a b c d : GlyphSet) → Reaches gsub lookups a b → c.marks.items ≡ b.marks.items → Follows (Substitutes gsub lookups) c d →
+    Reaches gsub lookups a d
+reaches-more gsub lookups a b c d r same f = record {
   grows = λ glyph h. f.grows glyph (is glyph (r.grows glyph h));
   least = λ other closed has glyph h. f.least other closed (λ g k. r.least other closed has g (was g k)) glyph h;
 }
@@ -97,8 +97,8 @@ reaches-more gsub a b c d r same f = record {
     was glyph h = subst (λ (marks : List Bool). get_or marks glyph false ≡ true) same h
 
 -- a round that adds no glyph
-pub settles : (gsub : List ℕ) (a b c : GlyphSet) → Reaches gsub a c → Follows (Substitutes gsub) b c → c.grown ≡ false → IsSettled gsub a c
-settles gsub a b c r f off = record {
+pub settles : (gsub lookups : List ℕ) (a b c : GlyphSet) → Reaches gsub lookups a c → Follows (Substitutes gsub lookups) b c → c.grown ≡ false → IsSettled gsub lookups a c
+settles gsub lookups a b c r f off = record {
   grows = r.grows;
   closed = λ ins outs is h. f.done ins outs is (All-weaker (IsHeld c) (IsHeld b) back ins h);
   least = r.least;
@@ -107,9 +107,9 @@ settles gsub a b c r f off = record {
     back : (glyph : ℕ) → IsHeld c glyph → IsHeld b glyph
     back glyph h = subst (λ (marks : List Bool). get_or marks glyph false ≡ true) ((f.same off).1) h
 
-pub closes : (gsub given glyphs : List ℕ) (none some all : GlyphSet) → ((glyph : ℕ) → IsHeld none glyph → ⊥) → HoldsMore none given some →
-    IsSettled gsub some all → AreMarked all.marks.items glyphs → IsClosure gsub given glyphs
-closes gsub given glyphs none some all empty more settled marked = record {
+pub closes : (gsub lookups given glyphs : List ℕ) (none some all : GlyphSet) → ((glyph : ℕ) → IsHeld none glyph → ⊥) → HoldsMore none given some →
+    IsSettled gsub lookups some all → AreMarked all.marks.items glyphs → IsClosure gsub lookups given glyphs
+closes gsub lookups given glyphs none some all empty more settled marked = record {
   holds = All-weaker (IsHeld some) (Contains glyphs) (λ glyph h. marked.0 glyph (settled.grows glyph h)) given more.there;
   closed = λ ins outs is h. All-weaker (IsHeld all) (Contains glyphs) marked.0 outs
       (settled.closed ins outs is (All-weaker (Contains glyphs) (IsHeld all) marked.1 ins h));

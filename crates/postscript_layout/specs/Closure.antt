@@ -1,4 +1,4 @@
--- The closure of glyphs over the GSUB table: all glyphs that its substitutions can make of them.
+-- The closure of glyphs over chosen lookups of the GSUB table: all glyphs that their substitutions can make of them.
 use Rattle.std.specs.Prelude.{ℕ, List}
 use Rattle.std.specs.List.{All, Contains}
 use Rattle.postscript_layout.specs.Substitutions.{Substitutes}
@@ -11,12 +11,12 @@ Rules = (ins outs : List ℕ) → Type 0
 abbrev pub IsClosedBy : Rules → (ℕ → Type 0) → Type 0
 IsClosedBy rules there = (ins outs : List ℕ) → rules ins outs → All there ins → All there outs
 
--- every substitution of glyphs of the list makes glyphs of the list
-abbrev pub IsClosed : (gsub : List ℕ) → List ℕ → Type 0
-IsClosed gsub glyphs = IsClosedBy (Substitutes gsub) (Contains glyphs)
+-- the chosen lookups substitute only glyphs of the list for glyphs of the list
+abbrev pub IsClosed : (gsub lookups : List ℕ) → List ℕ → Type 0
+IsClosed gsub lookups glyphs = IsClosedBy (Substitutes gsub lookups) (Contains glyphs)
 
 -- The list has the given glyphs and is closed, and every other closed list with the given glyphs has all of its glyphs.
-pub record IsClosure (gsub given glyphs : List ℕ) : Type 0 where
+pub record IsClosure (gsub lookups given glyphs : List ℕ) : Type 0 where
   pub holds : All (Contains glyphs) given
-  pub closed : IsClosed gsub glyphs
-  pub least : (other : List ℕ) → All (Contains other) given → IsClosed gsub other → All (Contains other) glyphs
+  pub closed : IsClosed gsub lookups glyphs
+  pub least : (other : List ℕ) → All (Contains other) given → IsClosed gsub lookups other → All (Contains other) glyphs

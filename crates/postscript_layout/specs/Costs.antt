@@ -1,5 +1,6 @@
--- The cost of a round over all lookups, in units of the limit. It does not depend on the glyphs of the set, so it is the most that a round pays.
-use Rattle.std.specs.Prelude.{ℕ, zero, suc, ◌+◌, ◌-◌, ◌*◌, ◌==◌, ◌≡◌, ◌<◌, List, nat_lt, if◌then◌else◌}
+-- The cost of a round over the chosen lookups, in units of the limit. It does not depend on the glyphs of the set, so it is the most that a round pays.
+use Rattle.std.specs.Prelude.{ℕ, zero, suc, ◌+◌, ◌-◌, ◌*◌, ◌==◌, ◌≡◌, ◌<◌, List, length, nat_lt, slice_index, if◌then◌else◌}
+use Rattle.postscript_layout.specs.Features.{feature_at, feature_count}
 use Rattle.postscript_layout.specs.Numbers.{word}
 use Rattle.postscript_layout.specs.Substitutions.{coverage_of, ligature_of, offset_of, part_of, set_of, type_of}
 use Rattle.postscript_layout.specs.declared.error.Error.{Error}
@@ -48,13 +49,21 @@ part_cost gsub type subtable = subtable_cost gsub (type_of gsub type subtable) (
 abbrev pub lookup_cost : List ℕ → (lookup : ℕ) → ℕ
 lookup_cost gsub lookup = total (λ j. 1 + part_cost gsub (word gsub lookup) (part_of gsub lookup (lookup + 6) j)) (word gsub (lookup + 4))
 
--- one unit for each lookup, and their costs
-abbrev pub lookups_cost : List ℕ → ℕ
-lookups_cost gsub = total (λ i. 1 + lookup_cost gsub (part_of gsub (word gsub 8) (word gsub 8 + 2) i)) (word gsub (word gsub 8))
+-- the lookup with an index in the lookup list
+abbrev pub index_cost : List ℕ → (i : ℕ) → ℕ
+index_cost gsub i = if nat_lt i (word gsub (word gsub 8)) then lookup_cost gsub (part_of gsub (word gsub 8) (word gsub 8 + 2) i) else 0
+
+-- one unit for each chosen lookup, and their costs
+abbrev pub lookups_cost : List ℕ → (lookups : List ℕ) → ℕ
+lookups_cost gsub lookups = total (λ k. 1 + index_cost gsub (slice_index lookups k)) (length lookups)
 
 -- one unit for the round, and the cost of the lookups
-abbrev pub round_cost : List ℕ → ℕ
-round_cost gsub = 1 + lookups_cost gsub
+abbrev pub round_cost : List ℕ → (lookups : List ℕ) → ℕ
+round_cost gsub lookups = 1 + lookups_cost gsub lookups
+
+-- the most that the search for the lookups of features costs: one unit for each feature, and one for each of its lookup indices
+abbrev pub features_cost : List ℕ → ℕ
+features_cost table = total (λ i. 1 + word table (feature_at table i + 2)) (feature_count table)
 
 -- nothing is left of a limit that was below a cost
 pub record IsShort (cost limit left : ℕ) (e : Error) : Type 0 where

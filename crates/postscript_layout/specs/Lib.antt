@@ -1,6 +1,7 @@
 pub mod Numbers
 pub mod Refusals
 pub mod Substitutions
+pub mod Features
 pub mod Closure
 pub mod Costs
 pub mod Steps

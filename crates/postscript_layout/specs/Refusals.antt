@@ -1,4 +1,4 @@
--- Why a closure is not computed.
+-- Why lookups or a closure are not computed.
 use Rattle.std.specs.Prelude.{◌≡◌, ℕ}
 use Rattle.postscript_layout.specs.declared.error.Error.{Error}
 use Rattle.postscript_layout.specs.declared.error.Error.TheVariants.{TooLong}

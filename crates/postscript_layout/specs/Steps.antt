@@ -25,6 +25,12 @@ pub record HoldsMore (old : GlyphSet) (added : List ℕ) (new : GlyphSet) : Type
   pub same : IsSame old new
   pub stays : Stays old new
 
+-- all numbers with a property are added to the set, and no others
+pub record Gathers (P : ℕ → Type 0) (old new : GlyphSet) : Type 0 where
+  pub grows : (n : ℕ) → IsHeld old n → IsHeld new n
+  pub there : (n : ℕ) → P n → IsHeld new n
+  pub only : (n : ℕ) → IsHeld new n → IsHeld old n ⊎ P n
+
 -- Each of these substitutions was applied to the glyphs of the set, and no other glyphs were added.
 pub record Follows (rules : Rules) (old new : GlyphSet) : Type 0 where
   pub grows : (glyph : ℕ) → IsHeld old glyph → IsHeld new glyph
@@ -52,10 +58,10 @@ in_range gsub type subtable range =
     Below (λ n. SubstitutesGlyph gsub type subtable (word gsub (range + 4) + n) (word gsub range + n)) (word gsub (range + 2) + 1 - word gsub range)
 
 -- The set has its old glyphs and is closed, and every closed list with its old glyphs has all of its glyphs.
-pub record IsSettled (gsub : List ℕ) (old new : GlyphSet) : Type 0 where
+pub record IsSettled (gsub lookups : List ℕ) (old new : GlyphSet) : Type 0 where
   pub grows : (glyph : ℕ) → IsHeld old glyph → IsHeld new glyph
-  pub closed : IsClosedBy (Substitutes gsub) (IsHeld new)
-  pub least : (other : List ℕ) → IsClosedBy (Substitutes gsub) (Contains other) → ((glyph : ℕ) → IsHeld old glyph → Contains other glyph) →
+  pub closed : IsClosedBy (Substitutes gsub lookups) (IsHeld new)
+  pub least : (other : List ℕ) → IsClosedBy (Substitutes gsub lookups) (Contains other) → ((glyph : ℕ) → IsHeld old glyph → Contains other glyph) →
       (glyph : ℕ) → IsHeld new glyph → Contains other glyph
 
 -- the list has the indices of the marks that are set, and no others

@@ -1,6 +1,7 @@
 -- The substitutions of the GSUB table, whatever features and contexts select them (OpenType 1.9, "GSUB - Glyph Substitution Table";
 -- ISO/IEC 14496-22, 6.3.4). Offsets are from the beginning of the table that contains them.
 use Rattle.std.specs.Prelude.{◌≡◌, ◌⊎◌, ℕ, ◌+◌, ◌-◌, ◌*◌, ◌%◌, ◌<◌, ◌≤◌, ◌==◌, List, [], ◌∷◌, if◌then◌else◌}
+use Rattle.std.specs.List.{Contains, range_with_len}
 use Rattle.postscript_layout.specs.Numbers.{word, long, words}
 
 -- A coverage table gives each of its glyphs an index: the index in a list (format 1), or in ranges, each with a first glyph, a last glyph
@@ -76,6 +77,14 @@ ByLookup gsub lookup ins outs = (j : ℕ) × (j < word gsub (lookup + 4))
     × BySubtable gsub (type_of gsub (word gsub lookup) (part_of gsub lookup (lookup + 6) j))
     (offset_of gsub (word gsub lookup) (part_of gsub lookup (lookup + 6) j)) ins outs
 
--- the substitutions of all lookups
-abbrev pub Substitutes : List ℕ → (ins outs : List ℕ) → Type 0
-Substitutes gsub ins outs = (i : ℕ) × (i < word gsub (word gsub 8)) × ByLookup gsub (part_of gsub (word gsub 8) (word gsub 8 + 2) i) ins outs
+-- the substitutions of the lookup with an index in the lookup list
+abbrev pub ByIndex : List ℕ → (i : ℕ) → (ins outs : List ℕ) → Type 0
+ByIndex gsub i ins outs = (i < word gsub (word gsub 8)) × ByLookup gsub (part_of gsub (word gsub 8) (word gsub 8 + 2) i) ins outs
+
+-- the substitutions of the chosen lookups, which are given by their indices
+abbrev pub Substitutes : List ℕ → (lookups : List ℕ) → (ins outs : List ℕ) → Type 0
+Substitutes gsub lookups ins outs = (i : ℕ) × Contains lookups i × ByIndex gsub i ins outs
+
+-- the indices of all lookups of a GSUB or GPOS table
+abbrev pub every_lookup : List ℕ → List ℕ
+every_lookup table = range_with_len 0 (word table (word table 8))

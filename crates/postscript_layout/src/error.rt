@@ -5,12 +5,12 @@ ghost use Rattle.postscript_layout.specs.declared.error.Error.TheVariants as err
 use std::alloc::{AllocError, AllocFailed};
 use std::fmt;
 
-/// The reason why a closure is not computed.
+/// The reason why lookups or a closure are not computed.
 #[derive(Clone, Copy, Debug, Drop, PartialEq, Eq)]
 pub enum Error {
     /// Memory could not be allocated.
     Memory,
-    /// The closure costs more than the limit.
+    /// The feature list, or the closure, costs more than the limit.
     TooLong,
 }
 
@@ -18,7 +18,7 @@ impl fmt::Display for Error {
     fn fmt<W: fmt::Write>(&self, f: &mut fmt::Formatter<W>) -> fmt::Result {
         f.write_str(match self {
             Error::Memory => "out of memory",
-            Error::TooLong => "the closure costs more than the limit",
+            Error::TooLong => "the table costs more than the limit",
         })
     }
 }

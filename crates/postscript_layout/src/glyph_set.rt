@@ -1,4 +1,4 @@
-//! Sets of glyphs.
+//! Sets of glyphs, or of lookups.
 ghost use Rattle.std.specs.Prelude.{◌≡◌, ℕ, ◌+◌, ◌^◌, ◌<◌, ◌≤◌, [], ◌∷◌, true, false, length, IfErr, IfOk, OnOk, slice_index_or};
 ghost use Rattle.std.specs.List.{All};
 ghost use Rattle.postscript_layout.specs.Costs.{IsShort};
@@ -8,7 +8,7 @@ use crate::error::{Error, Result};
 use crate::numbers::word;
 use std::alloc::Global;
 
-/// A set of glyphs: a mark for each glyph number, and whether a glyph was added in this round.
+/// A set of glyphs, or of lookups: a mark for each number, and whether a glyph was added in this round.
 #[derive(Drop)]
 pub(crate) struct GlyphSet {
     pub(crate) marks: Vec<bool>,

@@ -1,9 +1,9 @@
 //! Lookups, their subtables and the glyphs that they cover.
 ghost use Rattle.std.specs.Prelude.{◌≡◌, ℕ, ◌⊎◌, ◌+◌, ◌-◌, ◌*◌, ◌^◌, ◌<◌, OnOk, IfErr, ◌≤◌};
 ghost use Rattle.postscript_layout.specs.Numbers.{word as the_word};
-ghost use Rattle.postscript_layout.specs.Substitutions.{ByLookup, BySubtable, Substitutes, SubstitutesGlyph, coverage_of as the_coverage, part_of as the_part, offset_of, type_of};
+ghost use Rattle.postscript_layout.specs.Substitutions.{ByIndex, ByLookup, BySubtable, Substitutes, SubstitutesGlyph, coverage_of as the_coverage, part_of as the_part, offset_of, type_of};
 ghost use Rattle.postscript_layout.specs.Steps.{Below, Follows, in_range};
-ghost use Rattle.postscript_layout.specs.Costs.{IsShort, coverage_cost, glyph_cost, lookup_cost, lookups_cost, part_cost, range_cost, subtable_cost, total};
+ghost use Rattle.postscript_layout.specs.Costs.{IsShort, coverage_cost, glyph_cost, index_cost, lookup_cost, lookups_cost, part_cost, range_cost, subtable_cost, total};
 
 use crate::error::Result;
 use crate::glyph_set::{GlyphSet, pay};
@@ -191,19 +191,38 @@ fn follow_lookup(gsub: &[u8], lookup: usize, set: &mut GlyphSet, limit: &mut u64
     Ok(())
 }
 
-/// Applies all lookups in order.
-pub(crate) fn follow_all(gsub: &[u8], set: &mut GlyphSet, limit: &mut u64) -> Result<()>
-    ensures done { OnOk result (Follows (Substitutes gsub.now) set.old set.new) }
+/// Applies the lookup with an index in the lookup list, if there is one.
+fn follow_index(gsub: &[u8], i: usize, set: &mut GlyphSet, limit: &mut u64) -> Result<()>
+    requires few { i < 65536 }
+    ensures done { OnOk result (Follows (ByIndex gsub.now i) set.old set.new) }
     ensures spends { limit.new ≤ limit.old }
-    ensures within { OnOk result (limit.old ≤ limit.new + (lookups_cost gsub.now)) }
-    ensures why { IfErr result (λ e. IsShort (lookups_cost gsub.now) limit.old limit.new e) }
+    ensures within { OnOk result (limit.old ≤ limit.new + (index_cost gsub.now i)) }
+    ensures why { IfErr result (λ e. IsShort (index_cost gsub.now i) limit.old limit.new e) }
 {
     let list = word(gsub, 8);
-    let count = word(gsub, list);
-    for i in 0..count {
+    if i >= word(gsub, list) {
+        return Ok(());
+    }
+    let lookup = part_of(gsub, list, list + 2, i);
+    follow_lookup(gsub, lookup, set, limit)?;
+    Ok(())
+}
+
+/// Applies the chosen lookups in order.
+pub(crate) fn follow_each(
+    gsub: &[u8],
+    lookups: &[u16],
+    set: &mut GlyphSet,
+    limit: &mut u64,
+) -> Result<()>
+    ensures done { OnOk result (Follows (Substitutes gsub.now lookups.now) set.old set.new) }
+    ensures spends { limit.new ≤ limit.old }
+    ensures within { OnOk result (limit.old ≤ limit.new + (lookups_cost gsub.now lookups.now)) }
+    ensures why { IfErr result (λ e. IsShort (lookups_cost gsub.now lookups.now) limit.old limit.new e) }
+{
+    for k in 0..lookups.len() {
         pay(limit)?;
-        let lookup = part_of(gsub, list, list + 2, i);
-        follow_lookup(gsub, lookup, set, limit)?;
+        follow_index(gsub, lookups[k] as usize, set, limit)?;
     }
     Ok(())
 }

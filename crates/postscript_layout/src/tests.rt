@@ -1,5 +1,5 @@
-//! Closures that are computed by hand and by the subsetter of fontTools 4.38.
-use crate::{Error, closure};
+//! Closures and lookups that are computed by hand and by the subsetter of fontTools 4.38.
+use crate::{Error, all_lookups, closure, closure_over, feature_lookups};
 use std::alloc::{AllocError, Global};
 use std::process::Abort;
 
@@ -119,11 +119,7 @@ const ROWS: &[Row] = &[
 /// Returns a `GSUB` table with a lookup list at offset 10, and without scripts and features.
 fn table(alloc: Global, lookups: &[u16]) -> Result<Vec<u8>, AllocError> {
     let mut bytes = Vec::from_array(alloc, [0, 1, 0, 0, 0, 0, 0, 0, 0, 10])?;
-    for word in lookups {
-        for byte in &word.to_be_bytes() {
-            bytes.push(*byte)?;
-        }
-    }
+    bytes.extend_from_slice(&bytes_of(alloc, lookups)?)?;
     Ok(bytes)
 }
 
@@ -152,4 +148,94 @@ fn limits(rt: HostRuntime) {
         }
         assert_eq!(rt; limit, left, "{given}");
     }
+}
+
+/// A table with two lookups: lookup 0 makes 9 of 1, and lookup 1 makes 10 of 9.
+const CHAIN: &[u16] = &[
+    2, 6, 26, 1, 0, 1, 8, 1, 6, 8, 1, 1, 1, 1, 0, 1, 8, 1, 6, 1, 1, 1, 9,
+];
+
+/// Chosen lookups of `CHAIN`, and the closure of glyph 1 over them.
+const CHOSEN: &[(&[u16], &[u16])] = &[
+    (&[], &[1]),
+    (&[0], &[1, 9]),
+    (&[1], &[1]),
+    (&[1, 0], &[1, 9, 10]),
+    (&[0, 1, 2, 65535], &[1, 9, 10]),
+];
+
+#[test]
+fn closures_over_chosen_lookups(rt: HostRuntime) {
+    let gsub = table(rt.alloc(), CHAIN).expect(&rt, "memory");
+    for (lookups, closed) in CHOSEN {
+        let mut limit = 100;
+        let found = closure_over(rt.alloc(), &gsub, lookups, &[1], &mut limit).expect(
+            &rt, "closed",
+        );
+        assert_eq!(rt; found.as_slice(), *closed, "{lookups:?}");
+    }
+}
+
+/// A feature list at offset 10, with `liga` for lookups 4 and 1, `smcp` for lookup 2 and `liga` for lookups 1 and 7, and
+/// a lookup list with 3 lookups.
+const FEATURES: &[u16] = &[
+    1, 0, 0, 10, 52, 3, 0x6c69, 0x6761, 20, 0x736d, 0x6370, 28, 0x6c69, 0x6761, 34, 0, 2, 4, 1, 0,
+    1, 2, 0, 2, 1, 7, 3, 0, 0, 0,
+];
+
+/// The tags `liga`, `smcp` and `kern`.
+const LIGA: u32 = 0x6c696761;
+
+const SMCP: u32 = 0x736d6370;
+
+const KERN: u32 = 0x6b65726e;
+
+/// Tags, and the lookups that `FEATURES` names for them, as fontTools 4.38 reads it.
+const NAMED: &[(&[u32], &[u16])] = &[
+    (&[], &[]),
+    (&[KERN], &[]),
+    (&[SMCP], &[2]),
+    (&[LIGA], &[1, 4, 7]),
+    (&[KERN, SMCP, LIGA], &[1, 2, 4, 7]),
+];
+
+/// Returns numbers of two bytes as bytes.
+fn bytes_of(alloc: Global, words: &[u16]) -> Result<Vec<u8>, AllocError> {
+    let mut bytes = Vec::new(alloc);
+    for word in words {
+        for byte in &word.to_be_bytes() {
+            bytes.push(*byte)?;
+        }
+    }
+    Ok(bytes)
+}
+
+#[test]
+fn lookups_of_features(rt: HostRuntime) {
+    let table = bytes_of(rt.alloc(), FEATURES).expect(&rt, "memory");
+    for (tags, lookups) in NAMED {
+        let mut limit = 8;
+        let found = feature_lookups(rt.alloc(), &table, tags, &mut limit).expect(&rt, "found");
+        assert_eq!(rt; found.as_slice(), *lookups, "{tags:?}");
+    }
+    let all = all_lookups(rt.alloc(), &table).expect(&rt, "memory");
+    assert_eq!(rt; all.as_slice(), [0, 1, 2].as_slice());
+}
+
+/// Three features cost three units, and `liga` four more for its lookup indices.
+#[test]
+fn limits_of_features(rt: HostRuntime) {
+    let table = bytes_of(rt.alloc(), FEATURES).expect(&rt, "memory");
+    let mut limit = 7;
+    assert_eq!(rt;
+        feature_lookups(rt.alloc(), &table, &[LIGA], &mut limit).is_ok(),
+        true
+    );
+    assert_eq!(rt; limit, 0);
+    limit = 6;
+    assert_eq!(rt;
+        feature_lookups(rt.alloc(), &table, &[LIGA], &mut limit).is_ok(),
+        false
+    );
+    assert_eq!(rt; limit, 0);
 }
