@@ -125,9 +125,8 @@ slice-held text bytes at h = ap (λ xs. take (length text) (drop at xs)) h.is
 length-slice : (xs : List ℕ) (a b : ℕ) → a ≤ b → b ≤ length xs → length (slice_range xs a b) ≡ b - a
 length-slice xs a b less within = length-take-le (b - a) (drop a xs) (let d = length-drop a xs in omega (arith, d, within, less))
 
-module _ (old kept new offsets bytes : List ℕ) (end : ℕ) (lists : ListsEnd old end) (small : end < 65536) (within : end ≤ length old)
-    (is : new ≡ front_text old end ++ list_text offsets bytes)
-    (has : HasLookups old kept (lookups_of old) offsets bytes) (few : length offsets ≤ 32766) (fit : AreOffsets (2 + length offsets * 2) offsets) where
+module _ (old new offsets bytes : List ℕ) (end : ℕ) (lists : ListsEnd old end) (small : end < 65536) (within : end ≤ length old)
+    (is : new ≡ front_text old end ++ list_text offsets bytes) (few : length offsets ≤ 32766) (fit : AreOffsets (2 + length offsets * 2) offsets) where
   header : 10 ≤ end
   header = lists.header
 
@@ -150,7 +149,7 @@ module _ (old kept new offsets bytes : List ℕ) (end : ℕ) (lists : ListsEnd o
   tables-held : Holds (slice_range old 10 end) new 10
   tables-held = holds-second (uint16 end) (slice_range old 10 end) 2 (length-uint16 end) end-held
 
-  list-at : word new 8 ≡ end
+  pub list-at : word new 8 ≡ end
   list-at = holds-word end small (holds-first (uint16 end) (slice_range old 10 end) end-held)
 
   first-at : word new 0 ≡ 1
@@ -171,7 +170,7 @@ module _ (old kept new offsets bytes : List ℕ) (end : ℕ) (lists : ListsEnd o
   list-held = subst (λ n. Holds (list_text offsets bytes) new n) length-front
       (subst (λ (xs : List ℕ). Holds (list_text offsets bytes) xs (length (front_text old end))) (sym is) (holds-last (front_text old end) (list_text offsets bytes)))
 
-  keeps-lists : KeepsLists old new
+  pub keeps-lists : KeepsLists old new
   keeps-lists = record {
     version = (first-at, holds-word 0 (omega arith) (holds-first (uint16 0) _ after-version));
     offsets = ap (λ n. take n (drop 4 new)) (sym length-four) ∙ slice-held (slice_range old 4 8) new 4 (holds-first (slice_range old 4 8) _ four-held);
@@ -181,7 +180,7 @@ module _ (old kept new offsets bytes : List ℕ) (end : ℕ) (lists : ListsEnd o
         ∙ ap (λ n. slice_range old 10 n) (sym list-at);
   }
 
-  many-read : word new end ≡ length offsets
+  pub many-read : word new end ≡ length offsets
   unfolding list_text
   many-read = holds-word (length offsets) (omega (arith, few)) (holds-first (uint16 (length offsets)) _ list-held)
 
@@ -189,24 +188,28 @@ module _ (old kept new offsets bytes : List ℕ) (end : ℕ) (lists : ListsEnd o
   unfolding list_text
   rest-held = holds-second (uint16 (length offsets)) _ 2 (length-uint16 (length offsets)) list-held
 
-  lookups-held : Holds bytes new (end + 2 + length offsets * 2)
+  pub lookups-held : Holds bytes new (end + 2 + length offsets * 2)
   lookups-held = holds-second (offsets_text (2 + length offsets * 2) offsets) bytes (length offsets * 2) (length-offsets (2 + length offsets * 2) offsets) rest-held
 
-  place-read : (i : ℕ) → i < lookups_of old → lookup_at new i ≡ end + 2 + length offsets * 2 + get_or offsets i 0
-  place-read i less = (let many = has.many in
-      let at = offsets-read new (end + 2) (2 + length offsets * 2) offsets i (omega (arith, less, many)) fit
+  pub place-read : (i : ℕ) → i < length offsets → lookup_at new i ≡ end + 2 + length offsets * 2 + get_or offsets i 0
+  place-read i less = (let at = offsets-read new (end + 2) (2 + length offsets * 2) offsets i less fit
       (holds-first (offsets_text (2 + length offsets * 2) offsets) bytes rest-held) in
       ap (λ n. n + word new (n + 2 + i * 2)) list-at ∙ ap (λ n. end + n) at ∙ omega arith)
 
-  lookup-held : (i : ℕ) → i < lookups_of old → HasLookup (flag_of old i % 16) (kept_pair old kept (lookup_at old i)) new (lookup_at new i)
-  lookup-held i less = subst (HasLookup (flag_of old i % 16) (kept_pair old kept (lookup_at old i)) new) (sym (place-read i less))
+  pub count-held : lookups_of new ≡ length offsets
+  count-held = ap (word new) list-at ∙ many-read
+
+  lookup-held : (kept : List ℕ) → HasLookups old kept (lookups_of old) offsets bytes → (i : ℕ) → i < lookups_of old →
+      HasLookup (flag_of old i % 16) (kept_pair old kept (lookup_at old i)) new (lookup_at new i)
+  lookup-held kept has i less = subst (HasLookup (flag_of old i % 16) (kept_pair old kept (lookup_at old i)) new)
+      (sym (place-read i (let many = has.many in omega (arith, less, many))))
       (lookup-in (flag_of old i % 16) (kept_pair old kept (lookup_at old i)) new bytes (end + 2 + length offsets * 2) (get_or offsets i 0) lookups-held
       (has.each i less))
 
-  pub keeps : KeepsKerning old kept new
-  keeps = record {
+  pub keeps : (kept : List ℕ) → HasLookups old kept (lookups_of old) offsets bytes → KeepsKerning old kept new
+  keeps kept has = record {
     lists = keeps-lists;
-    lookups = ap (word new) list-at ∙ many-read ∙ has.many;
-    flags = λ i less. flag-read (flag_of old i % 16) (kept_pair old kept (lookup_at old i)) new (lookup_at new i) (lookup-held i less);
-    pairs = λ i x y less. lookup-read (flag_of old i % 16) (kept_pair old kept (lookup_at old i)) new (lookup_at new i) (lookup-held i less) x y;
+    lookups = count-held ∙ has.many;
+    flags = λ i less. flag-read (flag_of old i % 16) (kept_pair old kept (lookup_at old i)) new (lookup_at new i) (lookup-held kept has i less);
+    pairs = λ i x y less. lookup-read (flag_of old i % 16) (kept_pair old kept (lookup_at old i)) new (lookup_at new i) (lookup-held kept has i less) x y;
   }

@@ -9,3 +9,9 @@ pub mod Collecting
 pub mod Kept
 pub mod Classed
 pub mod Ends
+pub mod Renumbered
+pub mod RuleRows
+pub mod RuleWriting
+pub mod RuleReading
+pub mod RuleCollecting
+pub mod RuleKept

@@ -31,10 +31,10 @@ pub data Searched {X : Type 0} (keys : List ℕ) (key : ℕ) (g : ℕ → X) : O
   missing : ((k : ℕ) → k < length keys → get_or keys k 0 ≡ key → ⊥) → Searched keys key g None
   present : (k : ℕ) → k < length keys → get_or keys k 0 ≡ key → Searched keys key g (Some (g k))
 
-same-there : {X : Type 0} (a b : ℕ) (x : X) → a ≡ b → (if a == b then Some x else None) ≡ Some x
+pub same-there : {X : Type 0} (a b : ℕ) (x : X) → a ≡ b → (if a == b then Some x else None) ≡ Some x
 same-there a b x same = ap (λ (t : Bool). if t then Some x else None) (eq-eqb a b same)
 
-there-same : {X : Type 0} (a b : ℕ) (x y : X) → (if a == b then Some x else None) ≡ Some y → (a ≡ b) × (x ≡ y)
+pub there-same : {X : Type 0} (a b : ℕ) (x y : X) → (if a == b then Some x else None) ≡ Some y → (a ≡ b) × (x ≡ y)
 there-same a b x y is = by (nat_eq a b) refl is
   where
     by : (t : Bool) → nat_eq a b ≡ t → (if t then Some x else None) ≡ Some y → (a ≡ b) × (x ≡ y)
@@ -299,7 +299,7 @@ head-read t s form m few h =
       ap (word t) (omega arith) ∙ holds-word m (omega (arith, few)) h8,
     )
 
-length-coverage : (glyphs : List ℕ) → length (coverage_text glyphs) ≡ 4 + length glyphs * 2
+pub length-coverage : (glyphs : List ℕ) → length (coverage_text glyphs) ≡ 4 + length glyphs * 2
 unfolding coverage_text
 length-coverage glyphs =
     let a = length-append (uint16 1) (uint16 (length glyphs) ++ array_text glyphs) in

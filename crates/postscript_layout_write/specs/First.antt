@@ -1,5 +1,5 @@
--- The first of several values that may be missing.
-use Rattle.std.specs.Prelude.{ℕ, zero, suc, Option, None, Some}
+-- The first of several values that may be missing, and lists one after the other.
+use Rattle.std.specs.Prelude.{ℕ, zero, suc, List, [], ◌++◌, Option, None, Some}
 
 -- the first value, or the second one if there is no first
 abbrev pub or_else : {X : Type 0} → Option X → Option X → Option X
@@ -10,3 +10,8 @@ or_else (Some x) y = Some x
 abbrev pub first_some : {X : Type 0} → (ℕ → Option X) → (count : ℕ) → Option X
 first_some f zero = None
 first_some f (suc n) = or_else (first_some f n) (f n)
+
+-- the lists 0 to count - 1, one after the other
+abbrev pub all_below : {X : Type 0} → (ℕ → List X) → (count : ℕ) → List X
+all_below f zero = []
+all_below f (suc n) = all_below f n ++ f n

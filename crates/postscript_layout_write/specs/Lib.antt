@@ -12,3 +12,9 @@ pub mod Holds
 pub mod Kerning
 pub mod Lookups
 pub mod ScriptLists
+pub mod Rules
+pub mod Renumbering
+pub mod Substituting
+pub mod RuleSets
+pub mod RuleLookups
+pub mod Leaving

@@ -1,5 +1,5 @@
 //! Writes OpenType layout tables for the glyphs of a subset, which have new numbers (OpenType 1.9; ISO/IEC 14496-22, 6):
-//! a `GPOS` table with pair adjustments (kerning), and a `GDEF` table with glyph classes.
+//! a `GPOS` table with pair adjustments (kerning), a `GDEF` table with glyph classes, and a `GSUB` table with substitutions.
 //!
 //! It is proved that each lookup of the new `GPOS` table adjusts each pair of kept glyphs exactly as the lookup of the
 //! same index of the old table, and no other pair (`KeepsKerning` in specs/Kerning.antt). The first subtable that applies
@@ -7,11 +7,18 @@
 //! have the same bytes at the same offsets, with all tables that they name (specs/ScriptLists.antt). Each kept glyph has
 //! its class (specs/Classes.antt).
 //!
+//! Each lookup of the new `GSUB` table has the rules of the old one whose glyphs are all kept, under new numbers and in the
+//! same order (`KeepsSubstitutions` in specs/Substituting.antt). A rule is the result of a single substitution, a sequence,
+//! a set of alternates, or a ligature with its components (specs/Rules.antt). For ligatures all subtables count, else the
+//! first one that has an entry for the glyph. Its rule is dropped if a glyph is missing, and no other takes its place.
+//!
 //! What is left out:
 //!
 //! - Only pair adjustments are kept. Other lookups have no subtables, so the lookup indices of features stay valid.
-//! - A lookup with a flag above bit 3, which uses a set or a class of marks, keeps no pairs, since the new `GDEF` table
-//!   has neither.
+//! - Of `GSUB`, single, multiple, alternate and ligature substitutions are kept, also in extensions. Contexts and reverse
+//!   chaining (types 5, 6 and 8) are not, and lookups that are not chosen have no subtables.
+//! - A lookup with a flag above bit 3, which uses a set or a class of marks, keeps no pairs or rules, since the new `GDEF`
+//!   table has neither.
 //! - Device tables, variation indexes and feature variations are dropped: the new table has version 1.0.
 //! - Numbers past the end of the old table are 0. If a coverage table, a class definition or a set of pairs is not in
 //!   order, its first entry counts. Readers that search by halves may find another entry there.
@@ -21,13 +28,18 @@
 mod classes;
 mod entries;
 mod error;
+mod leaving;
 mod limit;
 mod lookups;
 mod numbers;
 mod pairs;
 mod positioning;
 mod ranges;
+mod renumbering;
+mod rule_sets;
+mod rules;
 mod script_lists;
+mod substituting;
 mod subtables;
 #[cfg(test)]
 mod tests;
@@ -35,4 +47,6 @@ mod values;
 
 pub use classes::glyph_classes;
 pub use error::{Error, Result};
+pub use leaving::left_out;
 pub use positioning::kerning;
+pub use substituting::substitutions;

@@ -170,7 +170,11 @@ fn put_list(
 
 /// Appends the header and the lists of a table up to an offset, as the offset of the lookup list.
 #[tactic(auto, unfolding(crate::specs::Text::front_text))]
-fn put_front(out: &mut Vec<u8>, gpos: &[u8], end: usize) -> std::result::Result<(), AllocError>
+pub(crate) fn put_front(
+    out: &mut Vec<u8>,
+    gpos: &[u8],
+    end: usize,
+) -> std::result::Result<(), AllocError>
     requires least { 10 ≤ end }
     requires small { end < 65536 }
     requires within { end ≤ length gpos.now }

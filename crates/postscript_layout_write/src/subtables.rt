@@ -159,7 +159,7 @@ impl Sets {
 
     /// Returns the offset of a set with a text. It is appended, unless one of the last sets has the same text.
     /// Sets that take more than 65,535 bytes are too large.
-    fn place(&mut self, text: &[u8]) -> Result<usize>
+    pub(crate) fn place(&mut self, text: &[u8]) -> Result<usize>
         ensures placed { IfOk result (λ offset. Places text.now self.old.bytes.items self.new.bytes.items offset) }
         ensures firsts { OnOk result (self.new.firsts.items ≡ self.old.firsts.items) }
         ensures offsets { OnOk result (self.new.offsets.items ≡ self.old.offsets.items) }
@@ -263,7 +263,7 @@ fn put_head(out: &mut Vec<u8>, form: Form, count: u16) -> std::result::Result<()
 
 /// Appends a coverage table with a list of glyphs.
 #[tactic(auto, unfolding(crate::specs::Text::coverage_text))]
-fn put_coverage(out: &mut Vec<u8>, glyphs: &[u16]) -> std::result::Result<(), AllocError>
+pub(crate) fn put_coverage(out: &mut Vec<u8>, glyphs: &[u16]) -> std::result::Result<(), AllocError>
     requires { length glyphs.now ≤ 16380 }
     ensures { OnOk result (out.new.items ≡ out.old.items ++ coverage_text glyphs.now) }
 {

@@ -1,5 +1,5 @@
 //! Tables whose pairs are computed by hand from the specification. All numbers are of two bytes.
-use crate::{Error, glyph_classes, kerning};
+use crate::{Error, glyph_classes, kerning, substitutions};
 use std::alloc::{AllocError, Global};
 use std::process::Abort;
 
@@ -88,6 +88,74 @@ const ROWS: &[Row] = &[
     },
 ];
 
+const RULES: &[Row] = &[
+    Row {
+        what: "a delta: 1 to 5, and not 2 to 6",
+        old: &[1, 4, 1, 0, 1, 8, 1, 6, 4, 1, 2, 1, 2],
+        new: &[1, 4, 1, 0, 1, 8, 2, 8, 1, 1, 1, 1, 0],
+    },
+    Row {
+        what: "a list: 1 to 6, and not 5 to 2",
+        old: &[1, 4, 1, 8, 1, 8, 2, 10, 2, 6, 2, 1, 2, 1, 5],
+        new: &[1, 4, 1, 8, 1, 8, 2, 8, 1, 2, 1, 1, 0],
+    },
+    Row {
+        what: "sequences: 1 to 5 6, 5 to nothing, and not 6 to 2",
+        old: &[
+            1, 4, 2, 0, 1, 8, 1, 12, 3, 22, 28, 30, 1, 3, 1, 5, 6, 2, 5, 6, 0, 1, 2,
+        ],
+        new: &[1, 4, 2, 0, 1, 8, 1, 10, 2, 18, 24, 1, 2, 0, 1, 2, 1, 2, 0],
+    },
+    Row {
+        what: "alternates: 5 to 1 or 6",
+        old: &[1, 4, 3, 0, 1, 8, 1, 8, 1, 14, 1, 1, 5, 2, 1, 6],
+        new: &[1, 4, 3, 0, 1, 8, 1, 8, 1, 14, 1, 1, 1, 2, 0, 2],
+    },
+    Row {
+        what: "ligatures: 1 5 to 6, 1 6 6 to 1, and not 1 2 to 5",
+        old: &[
+            1, 4, 4, 0, 1, 8, 1, 8, 1, 14, 1, 1, 1, 3, 8, 14, 20, 6, 2, 5, 5, 2, 2, 1, 3, 6, 6,
+        ],
+        new: &[
+            1, 4, 4, 0, 1, 8, 1, 8, 1, 14, 1, 1, 0, 2, 6, 12, 2, 2, 1, 0, 3, 2, 2,
+        ],
+    },
+    Row {
+        what: "an extension, with a coverage table of ranges: 5 6 to 1",
+        old: &[
+            1, 4, 7, 0, 1, 8, 1, 4, 0, 8, 1, 8, 1, 18, 2, 1, 5, 5, 0, 1, 4, 1, 2, 6,
+        ],
+        new: &[1, 4, 4, 0, 1, 8, 1, 8, 1, 14, 1, 1, 1, 1, 4, 0, 2, 2],
+    },
+    Row {
+        what: "the first subtable counts: 1 to 2, which is not kept, and not to 5",
+        old: &[
+            1, 4, 1, 0, 2, 10, 24, 2, 8, 1, 2, 1, 1, 1, 2, 8, 1, 5, 1, 1, 1,
+        ],
+        new: &[1, 4, 1, 0, 0],
+    },
+    Row {
+        what: "ligatures of both subtables: 1 5 to 6, then 1 6 to 5",
+        old: &[
+            1, 4, 4, 0, 2, 10, 34, 1, 8, 1, 14, 1, 1, 1, 1, 4, 6, 2, 5, 1, 8, 1, 14, 1, 1, 1, 1, 4,
+            5, 2, 6,
+        ],
+        new: &[
+            1, 4, 4, 0, 1, 8, 1, 8, 1, 14, 1, 1, 0, 2, 6, 12, 2, 2, 1, 1, 2, 2,
+        ],
+    },
+    Row {
+        what: "a set of marks: no rules",
+        old: &[1, 4, 1, 16, 1, 8, 2, 8, 1, 5, 1, 1, 1],
+        new: &[1, 4, 1, 0, 0],
+    },
+    Row {
+        what: "a context: no rules",
+        old: &[1, 4, 5, 8, 1, 8, 2, 8, 1, 5, 1, 1, 1],
+        new: &[1, 4, 1, 8, 0],
+    },
+];
+
 /// Appends numbers of two bytes.
 fn put(bytes: &mut Vec<u8>, words: &[u16]) -> Result<(), AllocError> {
     for word in words {
@@ -150,5 +218,34 @@ fn classes(rt: HostRuntime) {
     let new = table(rt.alloc(), &new, &[]).expect(&rt, "memory");
     let mut limit = 1000;
     let written = glyph_classes(rt.alloc(), &old, &[3, 4, 5, 6], &mut limit).expect(&rt, "classes");
+    assert_eq!(rt; written.as_slice(), new.as_slice());
+}
+
+#[test]
+fn rules(rt: HostRuntime) {
+    for row in RULES {
+        let old = table(rt.alloc(), HEAD, row.old).expect(&rt, "memory");
+        let new = table(rt.alloc(), HEAD, row.new).expect(&rt, "memory");
+        let mut limit = 1000;
+        let written = substitutions(rt.alloc(), &old, &[0], &[1, 5, 6], &mut limit).expect(
+            &rt, row.what,
+        );
+        assert_eq!(rt; written.as_slice(), new.as_slice(), "{}", row.what);
+    }
+}
+
+/// Of two lookups, the second one is chosen. A lookup that is not chosen keeps its type and flag.
+#[test]
+fn chosen(rt: HostRuntime) {
+    let lookups = [
+        2, 6, 34, 3, 8, 1, 8, 1, 8, 1, 14, 1, 1, 5, 2, 1, 6, 1, 0, 1, 8, 2, 8, 1, 5, 1, 1, 1,
+    ];
+    let left = [2, 6, 12, 3, 8, 0, 1, 0, 1, 8, 2, 8, 1, 1, 1, 1, 0];
+    let old = table(rt.alloc(), HEAD, &lookups).expect(&rt, "memory");
+    let new = table(rt.alloc(), HEAD, &left).expect(&rt, "memory");
+    let mut limit = 1000;
+    let written = substitutions(rt.alloc(), &old, &[1, 1, 9], &[1, 5, 6], &mut limit).expect(
+        &rt, "a table",
+    );
     assert_eq!(rt; written.as_slice(), new.as_slice());
 }

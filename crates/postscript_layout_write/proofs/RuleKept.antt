@@ -1,0 +1,125 @@
+-- Lookups of rules that were written are read as they were, and the whole table.
+use Rattle.std.proofs.Common.{◌≡◌, refl, sym, ap, subst, ◌∙◌, ℕ, ◌+◌, ◌*◌, ◌%◌, ◌≤◌, ◌<◌, ◌==◌, ◌&&◌, List, [], ◌++◌, length, get_or, arith, Bool, true, false}
+use Rattle.std.specs.Prelude.{Option, None, Some, nat_eq, if◌then◌else◌}
+use Rattle.std.proofs.lemmas.Bool.{eq-eqb, eqb-true}
+use Rattle.postscript_layout.specs.Numbers.{word, long}
+use Rattle.postscript_layout_write.specs.First.{first_some}
+use Rattle.postscript_layout_write.specs.Holds.{Holds}
+use Rattle.postscript_layout_write.specs.Pairs.{flag_of, lookup_at, lookups_of}
+use Rattle.postscript_layout_write.specs.RuleLookups.{HasRuleLookups, new_type}
+use Rattle.postscript_layout_write.specs.Rules.{all_rules, first_rules, or_none, part_at, rules_in, rules_of_type, type_at, type_of}
+use Rattle.postscript_layout_write.specs.RuleSets.{HasRuleLookup, has_none, has_one, rule_head_text}
+use Rattle.postscript_layout_write.specs.ScriptLists.{ListsEnd}
+use Rattle.postscript_layout_write.specs.Sets.{AreOffsets}
+use Rattle.postscript_layout_write.specs.Substituting.{KeepsSubstitutions, is_kept, new_rules}
+use Rattle.postscript_layout_write.specs.Text.{front_text, list_text, uint16}
+use Rattle.postscript_layout_write.proofs.Holding.{holds-first, holds-second, holds-word, length-uint16}
+use Rattle.postscript_layout_write.proofs.Kept.{count-held, keeps-lists, lookups-held, place-read}
+use Rattle.postscript_layout_write.proofs.RuleCollecting.{lookup-in}
+use Rattle.postscript_layout_write.proofs.RuleReading.{subtable-rules}
+
+-- the numbers of a lookup
+record IsHead (t : List ℕ) (l type flag count : ℕ) : Type 0 where
+  type-is : word t l ≡ type
+  flag-is : word t (l + 2) ≡ flag
+  count-is : word t (l + 4) ≡ count
+
+head-read : (t : List ℕ) (l type flag count : ℕ) → type < 65536 → flag < 65536 → count < 65536 → Holds (rule_head_text type flag count) t l → IsHead t l type flag count
+unfolding rule_head_text
+head-read t l type flag count a b c h =
+    let h2 = holds-second (uint16 type) (uint16 flag ++ uint16 count) 2 (length-uint16 type) h in
+    let h4 = holds-second (uint16 flag) (uint16 count) 2 (length-uint16 flag) h2 in
+    record {
+      type-is = holds-word type a (holds-first (uint16 type) _ h);
+      flag-is = holds-word flag b (holds-first (uint16 flag) (uint16 count) h2);
+      count-is = ap (word t) (omega arith) ∙ holds-word count c h4;
+    }
+
+length-rule-head : (type flag count : ℕ) → length (rule_head_text type flag count) ≡ 6
+unfolding rule_head_text uint16
+length-rule-head type flag count = refl
+
+-- what a lookup says
+record IsLookupRead (t : List ℕ) (l type flag : ℕ) (f : ℕ → List (List ℕ)) : Type 0 where
+  type-is : word t l ≡ type
+  flag-is : word t (l + 2) ≡ flag
+  rules-are : (x : ℕ) → rules_of_type t l type x ≡ f x
+
+no-rules : (t : List ℕ) (l type x : ℕ) → word t (l + 4) ≡ 0 → rules_of_type t l type x ≡ []
+no-rules t l type x none = by (type == 4)
+  where
+    by : (b : Bool) → (if b then all_rules t l type x (word t (l + 4)) else first_rules t l type x) ≡ []
+    by true = ap (λ n. all_rules t l type x n) none
+    by false = ap (λ n. or_none (first_some (λ j. rules_in t type (part_at t l type j) x) n)) none
+
+one-rules : (t : List ℕ) (l type x : ℕ) → word t (l + 4) ≡ 1 → rules_of_type t l type x ≡ or_none (rules_in t type (part_at t l type 0) x)
+one-rules t l type x one = by (type == 4)
+  where
+    by : (b : Bool) → (if b then all_rules t l type x (word t (l + 4)) else first_rules t l type x) ≡ or_none (rules_in t type (part_at t l type 0) x)
+    by true = ap (λ n. all_rules t l type x n) one
+    by false = ap (λ n. or_none (first_some (λ j. rules_in t type (part_at t l type j) x) n)) one
+
+part-read : (t : List ℕ) (l type : ℕ) → word t l ≡ type → word t (l + 6) ≡ 8 → part_at t l type 0 ≡ Some (l + 8)
+part-read t l type is at =
+    let part = l + word t (l + 6 + 0 * 2) in
+    let place : part ≡ l + 8 = ap (λ n. l + word t n) {x = l + 6 + 0 * 2} {y = l + 6} (omega arith) ∙ ap (λ n. l + n) at in
+    ap (λ (b : Bool). if b then Some part else (if (word t l == 7) && (word t (part + 2) == type) then Some (part + long t (part + 4)) else None)) (eq-eqb (word t l) type is)
+    ∙ ap (λ n. Some n) place
+
+lookup-read : (t : List ℕ) (l type flag : ℕ) (f : ℕ → List (List ℕ)) → HasRuleLookup type flag f t l → IsLookupRead t l type flag f
+lookup-read t l type flag f (has_none none a b h) =
+    let head = head-read t l type flag 0 a b (omega arith) h in
+    record {
+      type-is = head.type-is;
+      flag-is = head.flag-is;
+      rules-are = λ x. no-rules t l type x head.count-is ∙ sym (none x);
+    }
+lookup-read t l type flag f (has_one a b h s) =
+    let head = head-read t l type flag 1 a b (omega arith) (holds-first (rule_head_text type flag 1) (uint16 8) h) in
+    let at = holds-word 8 (omega arith) (holds-second (rule_head_text type flag 1) (uint16 8) 6 (length-rule-head type flag 1) h) in
+    record {
+      type-is = head.type-is;
+      flag-is = head.flag-is;
+      rules-are = λ x. one-rules t l type x head.count-is ∙ ap (λ (p : Option ℕ). or_none (rules_in t type p x)) (part-read t l type head.type-is at)
+          ∙ subtable-rules t (l + 8) type f s x;
+    }
+
+-- the type that is written is a type that is kept
+not-seven : (gsub : List ℕ) (lookup : ℕ) → nat_eq (new_type gsub lookup) 7 ≡ false
+not-seven gsub lookup = by (is_kept (type_at gsub lookup)) refl
+  where
+    seven : (b : Bool) → nat_eq (type_at gsub lookup) 7 ≡ b → is_kept (type_at gsub lookup) ≡ true → b ≡ false
+    seven true e k = (let same = eqb-true (type_at gsub lookup) 7 e in let never = sym (ap is_kept same) ∙ k in absurd (cc))
+    seven false e k = refl
+
+    by : (b : Bool) → is_kept (type_at gsub lookup) ≡ b → nat_eq (if b then type_at gsub lookup else 1) 7 ≡ false
+    by true k = seven (nat_eq (type_at gsub lookup) 7) refl k
+    by false k = refl
+
+module _ (old chosen kept new offsets bytes : List ℕ) (end : ℕ) (lists : ListsEnd old end) (small : end < 65536) (within : end ≤ length old)
+    (is : new ≡ front_text old end ++ list_text offsets bytes) (few : length offsets ≤ 32766) (fit : AreOffsets (2 + length offsets * 2) offsets)
+    (has : HasRuleLookups old chosen kept (lookups_of old) offsets bytes) where
+  each-read : (i : ℕ) → i < lookups_of old →
+      IsLookupRead new (lookup_at new i) (new_type old (lookup_at old i)) (flag_of old i % 16) (new_rules old chosen kept i)
+  each-read i less = lookup-read new (lookup_at new i) (new_type old (lookup_at old i)) (flag_of old i % 16) (new_rules old chosen kept i)
+      (subst (HasRuleLookup (new_type old (lookup_at old i)) (flag_of old i % 16) (new_rules old chosen kept i) new)
+      (sym (place-read old new offsets bytes end lists small within is few fit i (let many = has.many in omega (arith, less, many))))
+      (lookup-in (new_type old (lookup_at old i)) (flag_of old i % 16) (new_rules old chosen kept i) new bytes (end + 2 + length offsets * 2) (get_or offsets i 0)
+      (lookups-held old new offsets bytes end lists small within is few fit) (has.each i less)))
+
+  type-read : (i : ℕ) → i < lookups_of old → type_of new i ≡ new_type old (lookup_at old i)
+  type-read i less =
+      let l = lookup_at new i in
+      let t = (each-read i less).type-is in
+      ap (λ (b : Bool). if b then word new (l + word new (l + 6) + 2) else word new l)
+      (ap (λ n. nat_eq n 7) t ∙ not-seven old (lookup_at old i))
+      ∙ t
+
+  pub keeps-rules : KeepsSubstitutions old chosen kept new
+  keeps-rules = record {
+    lists = keeps-lists old new offsets bytes end lists small within is few fit;
+    lookups = count-held old new offsets bytes end lists small within is few fit ∙ has.many;
+    flags = λ i less. (each-read i less).flag-is;
+    types = λ i less k. type-read i less ∙ ap (λ (b : Bool). if b then type_of old i else 1) k;
+    rules = λ i x less. ap (λ n. rules_of_type new (lookup_at new i) n x) (type-read i less) ∙ (each-read i less).rules-are x;
+  }

@@ -1,0 +1,273 @@
+//! Writes a `GSUB` table.
+ghost use Rattle.std.specs.Prelude.{◌≡◌, ◌⊎◌, ◌%◌, ◌^◌, ◌<◌, ◌≤◌, ◌++◌, [], true, length, slice_index, IfErr, IfOk, OnOk, if◌then◌else◌};
+ghost use Rattle.postscript_layout_write.specs.Pairs.{lookups_of};
+ghost use Rattle.postscript_layout_write.specs.Refusals.{Fails, Refuses};
+ghost use Rattle.postscript_layout_write.specs.Renumbering.{AreNumbers, kept_rules};
+ghost use Rattle.postscript_layout_write.specs.RuleLookups.{HasRuleLookups, PutsRuleList, new_type as the_type};
+ghost use Rattle.postscript_layout_write.specs.RuleSets.{AreRuleSets, PutsRules, rule_head_text};
+ghost use Rattle.postscript_layout_write.specs.Rules.{rules_of_type, type_at};
+ghost use Rattle.postscript_layout_write.specs.Substituting.{KeepsSubstitutions, is_chosen as the_chosen, is_kept as the_kept, keeps as the_keeps, rules_at};
+ghost use Rattle.postscript_layout_write.specs.declared.error.Error.TheVariants as errors;
+
+use crate::error::{Error, Result};
+use crate::limit::pay;
+use crate::numbers::{put_uint16, word};
+use crate::positioning::put_front;
+use crate::renumbering::new_numbers;
+use crate::rule_sets::put_rules;
+use crate::rules::{new_rules, type_of};
+use crate::script_lists::lists_end;
+use crate::subtables::{Sets, put_offsets};
+use std::alloc::{AllocError, Global};
+
+/// Collects the rules of a lookup.
+fn sets_of(
+    alloc: Global,
+    gsub: &[u8],
+    lookup: usize,
+    kind: usize,
+    kept: &[u16],
+    numbers: &[Option<usize>],
+    limit: &mut u64,
+) -> Result<Sets>
+    requires near { lookup < 2 ^ 31 }
+    requires kind { kind ≡ type_at gsub.now lookup }
+    requires small { length kept.now < 65536 }
+    requires exact { AreNumbers kept.now numbers.now }
+    ensures exact { IfOk result (λ sets. AreRuleSets kind (rules_at gsub.now kept.now lookup) (length kept.now) sets.firsts.items sets.offsets.items sets.bytes.items) }
+    ensures spends { limit.new ≤ limit.old }
+    ensures why { IfErr result (λ e. Fails limit.new e) }
+{
+    let mut sets = Sets::new(alloc);
+    for k in 0..kept.len() {
+        pay(limit)?;
+        let rules = new_rules(
+            alloc,
+            gsub,
+            lookup,
+            kind,
+            kept[k] as usize,
+            kept,
+            numbers,
+            limit,
+        )?;
+        sets.add_rules(alloc, kind, k as u16, &rules)?;
+    }
+    Ok(sets)
+}
+
+/// Whether the type of a lookup is kept.
+pub(crate) fn is_kept(kind: usize) -> bool
+    ensures { result ≡ the_kept kind }
+{
+    0 < kind && kind < 5
+}
+
+/// Returns the type that is written for a lookup: its own, if that is kept, or else 1.
+fn new_type(gsub: &[u8], lookup: usize) -> usize
+    requires near { lookup < 2 ^ 31 }
+    ensures exact { result ≡ the_type gsub.now lookup }
+    ensures small { result < 65536 }
+{
+    let kind = type_of(gsub, lookup);
+    if is_kept(kind) { kind } else { 1 }
+}
+
+/// Whether a lookup is chosen.
+pub(crate) fn is_chosen(lookups: &[u16], i: usize) -> bool
+    ensures { result ≡ the_chosen lookups.now i }
+{
+    for lookup in lookups {
+        if *lookup as usize == i {
+            return true;
+        }
+    }
+    false
+}
+
+/// Whether a lookup keeps its rules: it is chosen, its type is kept, and it uses no classes or sets of marks.
+fn keeps(gsub: &[u8], lookup: usize, lookups: &[u16], i: usize) -> bool
+    requires near { lookup < 2 ^ 31 }
+    ensures { result ≡ the_keeps gsub.now lookups.now i lookup }
+{
+    is_kept(type_of(gsub, lookup)) && word(gsub, lookup + 2) < 16 && is_chosen(lookups, i)
+}
+
+/// Collects the rules of a lookup that keeps them.
+fn kept_sets(
+    alloc: Global,
+    gsub: &[u8],
+    lookup: usize,
+    lookups: &[u16],
+    i: usize,
+    kept: &[u16],
+    numbers: &[Option<usize>],
+    limit: &mut u64,
+) -> Result<Sets>
+    requires near { lookup < 2 ^ 31 }
+    requires small { length kept.now < 65536 }
+    requires exact { AreNumbers kept.now numbers.now }
+    ensures exact { IfOk result (λ sets. AreRuleSets (the_type gsub.now lookup) (λ x. if the_keeps gsub.now lookups.now i lookup then rules_at gsub.now kept.now lookup x else []) (length kept.now) sets.firsts.items sets.offsets.items sets.bytes.items) }
+    ensures spends { limit.new ≤ limit.old }
+    ensures why { IfErr result (λ e. Fails limit.new e) }
+{
+    if keeps(gsub, lookup, lookups, i) {
+        let kind = type_of(gsub, lookup);
+        let sets = sets_of(alloc, gsub, lookup, kind, kept, numbers, limit)?;
+        Ok(sets)
+    } else {
+        Ok(Sets::new(alloc))
+    }
+}
+
+/// Appends the header of a lookup.
+#[tactic(auto, unfolding(crate::specs::RuleSets::rule_head_text))]
+fn put_head(
+    out: &mut Vec<u8>,
+    kind: u16,
+    flag: u16,
+    count: u16,
+) -> std::result::Result<(), AllocError>
+    ensures text { OnOk result (out.new.items ≡ out.old.items ++ rule_head_text kind flag count) }
+    ensures kind { OnOk result (kind < 65536) }
+    ensures flag { OnOk result (flag < 65536) }
+{
+    put_uint16(out, kind)?;
+    put_uint16(out, flag)?;
+    put_uint16(out, count)
+}
+
+/// Appends a lookup with one subtable, or with none if there are no rules.
+fn put_lookup(out: &mut Vec<u8>, kind: u16, flag: u16, sets: &Sets) -> Result<()>
+    ensures done { OnOk result (PutsRules kind flag sets.now.firsts.items sets.now.offsets.items sets.now.bytes.items out.old.items out.new.items) }
+    ensures why { IfErr result (λ e. (e ≡ errors.Memory) ⊎ (e ≡ errors.TooLarge)) }
+{
+    if sets.firsts.is_empty() {
+        put_head(out, kind, flag, 0)?;
+        return Ok(());
+    }
+    put_head(out, kind, flag, 1)?;
+    put_uint16(out, 8)?;
+    put_rules(out, kind as usize, sets)?;
+    Ok(())
+}
+
+/// Appends the lookups of a table one after the other, and collects their offsets.
+fn put_each(
+    alloc: Global,
+    bytes: &mut Vec<u8>,
+    offsets: &mut Vec<usize>,
+    gsub: &[u8],
+    lookups: &[u16],
+    kept: &[u16],
+    numbers: &[Option<usize>],
+    limit: &mut u64,
+) -> Result<()>
+    requires bytes { length bytes.old.items ≡ 0 }
+    requires offsets { length offsets.old.items ≡ 0 }
+    requires small { length kept.now < 65536 }
+    requires exact { AreNumbers kept.now numbers.now }
+    ensures done { OnOk result (HasRuleLookups gsub.now lookups.now kept.now (lookups_of gsub.now) offsets.new.items bytes.new.items) }
+    ensures spends { limit.new ≤ limit.old }
+    ensures why { IfErr result (λ e. Fails limit.new e) }
+{
+    let list = word(gsub, 8);
+    let count = word(gsub, list);
+    for i in 0..count {
+        pay(limit)?;
+        let lookup = list + word(gsub, list + 2 + i * 2);
+        if bytes.len() > 65535 {
+            return Err(Error::TooLarge);
+        }
+        let sets = kept_sets(alloc, gsub, lookup, lookups, i, kept, numbers, limit)?;
+        offsets.push(bytes.len())?;
+        let kind = new_type(gsub, lookup);
+        let flag = word(gsub, lookup + 2) % 16;
+        put_lookup(bytes, kind as u16, flag as u16, &sets)?;
+    }
+    Ok(())
+}
+
+/// Appends a lookup list.
+#[tactic(auto, unfolding(crate::specs::Text::list_text))]
+fn put_list(
+    alloc: Global,
+    out: &mut Vec<u8>,
+    gsub: &[u8],
+    lookups: &[u16],
+    kept: &[u16],
+    limit: &mut u64,
+) -> Result<()>
+    requires small { length kept.now < 65536 }
+    ensures done { OnOk result (PutsRuleList gsub.now lookups.now kept.now out.old.items out.new.items) }
+    ensures spends { limit.new ≤ limit.old }
+    ensures why { IfErr result (λ e. Fails limit.new e) }
+{
+    let numbers = new_numbers(alloc, kept)?;
+    let mut bytes = Vec::new(alloc);
+    let mut offsets = Vec::new(alloc);
+    put_each(
+        alloc,
+        &mut bytes,
+        &mut offsets,
+        gsub,
+        lookups,
+        kept,
+        &numbers,
+        limit,
+    )?;
+    let count = offsets.len();
+    if count > 32766 {
+        return Err(Error::TooLarge);
+    }
+    put_uint16(out, count as u16)?;
+    put_offsets(out, 2 + count * 2, &offsets)?;
+    out.extend_from_slice(&bytes)?;
+    Ok(())
+}
+
+/// Returns a `GSUB` table with the substitutions of chosen lookups for the kept glyphs.
+///
+/// `kept` has the old numbers of the glyphs. The new number of a glyph is its first index there. `lookups` has the indices
+/// of the chosen lookups, in any order. The new table has version 1.0, the script list and the feature list of the old one,
+/// and as many lookups in the same order. A chosen lookup of type 1 to 4, also by extensions, keeps the rules whose glyphs
+/// are all kept: single, multiple, alternate and ligature substitutions. All other lookups have no subtables, and neither
+/// has a lookup with a flag above bit 3.
+///
+/// One unit of the limit is paid for each language system, script, feature and lookup, and for each kept glyph in each
+/// lookup that is kept. One more is paid for each subtable, covered glyph, range, ligature and glyph of a rule that is
+/// looked at.
+///
+/// # Errors
+///
+/// - `ListsTooLong`: the script list and the feature list, with the tables that they name, do not end within the table,
+///   or within its first 65,535 bytes.
+/// - `TooLarge`: an offset or a count would exceed 16 bits.
+/// - `TooLong`: the table costs more than the limit.
+/// - `Memory`: out of memory.
+pub fn substitutions(
+    alloc: Global,
+    gsub: &[u8],
+    lookups: &[u16],
+    kept: &[u16],
+    limit: &mut u64,
+) -> Result<Vec<u8>>
+    // Each chosen lookup substitutes the kept glyphs as before, for the same scripts and features.
+    ensures kept { IfOk result (λ new. KeepsSubstitutions gsub.now lookups.now kept.now new.items) }
+    // The limit never grows.
+    ensures spends { limit.new ≤ limit.old }
+    // `TooLong` leaves nothing of the limit. `ListsTooLong` means that the lists do not end in time.
+    ensures why { IfErr result (λ e. Refuses e gsub.now limit.new) }
+{
+    if kept.len() > 65535 {
+        return Err(Error::TooLarge);
+    }
+    let end = lists_end(gsub, limit)?;
+    if end > 65535 || end > gsub.len() {
+        return Err(Error::ListsTooLong);
+    }
+    let mut out = Vec::new(alloc);
+    put_front(&mut out, gsub, end)?;
+    put_list(alloc, &mut out, gsub, lookups, kept, limit)?;
+    Ok(out)
+}
