@@ -6,7 +6,7 @@
 
 PSOTF is the program, by default crates/psotf/out/psotf or the one in the environment variable PSOTF. fontTools makes a font of nine
 glyphs. Some end in `adx ady bchar achar endchar` (Technical Note 5177, Appendix C), one of them with an accent that is itself a `seac`
-glyph. For each choice of up to three glyphs, `psotf subset` writes one file with new glyph IDs and one with `--retain-gids --drop-layout`. In each file,
+glyph. For each choice of up to three glyphs, `psotf subset --drop-layout` writes one file with new glyph IDs and one with `--retain-gids`. In each file,
 the tables `CFF `, `hmtx` and `maxp` must have the right number of glyphs. fontTools and FreeType must draw each kept glyph as in the
 source, with the same advance. Each character must map to the same glyph, and standard error must report each added glyph.
 
@@ -106,7 +106,7 @@ def tried(psotf, program, folder, gids, words):
     told = [line for line in done.stderr.decode().splitlines() if " is kept too: " in line]
     all_kept = closed(gids)
     extra = sorted(set(all_kept) - {0, *gids})
-    kept = [NAMES[gid] if gid in all_kept else None for gid in range(len(NAMES))] if words else [NAMES[gid] for gid in all_kept]
+    kept = [NAMES[gid] if gid in all_kept else None for gid in range(len(NAMES))] if "--retain-gids" in words else [NAMES[gid] for gid in all_kept]
     wrong = faults(TTFont(source), path, kept, set(gids))
     if sorted(int(line.split()[2]) for line in told) != extra:
         wrong.append(f"standard error tells {told}")
@@ -126,7 +126,7 @@ def main(words):
         program = built(folder, "written_ft", "freetype2")
         source_at(folder / "source.otf")
         choices = [gids for many in (1, 2, 3) for gids in itertools.combinations(range(len(NAMES)), many)]
-        for gids, retained in itertools.product(choices, ([], ["--retain-gids", "--drop-layout"])):
+        for gids, retained in itertools.product(choices, (["--drop-layout"], ["--retain-gids", "--drop-layout"])):
             wrong = tried(psotf, program, folder, gids, retained)
             files += 1
             differ += bool(wrong)

@@ -40,6 +40,7 @@ SCRIPTS = [
     ("accented", "/usr/bin/python3 tools/evidence/accented.py", "psotf"),
     ("shaped", "/usr/bin/python3 tools/evidence/shaped.py 1 100 fonts-ebgaramond fonts-cantarell fonts-lobster fonts-jura", "psotf"),
     ("kerning", "/usr/bin/python3 tools/evidence/kerning.py 1 100 fonts-ebgaramond fonts-cantarell fonts-lobster fonts-jura", "psotf"),
+    ("ligatures", "/usr/bin/python3 tools/evidence/ligatures.py 1 100 fonts-ebgaramond fonts-cantarell fonts-lobster fonts-jura", "psotf"),
     ("report", "tools/evidence/report.py", "psotf"),
     ("changed_fonts", "python3 tools/evidence/changed_fonts.py --seed 1", "psfont"),
     ("random_programs", "python3 tools/evidence/random_programs.py --seed 1", "psfont"),

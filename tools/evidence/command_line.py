@@ -6,8 +6,8 @@
 
 The script runs crates/psotf/out/psotf, or the program in the environment variable PSOTF. It prints a line for each case: what is tried,
 and `as told` or the difference. The cases are:
-- `subset`: the file for `Hello` is at most a tenth larger than that of hb-subset 6.0.0 with layout kept, 3,044 bytes, and without
-  kerning smaller. fontTools reads its `name` records:
+- `subset`: the file for `Hello` with kerning is at most a tenth larger than that of hb-subset 6.0.0 with layout kept, 3,044 bytes, and
+  without layout smaller. The glyphs of chosen features are kept. fontTools reads its `name` records:
   which ones are kept, and that no Macintosh record repeats a Windows one. The message about dropped tables appears once, and not with
   --quiet.
 - `sheet`: the size of the labels when the picture has its own size, their width within a cell, and the error of an invalid glyph in its
@@ -93,9 +93,9 @@ def with_names(records, folder):
     return path
 
 
-@case("subset: Hello has at most a tenth more bytes than hb-subset's file, and fewer without kerning")
+@case("subset: Hello with kerning has at most a tenth more bytes than hb-subset's file, and fewer without")
 def _(folder):
-    size = subset(folder)[0].stat().st_size
+    size = subset(folder, "--layout-features", "kern", "--exact")[0].stat().st_size
     assert size < 3044 * 1.1, f"{size} bytes"
     size = subset(folder, "--drop-layout")[0].stat().st_size
     assert size < 3044, f"{size} bytes"
@@ -133,8 +133,15 @@ def _(folder):
 
 @case("subset: what is left out is said once")
 def _(folder):
-    _, said = subset(folder)
+    _, said = subset(folder, "--layout-features", "kern", "--exact")
     assert said == "psotf: tables dropped: FFTM GSUB; ligatures are lost\n", said
+    _, said = subset(folder)
+    told = (
+        "psotf: glyphs added for shaping: 9\n"
+        "psotf: GSUB lookups dropped (contexts, reverse chaining, classes or sets of marks): 2 11 15 17 19 24 31 70 93 99 106 108 110\n"
+        "psotf: tables dropped: FFTM\n"
+    )
+    assert said == told, said
     _, said = subset(folder, "--drop-layout")
     assert said == "psotf: tables dropped: FFTM GDEF GPOS GSUB; kerning and ligatures are lost\n", said
 
@@ -146,9 +153,22 @@ def _(folder):
     for tag in ("GDEF", "GPOS", "GSUB"):
         del font[tag]
     font.save(path)
-    assert subset(folder, font=path)[1] == "psotf: tables dropped: FFTM\n"
+    assert subset(folder, "--exact", font=path)[1] == "psotf: tables dropped: FFTM\n"
     run("subset", path, "--text", "Hello", "-o", out)
-    assert run("subset", out, "--text", "He", "-o", folder / "again.otf")[1] == ""
+    assert run("subset", out, "--text", "He", "--exact", "-o", folder / "again.otf")[1] == ""
+
+
+@case("subset: the glyphs of the chosen features, and no others")
+def _(folder):
+    for words, wanted in (
+        (["--layout-features", "smcp,kern"], ["space", "H", "e", "l", "o", "e.sc", "l.sc", "o.sc"]),
+        (["--layout-features", "kern"], ["space", "H", "e", "l", "o"]),
+        (["--layout-features", "kern", "--exact"], ["H", "e", "l", "o"]),
+        (["--drop-layout"], ["H", "e", "l", "o"]),
+    ):
+        glyphs = TTFont(subset(folder, *words)[0]).getGlyphOrder()
+        assert glyphs == [".notdef", *wanted], (words, glyphs)
+    run("subset", FONT, "--text", "Hello", "--layout-features", "ligature", "-o", folder / "out.otf", status=2)
 
 
 @case("subset: --quiet says nothing")

@@ -44,6 +44,7 @@ COMMANDS = {
     "report": ["report", "-o", "OUT"],
     "flat": ["flat", "-o", "OUT"],
     "subset": ["subset", "--gids", "GIDS", "-o", "OUT"],
+    "subset --layout-features *": ["subset", "--gids", "GIDS", "--layout-features", "*", "-o", "OUT"],
     "subset --retain-gids": ["subset", "--gids", "GIDS", "--retain-gids", "-o", "OUT"],
     "subset --unicodes": ["subset", "--unicodes", "0-10ffff", "-o", "OUT"],
 }
@@ -153,6 +154,37 @@ def substitutions(count):
     return long(0x00010000) + short(0) + short(0) + short(10) + lookups + lookup + single
 
 
+def chosen(features, lookups):
+    """Returns a `GSUB` table with an empty script list, a feature list and a lookup list."""
+    place = 12 + len(features)
+    return long(0x00010000) + short(10) + short(12) + short(place if place <= MANY else 10) + short(0) + features + lookups
+
+
+def named(count):
+    """Returns a feature list with one feature, which names many lookups."""
+    return short(1) + b"liga" + short(8) + short(0) + short(count) + b"".join(map(short, range(count)))
+
+
+def shared(count, kind, subtable):
+    """Returns a lookup list with many lookups at one offset. They have one subtable."""
+    return short(count) + short(2 + 2 * count) * count + short(kind) + short(0) + short(1) + short(8) + subtable
+
+
+#: a coverage table of 65,535 glyphs, and a subtable whose 65,535 sets have one place, each with 65,535 parts
+COVERED = short(2) + short(1) + short(0) + short(MANY - 1) + short(0)
+FILLED = short(1) + short(60_006) + short(MANY) + short(4) * 30_000 + COVERED + short(4) * 40_000
+GSUBS = {
+    "65,535 features of 27,753 lookups in their own tags": chosen(short(MANY) + (b"liga" + short(0)) * MANY, short(0)),
+    "10,000 lookups of 65,535 glyphs, each chosen": chosen(named(10_000), shared(10_000, 1, short(1) + short(6) + short(1) + COVERED)),
+    "65,535 sequences of 65,535 glyphs": chosen(named(1), shared(1, 2, FILLED)),
+    "65,535 ligatures for each of 65,535 glyphs": chosen(named(1), shared(1, 4, FILLED)),
+    "a list of 60,000 glyphs to substitute": chosen(
+        named(1), shared(1, 1, short(1) + short(6) + short(1) + short(1) + short(60_000) + b"".join(map(short, range(60_000)))),
+    ),
+    "10,000 extensions of themselves": chosen(named(10_000), shared(10_000, 7, short(1) + short(7) + long(0))),
+}
+
+
 def file_of(outlines, glyphs, cmap=LETTERS, more=(), tag=b"CFF ", others=()):
     """Returns an OpenType file with this table of outlines and others, and its number of glyphs. Each tag of `more` covers all other
     tables."""
@@ -235,6 +267,9 @@ def searched():
     yield "a map of 65,535 groups that fall", file_of(plain_font([END] * 2), 2, groups(falling))
     yield "a map of 65,535 groups behind all characters", file_of(plain_font([END] * 2), 2, groups([(0x10FFFF, 0x10FFFF, 1)] * MANY + [(0, 0x10FFFF, 1)]))
     yield "30,000 lookups of 30,000 subtables of all glyphs", file_of(plain_font([END] * 2), 2, others=[(b"GSUB", substitutions(30_000))])
+    named_font = plain_font([END] * 60_000, char_set=b"\x00" + short(1) * 59_999)
+    for name, table in GSUBS.items():
+        yield name, file_of(named_font, 60_000, others=[(b"GSUB", table)])
     yield "20,000 dictionaries over 60,000 glyphs", file_of(plain_font([END] * 60_000, tops=20_000), 60_000)
     yield "10,000 font dictionaries over 60,000 subroutines", file_of(
         keyed_font([END] * 2, b"\x00\x00\x00", 10_000, [RETURN] * 60_000), 2,

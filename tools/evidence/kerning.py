@@ -5,8 +5,8 @@
     /usr/bin/python3 tools/evidence/kerning.py SEED LINES WORD..
 
 Each WORD is a font file, a folder, or an installed Debian package; of the last two, the script takes each .otf file. Fonts without a `CFF `
-table, and fonts without GPOS, are skipped. `psotf subset` writes each font twice: with the characters of a few words, and with those of
-Latin-1. The whole font and its subset then shape LINES random lines of these characters. All features of GSUB are turned off, and those of
+table, and fonts without GPOS, are skipped. `psotf subset --layout-features kern --exact` writes each font twice: with the characters of a few words, and with
+those of Latin-1. The whole font and its subset then shape LINES random lines of these characters. All features of GSUB are turned off, and those of
 GPOS that are not made of pairs: marks and cursive attachment. The characters must have the same glyphs, by the `cmap` tables, and the same
 advances and offsets. `ots-sanitize` must accept the subset if it accepts the font. If `psotf` says that the kerning is lost, since there are
 too many pairs, the file is only counted.
@@ -63,7 +63,7 @@ def compared(path, font, name, folder, draw, lines, sums):
     chars = [char for char in TEXTS[name] if char in cmap]
     listed = ",".join(f"{char:x}" for char in chars)
     ours, theirs, text = folder / "ours.otf", folder / "theirs.otf", folder / "lines"
-    done = subprocess.run([PSOTF, "subset", path, "--unicodes", listed, "-o", ours], capture_output=True, text=True, check=True)
+    done = subprocess.run([PSOTF, "subset", path, "--unicodes", listed, "--layout-features", "kern", "--exact", "-o", ours], capture_output=True, text=True, check=True)
     subprocess.run(["hb-subset", path, f"--unicodes={listed}", "--layout-features=kern", "-o", theirs], capture_output=True, check=True)
     sums["files"] += 1
     if "kerning is lost" in done.stderr:

@@ -6,7 +6,7 @@
 
 Each WORD is a font file, a folder, or an installed Debian package; of the last two, the script takes each .otf file. `--some N` takes N of
 these fonts, chosen with SEED, and prints them. Each font is written once by `psotf flat`. For glyphs chosen at random from SEED it is
-written three times by `psotf subset` and once by `psotf subset --retain-gids`. The checks on each file are:
+written three times by `psotf subset --drop-layout` and once by `psotf subset --retain-gids`. The checks on each file are:
 - fontTools draws each glyph with the same segments, and reads the same metrics and the same name or CID.
 - FreeType gives the same points, unscaled and unhinted, and the same advance.
 - HarfBuzz gives the same segments, unscaled, and the same advance.
@@ -133,7 +133,7 @@ def counted(path, folder, programs, draw):
         own = set(chosen)
         kept = [gid if gid in own else None for gid in range(count)] if retained else chosen
         place = folder / f"{number}.otf"
-        words = ["--gids", ",".join(map(str, chosen)), *(["--retain-gids"] if retained else [])]
+        words = ["--gids", ",".join(map(str, chosen)), "--retain-gids" if retained else "--drop-layout"]
         subprocess.run([PSOTF, "subset", path, "--quiet", *words, "-o", place], check=True)
         files.append((f"subset {' '.join(words)}", place, kept))
     for name, place, gids in files:

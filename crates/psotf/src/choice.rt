@@ -2,8 +2,7 @@
 use crate::characters::{Mapped, all_of, by_glyph, glyph_of, of_glyph, refuse_missing};
 use crate::face::Face;
 use crate::failure::Failure;
-use crate::limit::Budget;
-use crate::{layout, shaping};
+use crate::shaping;
 use clap::ArgMatches;
 use std::alloc::{AllocError, Global};
 
@@ -161,28 +160,10 @@ impl Choice {
     }
 
     /// Adds the characters that a shaper may use in addition.
-    fn put_shaped(&mut self, alloc: Global, face: &Face<'_>) -> Result<(), AllocError> {
+    pub fn put_shaped(&mut self, alloc: Global, face: &Face<'_>) -> Result<(), AllocError> {
         let all = all_of(alloc, &face.map)?;
         self.chars = shaping::closed(alloc, &all, &self.chars)?;
         Ok(())
-    }
-
-    /// Adds all glyphs that the layout tables can substitute for the glyphs. Unless `exact` is true, it first adds the
-    /// characters that a shaper may use in addition. Returns the number of glyphs that are added.
-    pub fn put_layout(
-        &mut self,
-        alloc: Global,
-        face: &Face<'_>,
-        exact: bool,
-        budget: &mut Budget,
-    ) -> Result<usize, Failure> {
-        let chosen = self.named(alloc, face)?.len();
-        if !exact {
-            self.put_shaped(alloc, face)?;
-        }
-        let named = self.named(alloc, face)?;
-        layout::close(alloc, face, &named, &mut self.added, budget)?;
-        Ok(self.named(alloc, face)?.len().saturating_sub(chosen))
     }
 
     /// Returns the characters and glyphs that the arguments choose.

@@ -182,7 +182,7 @@ const SUBCOMMANDS: &[Subcommand] = &[
     },
     Subcommand {
         name: "subset",
-        about: "Write a font with only some glyphs and their kerning (ligatures need --retain-gids)",
+        about: "Write a font with only some glyphs, their kerning and their ligatures",
         group: "kept",
         one_of: &["text", "gids", "unicodes"],
         place: Place::Any,
@@ -206,13 +206,18 @@ const SUBCOMMANDS: &[Subcommand] = &[
                 "retain-gids",
                 "Keep glyph numbers, with empty glyphs in between, and the layout tables with all glyphs that they substitute",
             ),
+            Word::Text(
+                "layout-features",
+                "LIST",
+                "With new glyph numbers: keep these layout features, e.g. liga,kern, or * for all (default: those of hb-subset)",
+            ),
             Word::Flag(
                 "drop-layout",
-                "Drop the layout tables (kerning; with --retain-gids also ligatures and vertical metrics)",
+                "Drop the layout tables (kerning, ligatures; with --retain-gids also vertical metrics)",
             ),
             Word::Flag(
                 "exact",
-                "With --retain-gids: do not add characters that a shaper may use (see the manual)",
+                "Do not add characters that a shaper may use (see the manual)",
             ),
             Word::Flag(
                 "keep-names",

@@ -1,24 +1,29 @@
-//! Kerning in a subset with new glyph numbers. `GPOS` keeps the pair adjustments of the kept glyphs, and `GDEF` their
-//! classes.
+//! Layout tables in a subset with new glyph numbers. `GSUB` keeps the substitutions of the chosen features, `GPOS` the
+//! pair adjustments of the kept glyphs, and `GDEF` their classes.
 use crate::face::Face;
 use crate::failure::Failure;
+use crate::features::Features;
+use crate::ligatures::Lookups;
 use crate::limit::Budget;
 use crate::telling;
+use crate::text::Text;
 use clap::ArgMatches;
 use postscript_base::index::number::number_within;
 use postscript_files::Given;
-use postscript_layout_write::{Error, glyph_classes, kerning};
+use postscript_layout_write::{Error, glyph_classes, kerning, left_out, substitutions};
 use postscript_write::kept_glyphs;
 use std::alloc::{AllocError, Global};
 
-/// The tables with the kerning, or the reason why it is lost.
+/// The tables, the reasons why kerning or substitutions are lost, and the chosen lookups that `GSUB` does not keep.
 #[derive(Drop)]
 pub struct Kerning {
     pub tables: Vec<Given>,
-    pub lost: Option<Error>,
+    lost: Option<Error>,
+    ligatures: Option<Error>,
+    left_out: Vec<u16>,
 }
 
-/// Returns whether a subset keeps kerning under new glyph numbers.
+/// Returns whether a subset keeps kerning and substitutions under new glyph numbers.
 pub fn is_kept(words: &ArgMatches<'_>) -> bool {
     !words.get_flag("retain-gids") && !words.get_flag("drop-layout")
 }
@@ -43,24 +48,28 @@ impl Kerning {
         Kerning {
             tables: Vec::new(alloc),
             lost: None,
+            ligatures: None,
+            left_out: Vec::new(alloc),
         }
     }
 
-    /// Adds a table that is written, or keeps the reason why it is not. Memory is an error.
+    /// Adds a table that is written, or returns the reason why it is not. Memory is an error.
     fn put(
         &mut self,
         tag: [u8; 4],
         written: std::result::Result<Vec<u8>, Error>,
-    ) -> Result<(), AllocError> {
+    ) -> Result<Option<Error>, AllocError> {
         match written {
-            Ok(bytes) => self.tables.push(Given {
-                tag: u32::from_be_bytes(tag),
-                bytes,
-            })?,
-            Err(Error::Memory) => return Err(AllocError),
-            Err(error) => self.lost = Some(error),
+            Ok(bytes) => {
+                self.tables.push(Given {
+                    tag: u32::from_be_bytes(tag),
+                    bytes,
+                })?;
+                Ok(None)
+            }
+            Err(Error::Memory) => Err(AllocError),
+            Err(error) => Ok(Some(error)),
         }
-        Ok(())
     }
 
     /// Adds the `GPOS` table, also if it has no pairs of these glyphs. Without it shapers place marks themselves.
@@ -71,13 +80,13 @@ impl Kerning {
         glyphs: &[u16],
         left: &mut u64,
     ) -> Result<(), AllocError> {
-        match face.source.file.table(*b"GPOS") {
-            Some(gpos) => self.put(*b"GPOS", kerning(alloc, gpos, glyphs, left)),
-            None => Ok(()),
+        if let Some(gpos) = face.source.file.table(*b"GPOS") {
+            self.lost = self.put(*b"GPOS", kerning(alloc, gpos, glyphs, left))?;
         }
+        Ok(())
     }
 
-    /// Adds the `GDEF` table, if the font has glyph classes. Shapers give marks no advance.
+    /// Adds the `GDEF` table, if the font has glyph classes. Shapers give marks no advance, and lookups pass over classes.
     fn put_classes(
         &mut self,
         alloc: Global,
@@ -87,17 +96,58 @@ impl Kerning {
     ) -> Result<(), AllocError> {
         match face.source.file.table(*b"GDEF") {
             Some(gdef) if has_classes(gdef) => {
-                self.put(*b"GDEF", glyph_classes(alloc, gdef, glyphs, left))
+                self.lost = self.put(*b"GDEF", glyph_classes(alloc, gdef, glyphs, left))?;
+                self.ligatures = self.lost;
+                Ok(())
             }
             _ => Ok(()),
         }
     }
 
-    /// Returns the tables with the kerning of the chosen glyphs and their components, within the rest of the budget.
-    /// Without glyph classes there is no kerning.
+    /// Adds the `GSUB` table with the substitutions of the chosen lookups, and keeps which lookups are left out.
+    fn put_rules(
+        &mut self,
+        alloc: Global,
+        gsub: &[u8],
+        lookups: &Lookups,
+        glyphs: &[u16],
+        left: &mut u64,
+    ) -> Result<(), Failure> {
+        let written = substitutions(alloc, gsub, &lookups.chosen, glyphs, left);
+        self.ligatures = self.put(*b"GSUB", written)?;
+        if self.ligatures.is_none() {
+            self.left_out = left_out_of(alloc, gsub, &lookups.chosen)?;
+        }
+        Ok(())
+    }
+
+    /// Adds the `GSUB` table, if the chosen features have lookups.
+    fn put_substitutions(
+        &mut self,
+        alloc: Global,
+        face: &Face<'_>,
+        lookups: &Lookups,
+        glyphs: &[u16],
+        left: &mut u64,
+    ) -> Result<(), Failure> {
+        if lookups.lost {
+            self.ligatures = Some(Error::TooLong);
+        }
+        match face.source.file.table(*b"GSUB") {
+            Some(gsub) if !lookups.chosen.is_empty() => {
+                self.put_rules(alloc, gsub, lookups, glyphs, left)
+            }
+            _ => Ok(()),
+        }
+    }
+
+    /// Returns the tables with the substitutions and the kerning of the chosen glyphs and their components, within the
+    /// rest of the budget. Without glyph classes there are none.
     pub fn of(
         alloc: Global,
         face: &Face<'_>,
+        features: &Features,
+        lookups: &Lookups,
         named: &[usize],
         budget: &mut Budget,
     ) -> Result<Kerning, Failure> {
@@ -106,17 +156,66 @@ impl Kerning {
         let mut kept = Kerning::none(alloc);
         kept.put_classes(alloc, face, &glyphs, &mut left)?;
         if kept.lost.is_none() {
-            kept.put_pairs(alloc, face, &glyphs, &mut left)?;
+            kept.put_substitutions(alloc, face, lookups, &glyphs, &mut left)?;
+            if features.has(*b"kern") {
+                kept.put_pairs(alloc, face, &glyphs, &mut left)?;
+            }
         }
         budget.left = left;
         Ok(kept)
     }
 
-    /// Reports on standard error why the kerning is lost.
-    pub fn tell(&self, rt: &HostRuntime) -> Result<(), Failure> {
-        match &self.lost {
-            Some(error) => telling::tell(rt, format_args!("kerning is lost: {error}")),
-            None => Ok(()),
+    /// Returns whether a table is made.
+    pub fn has(&self, tag: [u8; 4]) -> bool {
+        let tag = u32::from_be_bytes(tag);
+        for table in &self.tables {
+            if table.tag == tag {
+                return true;
+            }
         }
+        false
     }
+
+    /// Reports on standard error which lookups are left out.
+    fn tell_left_out(&self, rt: &HostRuntime) -> Result<(), Failure> {
+        if self.left_out.is_empty() {
+            return Ok(());
+        }
+        let list = list_of(rt.alloc(), &self.left_out)?;
+        telling::tell(
+            rt,
+            format_args!(
+                "GSUB lookups dropped (contexts, reverse chaining, classes or sets of marks):{list}"
+            ),
+        )
+    }
+
+    /// Reports on standard error why kerning or substitutions are lost, and which lookups are left out.
+    pub fn tell(&self, rt: &HostRuntime) -> Result<(), Failure> {
+        if let Some(error) = &self.lost {
+            telling::tell(rt, format_args!("kerning is lost: {error}"))?;
+        }
+        if let Some(error) = &self.ligatures {
+            telling::tell(rt, format_args!("ligatures are lost: {error}"))?;
+        }
+        self.tell_left_out(rt)
+    }
+}
+
+/// Returns the chosen lookups that a new `GSUB` table does not keep.
+fn left_out_of(alloc: Global, gsub: &[u8], lookups: &[u16]) -> Result<Vec<u16>, AllocError> {
+    match left_out(alloc, gsub, lookups) {
+        Ok(left_out) => Ok(left_out),
+        Err(_) => Err(AllocError),
+    }
+}
+
+/// Returns numbers as a text, with a space before each.
+fn list_of(alloc: Global, numbers: &[u16]) -> Result<String, AllocError> {
+    let mut text = Text::new(alloc);
+    for number in numbers {
+        text.push(' ');
+        text.put_number(u64::from(*number));
+    }
+    text.end()
 }

@@ -18,7 +18,7 @@ pub fn is_kept(words: &ArgMatches<'_>) -> bool {
 }
 
 /// Returns glyph numbers in 16 bits.
-fn narrow(alloc: Global, glyphs: &[usize]) -> Result<Vec<u16>, AllocError> {
+pub fn narrow(alloc: Global, glyphs: &[usize]) -> Result<Vec<u16>, AllocError> {
     let mut numbers = Vec::new(alloc);
     for glyph in glyphs {
         numbers.push(u16::try_from(*glyph).unwrap_or(0))?;
@@ -46,6 +46,20 @@ fn closed(
     }
 }
 
+/// Adds the glyphs of a closure that the font has.
+pub fn put_closed(
+    face: &Face<'_>,
+    closed: &[u16],
+    added: &mut Vec<usize>,
+) -> Result<(), AllocError> {
+    for glyph in closed {
+        if usize::from(*glyph) < face.font.char_strings.len() {
+            added.push(usize::from(*glyph))?;
+        }
+    }
+    Ok(())
+}
+
 /// Adds the glyphs and all glyphs of the font that substitutions can make of them.
 pub fn close(
     alloc: Global,
@@ -55,10 +69,6 @@ pub fn close(
     budget: &mut Budget,
 ) -> Result<(), Failure> {
     let named = narrow(alloc, glyphs)?;
-    for glyph in closed(alloc, face, &named, budget)? {
-        if usize::from(glyph) < face.font.char_strings.len() {
-            added.push(usize::from(glyph))?;
-        }
-    }
-    Ok(())
+    let closed = closed(alloc, face, &named, budget)?;
+    Ok(put_closed(face, &closed, added)?)
 }

@@ -2,11 +2,32 @@
 use crate::composed::{self, has, has_all};
 use std::alloc::{AllocError, Global};
 use ucd_bidi::{BidiClass, is_bidi_mirrored};
+use ucd_category::{GeneralCategory, GeneralCategoryGroup};
 use ucd_normal::compatibility_decomposition;
 
-/// The space, which shapers use for characters that they hide, and the dotted circle, which they insert before a mark
-/// without a base.
-const ALWAYS: [u32; 2] = [0x20, 0x25cc];
+/// The space, which shapers use for characters that they hide.
+const SPACE: u32 = 0x20;
+
+/// The dotted circle, which shapers insert before a mark without a base.
+const DOTTED_CIRCLE: u32 = 0x25cc;
+
+/// Returns whether a character is a mark.
+fn is_mark(char: u32) -> bool {
+    match char::from_u32(char) {
+        Some(char) => GeneralCategoryGroup::Mark.contains(GeneralCategory::for_char(char)),
+        None => false,
+    }
+}
+
+/// Returns whether some character is a mark.
+fn has_mark(kept: &[u32]) -> bool {
+    for char in kept {
+        if is_mark(*char) {
+            return true;
+        }
+    }
+    false
+}
 
 /// Returns whether a character is written from right to left.
 fn is_right_to_left(char: u32) -> bool {
@@ -56,11 +77,17 @@ fn is_form_of(kept: &[u32], char: u32) -> bool {
     }
 }
 
-/// Adds the characters of a font that are always kept, mirrored ones if the kept ones need them, and presentation forms.
+/// Returns whether a shaper may insert a character: the space, or the dotted circle if a mark is kept.
+fn is_inserted(char: u32, marks: bool) -> bool {
+    char == SPACE || (marks && char == DOTTED_CIRCLE)
+}
+
+/// Adds the characters of a font that a shaper may insert, mirrored ones if the kept ones need them, and presentation
+/// forms.
 fn put_forms(added: &mut Vec<u32>, all: &[(u32, u16)], kept: &[u32]) -> Result<(), AllocError> {
-    let mirrors = mirrors(kept);
+    let (mirrors, marks) = (mirrors(kept), has_mark(kept));
     for (char, _) in all {
-        if has(&ALWAYS, *char) || (mirrors && is_mirrored(*char)) || is_form_of(kept, *char) {
+        if is_inserted(*char, marks) || (mirrors && is_mirrored(*char)) || is_form_of(kept, *char) {
             added.push(*char)?;
         }
     }

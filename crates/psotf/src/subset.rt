@@ -3,8 +3,10 @@ use crate::along::Kept;
 use crate::choice::Choice;
 use crate::face::Face;
 use crate::failure::Failure;
+use crate::features::Features;
 use crate::kerning::{self, Kerning};
 use crate::leaving::{self, Lost};
+use crate::ligatures::{self, Lookups};
 use crate::limit::Budget;
 use crate::{layout, naming, saving, telling};
 use clap::ArgMatches;
@@ -85,11 +87,10 @@ fn file_of(
 fn lost_of(face: &Face<'_>, words: &ArgMatches<'_>, kerning: &Kerning) -> Lost {
     let file = &face.source.file;
     let copied = layout::is_kept(words);
-    let has_pairs = file.table(*b"GPOS").is_some();
-    let kept = copied || (has_pairs && kerning::is_kept(words) && kerning.lost.is_none());
+    let has_pairs = file.table(*b"GPOS").is_some() || file.table(*b"kern").is_some();
     Lost {
-        kerning: !kept && (has_pairs || file.table(*b"kern").is_some()),
-        ligatures: !copied && file.table(*b"GSUB").is_some(),
+        kerning: has_pairs && !copied && !kerning.has(*b"GPOS"),
+        ligatures: file.table(*b"GSUB").is_some() && !copied && !kerning.has(*b"GSUB"),
     }
 }
 
@@ -113,40 +114,89 @@ fn tell(
     )
 }
 
-/// Returns the tables with the kerning of the chosen glyphs, if the subset keeps it under new glyph numbers.
+/// The features that a subset keeps under new glyph numbers, and their lookups.
+#[derive(Drop)]
+struct Layout {
+    features: Features,
+    lookups: Lookups,
+}
+
+/// Returns the layout tables of the chosen glyphs, if the subset keeps them under new glyph numbers.
 fn kerning_of(
     alloc: Global,
     face: &Face<'_>,
     words: &ArgMatches<'_>,
+    layout: &Layout,
     named: &[usize],
     budget: &mut Budget,
 ) -> Result<Kerning, Failure> {
     if kerning::is_kept(words) {
-        Kerning::of(alloc, face, named, budget)
+        Kerning::of(
+            alloc,
+            face,
+            &layout.features,
+            &layout.lookups,
+            named,
+            budget,
+        )
     } else {
         Ok(Kerning::none(alloc))
     }
 }
 
-/// Adds the glyphs of the layout tables, if the subset keeps these. Without `--quiet` it reports their number.
+/// Adds the glyphs that lookups can substitute for the chosen ones. Returns the lookups that get new glyph numbers.
+fn close(
+    alloc: Global,
+    face: &Face<'_>,
+    words: &ArgMatches<'_>,
+    features: &Features,
+    choice: &mut Choice,
+    budget: &mut Budget,
+) -> Result<Lookups, Failure> {
+    let named = choice.named(alloc, face)?;
+    if layout::is_kept(words) {
+        layout::close(alloc, face, &named, &mut choice.added, budget)?;
+        Ok(Lookups::none(alloc, false))
+    } else {
+        ligatures::close(alloc, face, features, &named, &mut choice.added, budget)
+    }
+}
+
+/// Reports the number of glyphs that are added to `chosen` ones, except with `--quiet`.
+fn tell_added(
+    rt: &HostRuntime,
+    face: &Face<'_>,
+    words: &ArgMatches<'_>,
+    choice: &Choice,
+    chosen: usize,
+) -> Result<(), Failure> {
+    let added = choice.named(rt.alloc(), face)?.len().saturating_sub(chosen);
+    if added == 0 || words.get_flag("quiet") {
+        return Ok(());
+    }
+    telling::tell(rt, format_args!("glyphs added for shaping: {added}"))
+}
+
+/// Adds the characters that a shaper may use, and the glyphs of the layout tables, unless the subset drops these. Returns
+/// the lookups that get new glyph numbers.
 fn put_layout(
     rt: &HostRuntime,
     face: &Face<'_>,
     words: &ArgMatches<'_>,
+    features: &Features,
     choice: &mut Choice,
     budget: &mut Budget,
-) -> Result<(), Failure> {
-    if !layout::is_kept(words) {
-        return Ok(());
+) -> Result<Lookups, Failure> {
+    if words.get_flag("drop-layout") {
+        return Ok(Lookups::none(rt.alloc(), false));
     }
-    let added = choice.put_layout(rt.alloc(), face, words.get_flag("exact"), budget)?;
-    if added == 0 || words.get_flag("quiet") {
-        return Ok(());
+    let chosen = choice.named(rt.alloc(), face)?.len();
+    if !words.get_flag("exact") {
+        choice.put_shaped(rt.alloc(), face)?;
     }
-    telling::tell(
-        rt,
-        format_args!("glyphs added for the layout tables: {added}"),
-    )
+    let lookups = close(rt.alloc(), face, words, features, choice, budget)?;
+    tell_added(rt, face, words, choice, chosen)?;
+    Ok(lookups)
 }
 
 /// Writes the file of the chosen glyphs and their components.
@@ -155,13 +205,14 @@ fn write_choice<W: Write>(
     face: &Face<'_>,
     words: &ArgMatches<'_>,
     choice: &Choice,
+    layout: &Layout,
     budget: &mut Budget,
     out: &mut W,
 ) -> Result<(), Failure> {
     let named = choice.named(rt.alloc(), face)?;
     let mut kept = Kept::new(rt.alloc());
     kept.ask(rt.alloc(), &face.font, &named, budget)?;
-    let mut kerning = kerning_of(rt.alloc(), face, words, &named, budget)?;
+    let mut kerning = kerning_of(rt.alloc(), face, words, layout, &named, budget)?;
     put_names(
         &mut kerning.tables,
         rt.alloc(),
@@ -185,6 +236,8 @@ pub fn write<W: Write>(
     out: &mut W,
 ) -> Result<(), Failure> {
     let mut choice = Choice::read(rt.alloc(), face, words)?;
-    put_layout(rt, face, words, &mut choice, budget)?;
-    write_choice(rt, face, words, &choice, budget, out)
+    let features = Features::read(rt.alloc(), words)?;
+    let lookups = put_layout(rt, face, words, &features, &mut choice, budget)?;
+    let layout = Layout { features, lookups };
+    write_choice(rt, face, words, &choice, &layout, budget, out)
 }
