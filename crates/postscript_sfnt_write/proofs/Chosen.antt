@@ -9,14 +9,15 @@ use Rattle.postscript_sfnt.specs.declared.character_map.CharacterMap.{CharacterM
 use Rattle.postscript_sfnt.specs.declared.character_map.CharacterMap.TheVariants.{Segments, Groups, Trimmed}
 use Rattle.postscript_sfnt_write.specs.Grouping.{MappingsFit, AreBelow, GroupsFit, IsLarge, IsSmall, encoding_text, end, format12_text, groups, head4_text, large_text, rows_text, small_text}
 use Rattle.postscript_sfnt_write.specs.Headers.{HasHeader12, HasHeader4, HaveHeaders}
-use Rattle.postscript_sfnt_write.specs.Mappings.{AreTold, CharsRise, IsGlyphIn, IsReadable, Tells}
+use Rattle.postscript_sfnt_write.specs.Mappings.{AreTold, AreToldIn4, CharsRise, HasFormat4, IsGlyphIn, IsReadable, Tells, in_segments}
 use Rattle.postscript_sfnt_write.specs.Numbers.{uint16, uint32}
 use Rattle.postscript_sfnt_write.specs.declared.mapping.Group.{Group}
 use Rattle.postscript_sfnt_write.specs.declared.mapping.Mapping.{Mapping}
 use Rattle.postscript_sfnt_write.proofs.Groups.{Say, say}
 use Rattle.postscript_sfnt_write.proofs.Headed.{headed12, headed4, length-format12}
 use Rattle.postscript_sfnt_write.proofs.Mapped.{are12, header12, told_glyph}
-use Rattle.postscript_sfnt_write.proofs.Mapped4.{are4, end_rises, length-rows_text, low_groups, low_with_end, map4, without_end}
+use Rattle.postscript_sfnt_write.proofs.Segments.{all_in, in_segments_below, in_segments_rise}
+use Rattle.postscript_sfnt_write.proofs.Mapped4.{Map4, are4, end_rises, length-rows_text, low_groups, low_with_end, map4, without_end}
 use Rattle.postscript_sfnt_write.proofs.Standing.{Stands, length-uint16, stands_dropped, stands_first, stands_second, uint16_stands, uint32_stands}
 
 -- a record of a platform, an encoding and a place
@@ -217,6 +218,8 @@ pub record Answer (cmap : List ℕ) (ms : List Mapping) : Type 0 where
   pub read : IsReadable cmap
   pub told : AreTold cmap ms
   pub headers : HaveHeaders cmap
+  pub format4 : HasFormat4 cmap
+  pub told_in_4 : AreToldIn4 cmap (in_segments ms)
 
 tells4 : (table : List ℕ) (ms : List Mapping) (n : ℕ) (map : CharacterMap) → number_at table 0 2 ≡ 4 → number_at table 6 2 / 2 ≡ n →
     ((char glyph : ℕ) → IsGlyphOf (first4 table n) (last4 table) (gives4 table n) n char glyph → IsGlyphIn ms char glyph) →
@@ -253,6 +256,45 @@ tells12 table ms (Trimmed it) format tell cmap at e is char glyph maps =
     let g = ap (λ (xs : List ℕ). number_at xs 0 2) e in
     absurd (omega (arith, f, g, format))
 
+-- what segments at an offset tell
+told4 : (cmap : List ℕ) (at : ℕ) (gs : List Group) (ms : List Mapping) → CharsRise ms → AreBelow ms → gs ≡ groups (ms ++ end ∷ []) →
+    MappingsFit (ms ++ end ∷ []) → Map4 (drop at cmap) gs → (place : ℕ) → place ≡ at → (map : CharacterMap) → IsMapAt cmap place map →
+    Tells map ms
+told4 cmap at gs ms rise below is fit m place there map stands =
+    let says : Say gs (ms ++ end ∷ []) = subst (λ xs. Say xs (ms ++ end ∷ [])) (sym is) (say (ms ++ end ∷ []) (end_rises ms rise below)) in
+    let are = are4 (drop at cmap) gs (low_groups gs (ms ++ end ∷ []) says (low_with_end ms below)) m in
+    tells4 (drop at cmap) ms (length gs) map m.format m.counted
+    (λ char glyph of. without_end ms char glyph (told_glyph _ _ _ (length gs) gs (ms ++ end ∷ []) char glyph are says fit of))
+    cmap place (ap (λ k. drop k cmap) there) stands
+
+-- the record of the first plane of Unicode on Windows
+has_format4 : {cmap : List ℕ} (i at place : ℕ) → 4 + i * 8 ≡ at → i < records_of cmap → Encoding cmap at 3 1 place →
+    number_at cmap place 2 ≡ 4 → HasFormat4 cmap
+has_format4 {cmap = cmap} i at place e listed it format = record {
+  i = i;
+  listed = listed;
+  platform = ap (λ k. number_at cmap k 2) e ∙ it.platform_is;
+  encoding = ap (λ k. number_at cmap (k + 2) 2) e ∙ it.encoding_is;
+  format = ap (λ k. number_at cmap k 2) (placed i at 3 1 place e it) ∙ format;
+}
+
+small_told : {cmap : List ℕ} (ms : List Mapping) → Two cmap →
+    ((place : ℕ) → place ≡ 20 → (map : CharacterMap) → IsMapAt cmap place map → Tells map ms) → AreToldIn4 cmap ms
+small_told ms it tell zero map less format stands = tell _ (placed 0 4 0 3 20 refl it.first) map stands
+small_told ms it tell (suc zero) map less format stands = tell _ (placed 1 12 3 1 20 refl it.second) map stands
+small_told ms it tell (suc (suc i)) map less format stands = let many = it.counted in absurd (omega (arith, less, many))
+
+large_told : {cmap : List ℕ} (behind : ℕ) (ms : List Mapping) → Four cmap behind → number_at cmap behind 2 ≡ 12 →
+    ((place : ℕ) → place ≡ 36 → (map : CharacterMap) → IsMapAt cmap place map → Tells map ms) → AreToldIn4 cmap ms
+large_told behind ms it other tell zero map less format stands = tell _ (placed 0 4 0 3 36 refl it.first) map stands
+large_told {cmap = cmap} behind ms it other tell (suc zero) map less format stands =
+    let at = ap (λ k. number_at cmap k 2) (placed 1 12 0 4 behind refl it.second) in absurd (omega (arith, at, other, format))
+large_told behind ms it other tell (suc (suc zero)) map less format stands = tell _ (placed 2 20 3 1 36 refl it.third) map stands
+large_told {cmap = cmap} behind ms it other tell (suc (suc (suc zero))) map less format stands =
+    let at = ap (λ k. number_at cmap k 2) (placed 3 28 3 10 behind refl it.fourth) in absurd (omega (arith, at, other, format))
+large_told behind ms it other tell (suc (suc (suc (suc i)))) map less format stands =
+    let many = it.counted in absurd (omega (arith, less, many))
+
 length-small : length small_text ≡ 20
 unfolding small_text encoding_text uint16 uint32
 length-small = refl
@@ -287,13 +329,17 @@ small_answer cmap gs ms rise below is few fit text =
     let counted = m.counted in
     let rest = length-drop 20 cmap in
     let taken = small_taken cmap (two (stands_first small_text body s)) (omega (arith, room, rest)) in
+    let head = headed4 20 text.selector gs few text.selected text.few_bits (stands_second small_text body 20 length-small s) in
+    let records = (two (stands_first small_text body s)).counted in
     record {
       read = readable cmap 20 taken (inl (m.format, omega (arith, room, counted)));
       told = λ i map chosen at. tells4 (drop 20 cmap) ms (length gs) map m.format m.counted
           (λ char glyph of. without_end ms char glyph (told_glyph _ _ _ (length gs) gs (ms ++ end ∷ []) char glyph are says fit of))
           cmap (place_at cmap i) (ap (λ k. drop k cmap) (taken.alone i chosen)) at;
-      headers = two_headers (two (stands_first small_text body s))
-          (headed4 20 text.selector gs few text.selected text.few_bits (stands_second small_text body 20 length-small s));
+      headers = two_headers (two (stands_first small_text body s)) head;
+      format4 = has_format4 1 12 20 refl (omega (arith, records)) (two (stands_first small_text body s)).second head.format;
+      told_in_4 = subst (AreToldIn4 cmap) (sym (all_in ms below (subst (λ xs. length xs < 8002) is few)))
+          (small_told ms (two (stands_first small_text body s)) (told4 cmap 20 gs ms rise below is fit m));
     }
 
 length-large : (behind : ℕ) → length (large_text behind) ≡ 36
@@ -304,9 +350,10 @@ length-head : (count selector : ℕ) → length (head4_text count selector) ≡ 
 unfolding head4_text uint16
 length-head count selector = refl
 
-pub large_answer : (cmap : List ℕ) (low gs : List Group) (ms : List Mapping) → CharsRise ms → gs ≡ groups ms → length low < 8002 →
+pub large_answer : (cmap : List ℕ) (low gs : List Group) (ms : List Mapping) → CharsRise ms → gs ≡ groups ms →
+    low ≡ groups (in_segments ms ++ end ∷ []) → MappingsFit (in_segments ms ++ end ∷ []) → length low < 8002 →
     16 + length gs * 12 < 2 ^ 32 → MappingsFit ms → GroupsFit gs → IsLarge cmap low gs → Answer cmap ms
-large_answer cmap low gs ms rise is few small fit fits text =
+large_answer cmap low gs ms rise is low_is low_fit few small fit fits text =
     let behind : ℕ = 52 + length low * 8 in
     let head : List ℕ = head4_text (length low) text.selector ++ rows_text low in
     let body : List ℕ = format12_text gs in
@@ -323,16 +370,21 @@ large_answer cmap low gs ms rise is few small fit fits text =
     let room = h.room in
     let counted = h.counted in
     let rest = length-drop behind cmap in
-    let taken = large_taken cmap behind (four behind (omega (arith, few)) (stands_first (large_text behind) (head ++ body) s))
-    (omega (arith, room, rest)) (omega (arith, room, rest)) in
+    let records = four behind (omega (arith, few)) (stands_first (large_text behind) (head ++ body) s) in
+    let counted4 = records.counted in
+    let taken = large_taken cmap behind records (omega (arith, room, rest)) (omega (arith, room, rest)) in
+    let m = map4 (drop 36 cmap) low text.selector few (stands_dropped head 36 (stands_first head body at36)) in
+    let head4 = headed4 36 text.selector low few text.selected text.few_bits (stands_first head body at36) in
+    let head12 = headed12 behind gs small (subst (λ k. Stands body cmap k) on there) (ap length text.text
+    ∙ length-append (large_text behind) (head ++ body) ∙ (let a = length-large behind in let b = length-append head body in
+    let c = length-format12 gs in omega (arith, a, b, c, long))) in
     record {
       read = readable cmap behind taken (inr (inl (h.format, omega (arith, room, counted))));
       told = λ i map chosen at. tells12 (drop behind cmap) ms map h.format
           (λ char glyph of. told_glyph _ _ _ (number_at (drop behind cmap) 12 4) gs ms char glyph are says fit of)
           cmap (place_at cmap i) (ap (λ k. drop k cmap) (taken.alone i chosen)) at;
-      headers = four_headers behind (four behind (omega (arith, few)) (stands_first (large_text behind) (head ++ body) s))
-          (headed4 36 text.selector low few text.selected text.few_bits (stands_first head body at36))
-          (headed12 behind gs small (subst (λ k. Stands body cmap k) on there) (ap length text.text
-          ∙ length-append (large_text behind) (head ++ body) ∙ (let a = length-large behind in let b = length-append head body in
-          let c = length-format12 gs in omega (arith, a, b, c, long))));
+      headers = four_headers behind records head4 head12;
+      format4 = has_format4 2 20 36 refl (omega (arith, counted4)) records.third head4.format;
+      told_in_4 = large_told behind (in_segments ms) records head12.format
+          (told4 cmap 36 low (in_segments ms) (in_segments_rise ms rise) (in_segments_below ms) low_is low_fit m);
     }

@@ -91,11 +91,11 @@ later : (g : Group) (gs : List Group) (char glyph : ℕ) → OneGives gs char gl
 later g gs char glyph one = record { i = suc one.i; group = one.group; there = one.there; gives = one.gives }
 
 -- the test
-record GoesOn (g : Group) (m : Mapping) : Type 0 where
-  next : m.char ≡ g.end + 1
-  glyph : m.glyph + g.start ≡ g.glyph + m.char
+pub record GoesOn (g : Group) (m : Mapping) : Type 0 where
+  pub next : m.char ≡ g.end + 1
+  pub glyph : m.glyph + g.start ≡ g.glyph + m.char
 
-goes : (g : Group) (m : Mapping) → goes_on g m ≡ true → GoesOn g m
+pub goes : (g : Group) (m : Mapping) → goes_on g m ≡ true → GoesOn g m
 goes g m e = record { next = grind (arith, nat_tests); glyph = grind (arith, nat_tests) }
 
 longer-gives : (g : Group) (m : Mapping) (char glyph : ℕ) → goes_on g m ≡ true → Gives g char glyph → Gives (longer g m.char) char glyph
@@ -103,7 +103,7 @@ longer-gives g m char glyph e gives =
     let on = (goes g m e).next in let to = gives.to in record { from = gives.from; to = omega (arith, on, to); is = gives.is }
 
 -- the two cases of one more character
-cases : (g : Group) (m : Mapping) (ms : List Mapping) (P : List Group → Type 0) → (goes_on g m ≡ true → P (grouped (longer g m.char) ms)) →
+pub cases : (g : Group) (m : Mapping) (ms : List Mapping) (P : List Group → Type 0) → (goes_on g m ≡ true → P (grouped (longer g m.char) ms)) →
     (goes_on g m ≡ false → P (g ∷ grouped (group_of m) ms)) → P (grouped g (m ∷ ms))
 unfolding grouped
 cases g m ms P on off = by (goes_on g m) refl
@@ -119,7 +119,7 @@ first_gives g (m ∷ ms) char glyph gives = cases g m ms (λ gs. OneGives gs cha
     (λ e. first_gives (longer g m.char) ms char glyph (longer-gives g m char glyph e gives))
     (λ e. record { i = 0; group = g; there = refl; gives = gives })
 
-own_gives : (m : Mapping) → Gives (group_of m) m.char m.glyph
+pub own_gives : (m : Mapping) → Gives (group_of m) m.char m.glyph
 own_gives m = record { from = omega arith; to = omega arith; is = refl }
 
 longer_own : (g : Group) (m : Mapping) → g.start ≤ g.end → goes_on g m ≡ true → Gives (longer g m.char) m.char m.glyph

@@ -1,6 +1,5 @@
 -- The headers of the subtables that were written.
-use Rattle.std.proofs.Common.{◌≡◌, refl, sym, ap, subst, ◌∙◌, inl, inr, ℕ, zero, suc, ◌+◌, ◌-◌, ◌*◌, ◌^◌, ◌≤◌, ◌<◌, List, ◌++◌, length, length-append, arith}
-use Rattle.std.specs.Prelude.{◌⊎◌}
+use Rattle.std.proofs.Common.{◌≡◌, refl, sym, ap, subst, ◌∙◌, ℕ, ◌+◌, ◌-◌, ◌*◌, ◌^◌, ◌≤◌, ◌<◌, List, ◌++◌, length, length-append, arith}
 use Rattle.postscript_base.specs.Index.{number_at}
 use Rattle.postscript_sfnt_write.specs.Grouping.{format12_text, groups_text, head4_text, rows_text}
 use Rattle.postscript_sfnt_write.specs.Headers.{HasHeader12, HasHeader4, IsLogarithm}

@@ -6,6 +6,7 @@ pub mod Opening
 pub mod Adjusting
 pub mod Measuring
 pub mod Groups
+pub mod Segments
 pub mod Mapped
 pub mod Mapped4
 pub mod Headed

@@ -1,6 +1,8 @@
 -- Characters and their glyphs (ISO/IEC 14496-22, 5.2.1).
-use Rattle.std.specs.Prelude.{◌≡◌, ℕ, ◌+◌, ◌*◌, ◌^◌, ◌<◌, ◌≤◌, List, Some, length, drop, slice_get}
-use Rattle.postscript_sfnt.specs.Choice.{IsChosen, place_at}
+use Rattle.std.specs.List.{filter}
+use Rattle.std.specs.Prelude.{◌≡◌, ℕ, ◌+◌, ◌*◌, ◌^◌, ◌<◌, ◌≤◌, Bool, ◌==◌, ◌&&◌, nat_lt, if◌then◌else◌, List, [], ◌∷◌, Some, length, drop, slice_get}
+use Rattle.postscript_base.specs.Index.{number_at}
+use Rattle.postscript_sfnt.specs.Choice.{IsChosen, encoding_at, place_at, platform_at, records_of}
 use Rattle.postscript_sfnt.specs.Maps.{IsMapAt, IsWhole, Maps}
 use Rattle.postscript_sfnt.specs.declared.character_map.CharacterMap.{CharacterMap}
 use Rattle.postscript_sfnt_write.specs.declared.error.Error.{Error}
@@ -33,6 +35,40 @@ pub record IsReadable (cmap : List ℕ) : Type 0 where
   pub i : ℕ
   pub chosen : IsChosen cmap i
   pub whole : IsWhole (drop (place_at cmap i) cmap)
+
+-- A mapping continues the one before it: its character is the next one, and so is its glyph.
+abbrev pub continues : (before mapping : Mapping) → Bool
+continues before mapping = (mapping.char == before.char + 1) && (mapping.glyph == before.glyph + 1)
+
+-- The number of segments of mappings ("Format 4"). A mapping that does not continue the one before it begins a new segment.
+abbrev pub segments_after : (before : Mapping) → List Mapping → ℕ
+segments_after before [] = 0
+segments_after before (mapping ∷ mappings) = (if continues before mapping then 0 else 1) + segments_after mapping mappings
+
+abbrev pub segments : List Mapping → ℕ
+segments [] = 0
+segments (mapping ∷ mappings) = 1 + segments_after mapping mappings
+
+-- the mappings of characters below U+FFFF
+abbrev pub low : List Mapping → List Mapping
+low mappings = filter (λ mapping. nat_lt mapping.char 0xffff) mappings
+
+-- the mappings in a subtable of format 4: those of characters below U+FFFF, or none if they form more than 8,000 segments
+abbrev pub in_segments : List Mapping → List Mapping
+in_segments mappings = if nat_lt 8000 (segments (low mappings)) then [] else low mappings
+
+-- an encoding record for the first plane of Unicode on Windows, with a subtable of format 4
+pub record HasFormat4 (cmap : List ℕ) : Type 0 where
+  pub i : ℕ
+  pub listed : i < records_of cmap
+  pub platform : platform_at cmap i ≡ 3
+  pub encoding : encoding_at cmap i ≡ 1
+  pub format : number_at cmap (place_at cmap i) 2 ≡ 4
+
+-- Each subtable of format 4 gives the glyphs in these mappings.
+abbrev pub AreToldIn4 : (cmap : List ℕ) → List Mapping → Type 0
+AreToldIn4 cmap mappings = (i : ℕ) (map : CharacterMap) → i < records_of cmap → number_at cmap (place_at cmap i) 2 ≡ 4 →
+    IsMapAt cmap (place_at cmap i) map → Tells map mappings
 
 -- when each error is possible
 abbrev pub RefusesMap : Error → List Mapping → Type 0

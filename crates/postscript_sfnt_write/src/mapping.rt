@@ -1,6 +1,6 @@
 //! Writes character maps (ISO/IEC 14496-22, 5.2.1).
 ghost use Rattle.std.specs.Prelude.{◌≡◌, ℕ, ◌+◌, ◌*◌, ◌^◌, ◌<◌, ◌≤◌, [], ◌∷◌, ◌++◌, List, length, IsTrue, ◌↔◌, OnOk, IfOk, IfErr};
-ghost use Rattle.postscript_sfnt_write.specs.Mappings.{AreTold, CharsRise, IsReadable, RefusesMap};
+ghost use Rattle.postscript_sfnt_write.specs.Mappings.{AreTold, AreToldIn4, CharsRise, HasFormat4, IsReadable, RefusesMap, in_segments, low as the_low};
 ghost use Rattle.postscript_sfnt_write.specs.Headers.{HaveHeaders, IsLogarithm};
 ghost use Rattle.postscript_sfnt_write.specs.Grouping.{MappingsFit, AreBelow, MappingFits, GroupFits, GroupsFit, IsLarge, IsSmall, encoding_text, end, format12_text, goes_on as the_goes_on, group_of as the_group_of, group_text, grouped, groups as the_groups, groups_text, head4_text, large_text, row_number, row_text, rows_text};
 ghost use Rattle.postscript_sfnt_write.specs.declared.mapping.Mapping.{Mapping};
@@ -288,17 +288,31 @@ fn small(alloc: Global, segments: &[Group]) -> std::result::Result<Vec<u8>, Allo
     Ok(table)
 }
 
+/// The characters below U+FFFF.
+fn low(alloc: Global, mappings: &[Mapping]) -> std::result::Result<Vec<Mapping>, AllocError>
+    ensures { IfOk result (λ low. low.items ≡ the_low mappings.now) }
+{
+    mappings
+        .iter()
+        .filter(|mapping| mapping.char < END.char)
+        .copied()
+        .collect(alloc)
+}
+
 /// The segments of the characters below U+FFFF, or only the last segment if there are too many.
 fn low_segments(alloc: Global, mappings: &[Mapping]) -> std::result::Result<Vec<Group>, AllocError>
+    ensures exact { IfOk result (λ segments. segments.items ≡ the_groups (in_segments mappings.now ++ end ∷ [])) }
+    ensures fit { OnOk result (MappingsFit (in_segments mappings.now ++ end ∷ [])) }
     ensures some { IfOk result (λ segments. 0 < length segments.items) }
     ensures most { IfOk result (λ segments. length segments.items < 8002) }
 {
-    let below = mappings.partition_point(|mapping| mapping.char < END.char);
-    let low = segments(alloc, &mappings[..below])?;
+    let below = low(alloc, mappings)?;
+    let low = segments(alloc, &below)?;
     if low.len() <= SEGMENTS {
         return Ok(low);
     }
-    segments(alloc, &[])
+    let last = segments(alloc, &[])?;
+    Ok(last)
 }
 
 /// The encoding records of a subtable of format 4 and of one of format 12 after it.
@@ -345,6 +359,8 @@ fn of_both(alloc: Global, mappings: &[Mapping]) -> std::result::Result<Vec<u8>, 
     ensures read { IfOk result (λ cmap. IsReadable cmap.items) }
     ensures told { IfOk result (λ cmap. AreTold cmap.items mappings.now) }
     ensures headers { IfOk result (λ cmap. HaveHeaders cmap.items) }
+    ensures format4 { IfOk result (λ cmap. HasFormat4 cmap.items) }
+    ensures told_in_4 { IfOk result (λ cmap. AreToldIn4 cmap.items (in_segments mappings.now)) }
 {
     let low = low_segments(alloc, mappings)?;
     let all = groups(alloc, mappings)?;
@@ -367,6 +383,8 @@ fn of_segments(
     ensures read { IfOk result (λ cmap. IsReadable cmap.items) }
     ensures told { IfOk result (λ cmap. AreTold cmap.items mappings.now) }
     ensures headers { IfOk result (λ cmap. HaveHeaders cmap.items) }
+    ensures format4 { IfOk result (λ cmap. HasFormat4 cmap.items) }
+    ensures told_in_4 { IfOk result (λ cmap. AreToldIn4 cmap.items (in_segments mappings.now)) }
 {
     let table = small(alloc, segments)?;
     Ok(table)
@@ -375,7 +393,8 @@ fn of_segments(
 /// Writes a `cmap` table of characters in strictly ascending order, each with its glyph. Glyph 0 means no glyph.
 ///
 /// The subtable has format 4 if all characters are below U+FFFF and form at most 8,000 segments. Otherwise the table
-/// has subtables of formats 4 and 12.
+/// has subtables of formats 4 and 12. The one of format 4 has the characters below U+FFFF, or none if these form more
+/// than 8,000 segments.
 ///
 /// # Errors
 ///
@@ -389,6 +408,10 @@ pub fn cmap(alloc: Global, mappings: &[Mapping]) -> Result<Vec<u8>>
     ensures told { IfOk result (λ cmap. AreTold cmap.items mappings.now) }
     // Each subtable has its length, the language 0 and, in format 4, its search fields.
     ensures headers { IfOk result (λ cmap. HaveHeaders cmap.items) }
+    // There is a subtable of format 4, for the first plane of Unicode on Windows.
+    ensures format4 { IfOk result (λ cmap. HasFormat4 cmap.items) }
+    // It maps exactly the characters below U+FFFF, unless they form more than 8,000 segments: then it maps none.
+    ensures told_in_4 { IfOk result (λ cmap. AreToldIn4 cmap.items (in_segments mappings.now)) }
     // A success means that the characters are in strictly ascending order.
     ensures rise { OnOk result (CharsRise mappings.now) }
     // An error is justified by the order or the number of characters, or it is `Memory`.

@@ -10,7 +10,8 @@ answer c =
     let few = c.in_ok-all.ensures.few in
     let room = c.requires.room in
     large_answer c.in_ok-table.table.items c.as_slice.result.now c.as_slice-2.result.now c.args.mappings.now c.requires.rise
-    (c.as_slice-2.ensures.value ∙ c.in_ok-all.ensures.exact) (omega (arith, low, most))
+    (c.as_slice-2.ensures.value ∙ c.in_ok-all.ensures.exact) (c.as_slice.ensures.value ∙ c.in_ok-low.ensures.exact)
+    c.in_ok-low.ensures.fit (omega (arith, low, most))
     (omega (arith, all, few, room)) c.in_ok-all.ensures.fit c.in_ok-table.ensures.fit c.in_ok-table.ensures.text
 
 pub returns-clause-read : goal.returns-clause-read
@@ -21,3 +22,9 @@ returns-clause-told c = (answer c).told
 
 pub returns-clause-headers : goal.returns-clause-headers
 returns-clause-headers c = (answer c).headers
+
+pub returns-clause-format4 : goal.returns-clause-format4
+returns-clause-format4 c = (answer c).format4
+
+pub returns-clause-told_in_4 : goal.returns-clause-told_in_4
+returns-clause-told_in_4 c = (answer c).told_in_4

@@ -14,3 +14,9 @@ returns-clause-told c = (answer c).told
 
 pub returns-clause-headers : goal.returns-clause-headers
 returns-clause-headers c = (answer c).headers
+
+pub returns-clause-format4 : goal.returns-clause-format4
+returns-clause-format4 c = (answer c).format4
+
+pub returns-clause-told_in_4 : goal.returns-clause-told_in_4
+returns-clause-told_in_4 c = (answer c).told_in_4
