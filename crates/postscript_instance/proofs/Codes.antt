@@ -9,8 +9,8 @@ use Rattle.postscript_instance.specs.Naming.{IsCalled}
 use Rattle.postscript_instance.specs.declared.naming.Naming.{Naming}
 use Rattle.postscript_cff2.specs.declared.font.Font.{Font}
 use Rattle.postscript_instance.specs.Dictionaries.{KeepDictionaries}
-use Rattle.std.specs.Borrow.{Bor}
-use Rattle.postscript_instance.specs.Encoded.{AreSources, IsSource}
+use Rattle.postscript_instance.specs.Hints.{AreHintsAt, IsPrivateAt, IsSource}
+use Rattle.postscript_variable_font.specs.declared.place.Place.{Place}
 use Rattle.postscript_instance.specs.Glyphs.{AreCodes}
 use Rattle.postscript_instance.specs.Whole.{AreOfFont, IsWhole}
 use Rattle.postscript_instance.proofs.Compared.{same-items}
@@ -85,12 +85,12 @@ same-code : (codes : List (Vec ℕ Global)) (i : ℕ) (a b : Vec ℕ Global) →
 same-code codes i a b h k = let both : Some a ≡ Some b = sym h ∙ k in cc
 
 -- the table of codes that do what they are to do
-pub table-of : (does : (glyph : ℕ) → (advance : ℤ) → (code : List ℕ) → Type 0) (font : Font) (naming : Naming) (advances : List ℤ)
+pub table-of : (does : (glyph : ℕ) → (advance : ℤ) → (code : List ℕ) → Type 0) (font : Font) (place : Place) (naming : Naming) (advances : List ℤ)
     (bytes : List ℕ) (codes : List (Vec ℕ Global)) (view : View) →
     AreCodes does advances (length advances) codes → IsLaidOut bytes 0 view → IsPlainFont view codes → IsCalled naming bytes view →
-    KeepDictionaries font bytes view (length codes) → (privates : List (List ℕ)) → AreOfFont font privates → IsWhole font naming (texts codes) privates bytes →
-    IsTable does font naming advances bytes
-table-of does font naming advances bytes codes view are stands plain called keep privates are_privates whole =
+    KeepDictionaries font bytes view (length codes) → (privates : List (List ℕ)) → AreOfFont font privates → AreHintsAt font place privates (length privates) → IsWhole font naming (texts codes) privates bytes →
+    IsTable does font place naming advances bytes
+table-of does font place naming advances bytes codes view are stands plain called keep privates are_privates hints whole =
     let many = are.counted in
     let all = plain.items.counted in record {
       view = view;
@@ -107,20 +107,21 @@ table-of does font naming advances bytes codes view are stands plain called keep
       dictionaries = λ glyph less. keep glyph (omega (arith, less, many));
       privates = privates;
       are_privates = are_privates;
+      hints = hints;
       whole = subst (λ items. IsWhole font naming items privates bytes)
           (sym (same-items view.char_strings codes plain.items.counted plain.items.each)) whole;
     }
 
-pub one-source : (font : Font) (n : ℕ) (xs : List (Bor (List ℕ))) (x : Bor (List ℕ)) → AreSources font xs n → IsSource font n x.now →
-    AreSources font (xs ++ x ∷ []) (n + 1)
-one-source font n xs x are is =
-    let many = are.counted in
-    let long = length-append xs (x ∷ []) in
-    let at_end : slice_get (xs ++ x ∷ []) n ≡ Some x = subst (λ k. slice_get (xs ++ x ∷ []) k ≡ Some x) many (last xs x) in
-    record {
-      counted = omega (arith, many, long);
-      each = λ number h. elim (either number n h) [
-        | inl less ↦ let old = are.each number less in (old.0, stays xs x number (omega (arith, less, many)) ∙ old.1, old.2)
-        | inr same ↦ (x, ap (slice_get (xs ++ x ∷ [])) same ∙ at_end, subst (λ k. IsSource font k x.now) (sym same) is)
-      ];
-    }
+pub one-private : (font : Font) (place : Place) (texts : List (List ℕ)) (n : ℕ) (source text : List ℕ) → length texts ≡ n →
+    AreHintsAt font place texts n → IsSource font n source → IsPrivateAt place.tables.items source text →
+    AreHintsAt font place (texts ++ text ∷ []) (n + 1)
+one-private font place texts n source text many are from is number h = elim (either number n h) [
+  | inl less ↦ (let old = are number less in (old.0, old.1, old.2, stays texts text number (omega (arith, less, many)) ∙ old.3, old.4))
+  | inr same ↦ (
+    source,
+    text,
+    subst (λ k. IsSource font k source) (sym same) from,
+    subst (λ k. slice_get (texts ++ text ∷ []) k ≡ Some text) (many ∙ sym same) (last texts text),
+    is,
+  )
+]

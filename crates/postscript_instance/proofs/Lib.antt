@@ -9,6 +9,7 @@ pub mod Runs
 pub mod Shortest
 pub mod Operations
 pub mod Codes
+pub mod Hinting
 pub mod Dictionaries
 pub mod Nearest
 pub mod Units

@@ -14,6 +14,8 @@ pub mod Dictionaries
 pub mod Whole
 pub mod Encoded
 pub mod Found
+pub mod Reals
+pub mod Hints
 pub mod Tables
 pub mod Advances
 pub mod Axes

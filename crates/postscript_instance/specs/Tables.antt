@@ -10,6 +10,7 @@ use Rattle.postscript_view.specs.Layout.{IsLaidOut}
 use Rattle.postscript_view.specs.Contents.{PrivateDict, View}
 use Rattle.postscript_instance.specs.Dictionaries.{KeepDictionaries}
 use Rattle.postscript_instance.specs.Glyphs.{AreWidthsOf, DoesAt, DoesRoundedAt}
+use Rattle.postscript_instance.specs.Hints.{AreHintsAt}
 use Rattle.postscript_instance.specs.Naming.{IsCalled}
 use Rattle.postscript_instance.specs.Placed.{IsPlaceIn}
 use Rattle.postscript_instance.specs.Whole.{AreOfFont, IsWhole}
@@ -39,9 +40,10 @@ pub record IsPlainFont (view : View) (codes : List (Vec ℕ Global)) : Type 0 wh
 
 -- The bytes contain a font without subroutines (Technical Note 5176, "CFF Data Layout"). For each glyph, `does` holds of its advance
 -- and its code, and nothing is added to widths. Each glyph has the Font DICT with the same number as in the other font. The font and its
--- glyphs have the given names. There is nothing else in the bytes: all of them are parts of the table.
-pub record IsTable (does : (glyph : ℕ) → (advance : ℤ) → (code : List ℕ) → Type 0) (font : Font) (naming : Naming) (advances : List ℤ)
-    (bytes : List ℕ) : Type 0 where
+-- glyphs have the given names. The Private DICTs have the hints at the location. There is nothing else in the bytes: all of them are parts
+-- of the table.
+pub record IsTable (does : (glyph : ℕ) → (advance : ℤ) → (code : List ℕ) → Type 0) (font : Font) (place : Place) (naming : Naming)
+    (advances : List ℤ) (bytes : List ℕ) : Type 0 where
   pub view : View
   pub stands : IsLaidOut bytes 0 view
   pub counted : length view.char_strings ≡ length advances
@@ -54,6 +56,7 @@ pub record IsTable (does : (glyph : ℕ) → (advance : ℤ) → (code : List �
   pub dictionaries : KeepDictionaries font bytes view (length advances)
   pub privates : List (List ℕ)
   pub are_privates : AreOfFont font privates
+  pub hints : AreHintsAt font place privates (length privates)
   pub whole : IsWhole font naming view.char_strings privates bytes
 
 -- The table of a font at the location of its advances. For each glyph, `does` holds of its code there, with its advance there as width.
@@ -63,7 +66,7 @@ pub record IsTableAt (does : Font → Place → (glyph : ℕ) → (advance : ℤ
   pub is_place : IsPlaceIn font.store advances.coordinates.now place
   pub widths : List ℤ
   pub are_widths : AreWidthsOf font advances widths
-  pub is_table : IsTable (does font place) font naming widths bytes
+  pub is_table : IsTable (does font place) font place naming widths bytes
 
 -- the table of a location: each code does the same as its glyph there
 abbrev pub IsTableOf : Font → Naming → AdvancesAt → List ℕ → Type 0

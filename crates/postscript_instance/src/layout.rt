@@ -1,8 +1,8 @@
 //! The layout of a `CFF ` table (Technical Note 5176, "CFF Data Layout", "CID-keyed Fonts"). The callers read the
 //! result back.
 ghost use Rattle.std.specs.Prelude.{◌≡◌, ◌≤◌, ◌++◌, ℕ, List, [], ◌∷◌, IfErr, IfOk, IsTrue, OnOk, length};
-ghost use Rattle.std.specs.List.{slice_range};
 ghost use Rattle.postscript_instance.specs.Found.{matrix_of as the_matrix};
+ghost use Rattle.postscript_instance.specs.Hints.{AreHintsAt};
 ghost use Rattle.postscript_instance.specs.Refusals.{IsLate};
 ghost use Rattle.postscript_instance.specs.Whole.{AreOfFont, IsMatrixOf, IsWhole, adobe, header, identity};
 ghost use Rattle.postscript_instance.specs.Encoded.{IsAppended, integer_text, operation_text, ros_text};
@@ -12,7 +12,7 @@ use crate::error::{Error, Result};
 use crate::indices::{put_index, put_integer, put_operation, put_short, put_single};
 use crate::naming::{Identifiers, Naming};
 use crate::parts::{Content, is_keyed, is_named, matrix_in, operation_in};
-use crate::privates::{private_of, readable, sources_of};
+use crate::privates::{between, private_bytes, private_of, readable};
 use postscript_base::compact1::Operand;
 use postscript_cff2::Font;
 use postscript_variable_font::Place;
@@ -151,12 +151,13 @@ fn select(alloc: Global, font: &Font<'_>, glyphs: usize) -> Result<Vec<u8>>
 /// The Private DICT of each Font DICT.
 pub(crate) fn privates_of(alloc: Global, font: &Font<'_>, place: &Place) -> Result<Vec<Vec<u8>>>
     ensures are { IfOk result (λ privates. AreOfFont font.now (texts privates.items)) }
+    ensures hints { IfOk result (λ privates. AreHintsAt font.now place.now (texts privates.items) (length (texts privates.items))) }
     ensures late { IfErr result (λ e. IsLate e) }
 {
-    let sources = sources_of(alloc, font)?;
     let mut privates = Vec::new(alloc);
-    for number in 0..sources.len() {
-        privates.push(private_of(alloc, sources[number], place)?)?;
+    for number in 0..font.font_dictionaries.len() {
+        let source = private_bytes(font, number);
+        privates.push(private_of(alloc, source, place)?)?;
     }
     Ok(privates)
 }
@@ -292,14 +293,6 @@ pub(crate) fn laid_out(
             laid_out_by_numbers(alloc, font, privates, name, &char_strings, codes.len())
         }
     }
-}
-
-/// The bytes from one offset to another.
-fn between(bytes: &[u8], from: usize, to: usize) -> &[u8]
-    requires { to ≤ length bytes.now }
-    ensures { result.now ≡ slice_range bytes.now from to }
-{
-    if from < to { &bytes[from..to] } else { &[] }
 }
 
 /// The operands of FontMatrix in the CFF2 Top DICT, if it has one that can be read.

@@ -4,6 +4,7 @@
 
 mod advances;
 mod axes;
+mod blending;
 mod error;
 mod indices;
 pub mod laws;

@@ -1,6 +1,9 @@
 //! Reals of DICTs with at most 18 significant digits, which is what `postscript_base` reads (Technical Note 5176, "DICT
 //! Data", Table 5).
-ghost use Rattle.std.specs.Prelude.{IfErr};
+ghost use Rattle.std.specs.Prelude.{◌≡◌, ◌≢◌, ◌++◌, ◌∷◌, ℕ, List, drop, false, IfErr, IfOk, OnOk};
+ghost use Rattle.postscript_base.specs.Compact1.Nibbles.{nibbles as the_nibbles};
+ghost use Rattle.postscript_instance.specs.Encoded.{one_or_none};
+ghost use Rattle.postscript_instance.specs.Reals.{byte_of as the_byte, cut, packed, real_text};
 ghost use Rattle.postscript_instance.specs.Refusals.{IsLate};
 
 use crate::error::Result;
@@ -30,44 +33,41 @@ struct Digits {
 }
 
 impl Digits {
-    /// Whether a nibble is a significant digit.
-    fn are_followed_by(&self, nibble: u8) -> bool {
-        nibble < POINT && !self.is_exponent && (nibble > 0 || self.count > 0)
-    }
-
     /// The nibble to write for a nibble of the real. A digit after the last significant one becomes 0 before the point,
     /// and is left out after it.
-    fn kept(&mut self, nibble: u8) -> Option<u8> {
+    fn kept(&mut self, nibble: u8) -> Option<u8>
+        requires { nibble ≢ 15 }
+        ensures { (rest : List ℕ) → cut self.old.count self.old.is_fraction self.old.is_exponent (nibble ∷ rest)
+            ≡ one_or_none result ++ cut self.new.count self.new.is_fraction self.new.is_exponent rest }
+    {
+        if nibble < POINT && !self.is_exponent && (nibble > 0 || self.count > 0) {
+            if self.count < DIGITS {
+                self.count += 1;
+                return Some(nibble);
+            }
+            return if self.is_fraction { None } else { Some(0) };
+        }
         self.is_fraction = self.is_fraction || nibble == POINT;
-        self.is_exponent = self.is_exponent || nibble == EXPONENT || nibble == NEGATIVE_EXPONENT;
-        if !self.are_followed_by(nibble) {
-            return Some(nibble);
-        }
-        self.count = self.count.saturating_add(1);
-        if self.count <= DIGITS {
-            Some(nibble)
-        } else if self.is_fraction {
-            None
-        } else {
-            Some(0)
-        }
+        self.is_exponent = self.is_exponent || (nibble == EXPONENT || nibble == NEGATIVE_EXPONENT);
+        Some(nibble)
     }
 }
 
 /// The nibbles of bytes.
 fn nibbles_of(alloc: Global, bytes: &[u8]) -> Result<Vec<u8>>
+    ensures are { IfOk result (λ nibbles. nibbles.items ≡ the_nibbles bytes.now) }
     ensures late { IfErr result (λ e. IsLate e) }
 {
     let mut nibbles = Vec::new(alloc);
     for byte in bytes {
-        nibbles.push(byte / 16)?;
-        nibbles.push(byte % 16)?;
+        nibbles.extend_from_slice(&[byte / 16, byte % 16])?;
     }
     Ok(nibbles)
 }
 
 /// The nibbles of a real up to its end, with at most 18 significant digits.
 fn shortened(alloc: Global, nibbles: &[u8]) -> Result<Vec<u8>>
+    ensures are { IfOk result (λ kept. kept.items ≡ cut 0 false false nibbles.now) }
     ensures late { IfErr result (λ e. IsLate e) }
 {
     let mut digits = Digits {
@@ -78,30 +78,54 @@ fn shortened(alloc: Global, nibbles: &[u8]) -> Result<Vec<u8>>
     let mut kept = Vec::new(alloc);
     for nibble in nibbles {
         if *nibble == END {
-            break;
+            return Ok(kept);
         }
         if let Some(nibble) = digits.kept(*nibble) {
             kept.push(nibble)?;
         }
     }
-    kept.push(END)?;
-    if kept.len() % 2 == 1 {
-        kept.push(END)?;
-    }
     Ok(kept)
+}
+
+/// A byte of two nibbles.
+fn byte_of(high: u8, low: u8) -> u8
+    ensures { result ≡ the_byte high low }
+{
+    high % 16 * 16 + low % 16
+}
+
+/// Appends nibbles, and the end of a real.
+fn put_nibbles(out: &mut Vec<u8>, nibbles: &[u8]) -> Result<()>
+    ensures text { OnOk result (out.new.items ≡ out.old.items ++ packed nibbles.now) }
+    ensures late { IfErr result (λ e. IsLate e) }
+{
+    let mut rest = nibbles;
+    while rest.len() > 1 {
+        out.push(byte_of(rest[0], rest[1]))?;
+        rest = &rest[2..];
+    }
+    let high = if rest.is_empty() { END } else { rest[0] };
+    out.push(byte_of(high, END))?;
+    Ok(())
+}
+
+/// The bytes of a real after the first.
+fn digits_of(real: &[u8]) -> &[u8]
+    ensures { result.now ≡ drop 1 real.now }
+{
+    match real {
+        [_first, digits @ ..] => digits,
+        [] => &[],
+    }
 }
 
 /// Appends a real with at most 18 significant digits. More digits are cut off.
 pub(crate) fn put_real(alloc: Global, out: &mut Vec<u8>, real: &[u8]) -> Result<()>
+    ensures text { OnOk result (out.new.items ≡ out.old.items ++ real_text real.now) }
     ensures late { IfErr result (λ e. IsLate e) }
 {
-    let nibbles = nibbles_of(alloc, real.get(1..).unwrap_or(&[]))?;
+    let nibbles = nibbles_of(alloc, digits_of(real))?;
     let kept = shortened(alloc, &nibbles)?;
     out.push(REAL)?;
-    for pair in kept.chunks(2) {
-        let high = pair.first().copied().unwrap_or(END);
-        let low = pair.get(1).copied().unwrap_or(END);
-        out.push((high % 16) * 16 + low % 16)?;
-    }
-    Ok(())
+    put_nibbles(out, &kept)
 }

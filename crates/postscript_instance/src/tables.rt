@@ -214,7 +214,7 @@ fn table_of(
     widths: &[Operand],
     numbers: Numbers,
 ) -> Result<Vec<u8>>
-    ensures written { IfOk result (λ bytes. IsTable (DoesIn numbers font.now place.now) font.now naming.now widths.now bytes.items) }
+    ensures written { IfOk result (λ bytes. IsTable (DoesIn numbers font.now place.now) font.now place.now naming.now widths.now bytes.items) }
     ensures refused { IfErr result (λ e. LacksCode numbers font.now place.now widths.now e
         ⊎ HasNoRoom numbers font.now naming.now place.now widths.now e) }
 {
@@ -278,13 +278,13 @@ fn table_at(
 ///
 /// The Private DICTs have the hints of the CFF2 ones, as zones and stem widths. Blended hints are rounded to the
 /// nearest whole unit, and up if it is halfway. In zones and lists of widths each edge is rounded. A hint is left out
-/// if it blends numbers that are not whole, or if it does not fit into 16 bits. Reals of hints and of FontMatrix are cut
+/// if it blends reals, or if a number or an edge does not fit into 16 bits. Reals of hints and of FontMatrix are cut
 /// off after 18 significant digits. An operator whose numbers still cannot be read is left out.
 ///
 /// The table is read back after writing. The clauses cover all its parts, one after the other, up to the last byte: the
-/// header, the name, the operations of the Top DICT and the Font DICTs, the strings, the charset, FDSelect and the
-/// charstrings. They say that a Private DICT has only hints and the two widths, but not which hints: these have tests
-/// (`postscript_variable_vectors`), as has a FontMatrix with a real of more than 18 digits.
+/// header, the name, the operations of the Top DICT and the Font DICTs, the strings, the charset, FDSelect, the
+/// charstrings and the Private DICTs with their hints. Only a FontMatrix with a real of more than 18 digits has no
+/// clause, but tests (`postscript_variable_vectors`).
 ///
 /// # Errors
 ///

@@ -410,7 +410,7 @@ pub fn cmap(alloc: Global, mappings: &[Mapping]) -> Result<Vec<u8>>
     ensures headers { IfOk result (λ cmap. HaveHeaders cmap.items) }
     // There is a subtable of format 4, for the first plane of Unicode on Windows.
     ensures format4 { IfOk result (λ cmap. HasFormat4 cmap.items) }
-    // It maps exactly the characters below U+FFFF, unless they form more than 8,000 segments: then it maps none.
+    // It maps exactly the characters below U+FFFF, or none if these form over 8,000 segments.
     ensures told_in_4 { IfOk result (λ cmap. AreToldIn4 cmap.items (in_segments mappings.now)) }
     // A success means that the characters are in strictly ascending order.
     ensures rise { OnOk result (CharsRise mappings.now) }

@@ -10,7 +10,7 @@ returns-in-Ok-clause-written c = record {
   widths = c.in_ok-widths.widths.items;
   are_widths = c.in_ok-widths.ensures.are;
   is_table =
-      subst (λ widths. IsTable (DoesIn c.args.numbers c.args.font.now c.in_ok-place.place) c.args.font.now c.args.naming.now widths
+      subst (λ widths. IsTable (DoesIn c.args.numbers c.args.font.now c.in_ok-place.place) c.args.font.now c.in_ok-place.place c.args.naming.now widths
       c.in-Ok.bytes.items) c.deref.ensures.value
       c.in-Ok.ensures.written;
 }

@@ -23,10 +23,10 @@ returns-clause-written c =
     c.deref-8.ensures.value
     (subst (λ bytes. IsWhole c.args.font.now c.args.naming.now (texts c.deref-7.result.now) (texts c.deref-8.result.now) bytes)
     c.deref-6.ensures.value is)) in
-    table-of (DoesIn c.args.numbers c.args.font.now c.args.place.now) c.args.font.now c.args.naming.now c.args.widths.now
+    table-of (DoesIn c.args.numbers c.args.font.now c.args.place.now) c.args.font.now c.args.place.now c.args.naming.now c.args.widths.now
     c.in_ok-bytes.bytes.items c.in_ok-codes.codes.items back.0 c.in_ok-codes.ensures.are
     (subst (λ bytes. IsLaidOut bytes 0 back.0) c.deref-4.ensures.value back.1) (subst (IsPlainFont back.0) c.deref-5.ensures.value back.2)
     (subst (λ bytes. IsCalled c.args.naming.now bytes back.0) c.deref-4.ensures.value back.3)
     (subst (λ bytes. KeepDictionaries c.args.font.now bytes back.0 (length c.in_ok-codes.codes.items)) c.deref-4.ensures.value
     (subst (λ (codes : List (Vec ℕ Global)). KeepDictionaries c.args.font.now c.deref-4.result.now back.0 (length codes))
-    c.deref-5.ensures.value back.4)) (texts c.in_ok-privates.privates.items) c.in_ok-privates.ensures.are whole
+    c.deref-5.ensures.value back.4)) (texts c.in_ok-privates.privates.items) c.in_ok-privates.ensures.are c.in_ok-privates.ensures.hints whole
