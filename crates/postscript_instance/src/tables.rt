@@ -281,9 +281,9 @@ fn table_at(
 /// if it blends reals, or if a number or an edge does not fit into 16 bits. Reals of hints and of FontMatrix are cut
 /// off after 18 significant digits. An operator whose numbers still cannot be read is left out.
 ///
-/// The table is read back after writing. The clauses cover all its parts, one after the other, up to the last byte: the
-/// header, the name, the operations of the Top DICT and the Font DICTs, the strings, the charset, FDSelect, the
-/// charstrings and the Private DICTs with their hints. Only a FontMatrix with a real of more than 18 digits has no
+/// The table is read back after writing. The clauses cover all its parts, one after the other, up to the last byte. These
+/// are the header, the name, the operations of the Top DICT and the Font DICTs, the strings, the charset, FDSelect, the
+/// charstrings, and the Private DICTs with their hints. Only a FontMatrix with a real of more than 18 digits has no
 /// clause, but tests (`postscript_variable_vectors`).
 ///
 /// # Errors
