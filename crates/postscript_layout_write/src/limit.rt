@@ -15,3 +15,17 @@ pub(crate) fn pay(limit: &mut u64) -> Result<()>
     *limit -= 1;
     Ok(())
 }
+
+/// Pays some units from the limit. If there are fewer, nothing of the limit is left.
+pub(crate) fn pay_all(limit: &mut u64, units: usize) -> Result<()>
+    ensures spends { limit.new ≤ limit.old }
+    ensures why { IfErr result (λ e. IsUsedUp limit.new e) }
+{
+    let units = units as u64;
+    if *limit < units {
+        *limit = 0;
+        return Err(Error::TooLong);
+    }
+    *limit -= units;
+    Ok(())
+}

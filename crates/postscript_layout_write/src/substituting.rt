@@ -10,7 +10,7 @@ ghost use Rattle.postscript_layout_write.specs.Substituting.{KeepsSubstitutions,
 ghost use Rattle.postscript_layout_write.specs.declared.error.Error.TheVariants as errors;
 
 use crate::error::{Error, Result};
-use crate::limit::pay;
+use crate::limit::{pay, pay_all};
 use crate::numbers::{put_uint16, word};
 use crate::positioning::put_front;
 use crate::renumbering::new_numbers;
@@ -175,6 +175,7 @@ fn put_each(
     let count = word(gsub, list);
     for i in 0..count {
         pay(limit)?;
+        pay_all(limit, lookups.len())?;
         let lookup = list + word(gsub, list + 2 + i * 2);
         if bytes.len() > 65535 {
             return Err(Error::TooLarge);
@@ -234,9 +235,9 @@ fn put_list(
 /// are all kept: single, multiple, alternate and ligature substitutions. All other lookups have no subtables, and neither
 /// has a lookup with a flag above bit 3.
 ///
-/// One unit of the limit is paid for each language system, script, feature and lookup, and for each kept glyph in each
-/// lookup that is kept. One more is paid for each subtable, covered glyph, range, ligature and glyph of a rule that is
-/// looked at.
+/// One unit of the limit is paid for each language system, script, feature and lookup, and for each chosen lookup with which
+/// a lookup is compared. One more is paid for each kept glyph in each lookup that is kept, and for each subtable, covered
+/// glyph, range, ligature and glyph of a rule that is looked at.
 ///
 /// # Errors
 ///

@@ -29,5 +29,5 @@ loop-i-preserved c =
           (subst (λ (n : ℕ). PutsRules c.new_type-kind.result (n % 16) a b d c.loop-i.bytes.items c.put_lookup.new.out.items)
           (c.word-flag.ensures.exact ∙ ap (λ (p : ℕ). word gsub (p + 2)) place) c.in_ok-put_lookup.ensures.done))
           (search rules);
-      spent = omega (arith, c.pay.ensures.spends, c.kept_sets.ensures.spends, c.loop-i.invariant.spent);
+      spent = omega (arith, c.pay.ensures.spends, c.pay_all.ensures.spends, c.kept_sets.ensures.spends, c.loop-i.invariant.spent);
     }
