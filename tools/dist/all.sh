@@ -2,8 +2,10 @@
 # Makes the files of a release in dist/, for x86-64 and aarch64: archives, Debian packages, wheels and a crate.
 #
 #     make dist
+#     tools/dist/all.sh LOG..
 #
-# The proved libraries and programs are built once, and put into each of them. Two runs on one commit give identical bytes
+# The proved libraries and programs are built once, and put into each of them. With LOGs of `rt ci`, the verdicts are taken from them
+# (tools/dist/prove.sh). Two runs on one commit give identical bytes
 # (tools/dist/reproducible.sh). If there is a dist/ already, abi.sh compares the new libraries with it: remove it first if it was never
 # released and the change is wanted. Needs `rt` on the path, and Debian's gcc, make, binutils, gcc-aarch64-linux-gnu, python3-build,
 # python3-setuptools and python3-wheel; abigail-tools to compare.
@@ -18,7 +20,7 @@ done
 work=$(mktemp -d)
 trap 'rm -r "$work"' EXIT
 "$top/tools/gate/version.sh"
-"$top/tools/dist/prove.sh" "$work/PROOF.txt"
+"$top/tools/dist/prove.sh" "$work/PROOF.txt" "$@"
 mkdir "$work/dist" "$work/trees"
 for processor in aarch64 x86_64; do
     export DIST_ARCH=$processor

@@ -1,12 +1,12 @@
 #!/usr/bin/python3
-"""Copies the libraries that `rt ci` proved on this machine into this checkout. The first `rt check` of a crate then starts with that crate,
-and not with the libraries below it.
+"""Copies the libraries and programs that `rt ci` proved on this machine into this checkout. The first `rt check` of a crate then starts with
+that crate, and not with the libraries below it, and out/NAME of a program can be run.
 
     tools/gate/libraries.py
 
-A library is copied if `rt ci` proved the same files over the same libraries, by the checksums of all its inputs. The script prints
-"given" or "lacking" for each one; the next check builds the lacking ones. It proves nothing, and writes only to crates/*/out. It uses
-internal functions of `rt`. If these change, it ends with an error, and a check builds the libraries as usual.
+A library or program is copied if `rt ci` proved the same files over the same libraries, by the checksums of all its inputs. The script
+prints "given" or "lacking" for each one; the next check builds the lacking ones. It proves nothing, and writes only to crates/*/out. It
+uses internal functions of `rt`. If these change, it ends with an error, and a check builds the libraries as usual.
 """
 
 import importlib.machinery
@@ -60,6 +60,10 @@ def main():
     kept.drop = lambda path: None
     for crate in lowest_first(crates):
         print(f"{crate.name}: {'given' if give(kept, crate) else 'lacking'}")
+    for crate in crates:
+        if crate.is_program:
+            os.makedirs(f"{crate.folder}/out", exist_ok=True)
+            print(f"{crate.name}: {'given' if kept.give(crate, False, kept.key(crate)) else 'lacking'}")
 
 
 if __name__ == "__main__":
