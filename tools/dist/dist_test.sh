@@ -191,7 +191,9 @@ if [ "${DIST_TEST_ONLY:-}" != amd64 ]; then
     begin arm64 "${DIST_TEST_ROOT_ARM64:-}"
     case_of 'aarch64: no rt, no compiler and no Python' 'test $(uname -m) = aarch64; refused command -v rt; refused command -v cc; refused command -v python3'
     got gcc libc6-dev pkg-config cmake make fonts-freefont-otf
-    case_of 'aarch64: the archive: a program in C, by pkg-config' 'tar -xzf dist/$(basename $N).tar.gz; export PKG_CONFIG_PATH=$N/lib/pkgconfig
+    # unpacked from outside, since on some kernels tar cannot change the modes of folders under qemu
+    for file in "$root/t/dist/$name.tar.gz" "$root"/t/dist/*.crate; do tar -xzf "$file" -C "$root/t"; done
+    case_of 'aarch64: the archive: a program in C, by pkg-config' 'export PKG_CONFIG_PATH=$N/lib/pkgconfig
         cc -Wall -Werror $N/examples/svg_glyph.c -o svg_glyph $(pkg-config --cflags --libs postscript)
         ./svg_glyph $F 0x41 > out/arm64_archive_c.svg; ./svg_glyph $S 0x41 > out/small_arm64_archive_c.svg'
     case_of 'ten fonts: 158 characters of each are drawn, aarch64' "$letters"
@@ -207,7 +209,7 @@ if [ "${DIST_TEST_ONLY:-}" != amd64 ]; then
         ./shared $F 0x41 > out/arm64_packages_c.svg'
     case_of 'aarch64: the packages: Python' 'cd tests; python3 -m unittest --quiet'
     got cargo
-    case_of 'aarch64: the crate: cargo add --path' "tar -xzf dist/*.crate; cargo init -q --vcs none --name app app; cd app
+    case_of 'aarch64: the crate: cargo add --path' "cargo init -q --vcs none --name app app; cd app
         cargo add -q --offline --path ../postscript-proved-\$V; echo '$main' > src/main.rs
         cargo build -q --offline; ./target/debug/app \$F > ../out/arm64_crate.svg"
     case_of 'aarch64: the crate: its tests and its examples' 'cd postscript-proved-$V; cargo test -q --offline'
