@@ -101,6 +101,7 @@ def run(name, command, fonts):
     head = f"date: {time.strftime('%Y-%m-%d')}\ncommit: {said_by('git', 'rev-parse', '--short=8', 'HEAD')}\ncommand: {command}\nstatus: {done.returncode}\nseconds: {time.time() - begun:.0f}\n"
     # apt says this if it downloads a package as root
     said = re.sub(r"^W: Download is performed unsandboxed .*\n", "", done.stdout, flags=re.M)
+    said = re.sub(r"/tmp/tmp[\w.]+", "TEMP", said)
     (LOGS / f"{name}.log").write_text(f"{head}\n{said.replace(fonts, 'FONTS').replace(str(TOP), '.')}")
     (LOGS / "rows.txt").write_text("".join(row_of(one) + "\n" for one, _, _ in SCRIPTS if head_of(one)))
     return done.returncode
