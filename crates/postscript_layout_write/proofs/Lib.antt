@@ -15,3 +15,6 @@ pub mod RuleWriting
 pub mod RuleReading
 pub mod RuleCollecting
 pub mod RuleKept
+pub mod Covering
+pub mod ContextCollecting
+pub mod ContextReading

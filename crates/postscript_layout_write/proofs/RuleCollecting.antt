@@ -5,10 +5,12 @@ use Rattle.std.specs.List.{Contains}
 use Rattle.std.proofs.lemmas.Bool.{le-ltb, lt-ltb}
 use Rattle.std.proofs.lemmas.List.{get_or_append_left, get_or_push}
 use Rattle.std.proofs.lemmas.List.Elements.{Contains-append_left, Contains-push}
+use Rattle.postscript_layout_write.specs.Contexts.{Context, contexts_at}
+use Rattle.postscript_layout_write.specs.Coverages.{HasChained, chained_text}
 use Rattle.postscript_layout_write.specs.Holds.{Holds}
 use Rattle.postscript_layout_write.specs.Pairs.{flag_of, lookup_at}
 use Rattle.postscript_layout_write.specs.Renumbering.{kept_rules}
-use Rattle.postscript_layout_write.specs.RuleLookups.{HasRuleLookups, new_type}
+use Rattle.postscript_layout_write.specs.RuleLookups.{HasNewLookup, HasRuleLookups, PutsNext, has_contexts, has_rules, new_type, puts_contexts, puts_rules}
 use Rattle.postscript_layout_write.specs.RuleSets.{AddsRules, AreRuleSets, HasRuleLookup, HasRules, HasRuleSubtable, PutsRules, has_ligatures, has_none, has_one, has_several, has_single, no_rules, puts_none, puts_one, rule_head_text, rules_text, some_rules}
 use Rattle.postscript_layout_write.specs.Rules.{rules_of_type, type_at}
 use Rattle.postscript_layout_write.specs.Substituting.{is_chosen, is_kept, keeps, new_rules, rules_at}
@@ -159,27 +161,60 @@ lookup-made type flag f n firsts numbers sets old new far (puts_one t fl fit few
     whole = subst (λ (xs : List ℕ). Holds ((rule_head_text type flag 1 ++ uint16 8) ++ rules_text type firsts numbers sets) xs (length old)) (sym is)
         (holds-last old ((rule_head_text type flag 1 ++ uint16 8) ++ rules_text type firsts numbers sets))
 
-pub rule-lookups-more : (gsub chosen kept : List ℕ) (i : ℕ) (firsts numbers sets offsets bytes newoffsets newbytes : List ℕ) →
-    HasRuleLookups gsub chosen kept i offsets bytes →
-    AreRuleSets (new_type gsub (lookup_at gsub i)) (new_rules gsub chosen kept i) (length kept) firsts numbers sets →
-    PutsRules (new_type gsub (lookup_at gsub i)) (flag_of gsub i % 16) firsts numbers sets bytes newbytes → newoffsets ≡ offsets ++ length bytes ∷ [] →
+chained-on : (flag : ℕ) (contexts : List Context) (bytes more : List ℕ) (at : ℕ) → HasChained flag contexts bytes at → HasChained flag contexts (bytes ++ more) at
+chained-on flag contexts bytes more at h = record {
+  offsets = h.offsets;
+  subtables = h.subtables;
+  have = h.have;
+  few = h.few;
+  fit = h.fit;
+  small = h.small;
+  there = holds-on more h.there;
+}
+
+new-on : (gsub chosen kept : List ℕ) (i : ℕ) (bytes more : List ℕ) (at : ℕ) → HasNewLookup gsub chosen kept i bytes at → HasNewLookup gsub chosen kept i (bytes ++ more) at
+new-on gsub chosen kept i bytes more at (has_rules is h) =
+    has_rules is (lookup-on (new_type gsub (lookup_at gsub i)) (flag_of gsub i % 16) (new_rules gsub chosen kept i) bytes more at h)
+new-on gsub chosen kept i bytes more at (has_contexts is h) =
+    has_contexts is (chained-on (flag_of gsub i % 16) (contexts_at gsub kept (lookup_at gsub i) (type_at gsub (lookup_at gsub i))) bytes more at h)
+
+-- lookup i is appended
+next-more : (gsub chosen kept : List ℕ) (i : ℕ) (old new : List ℕ) → PutsNext gsub chosen kept (lookup_at gsub i) i old new → (more : List ℕ) × (new ≡ old ++ more)
+next-more gsub chosen kept i old new (puts_rules is p) =
+    more-of (new_type gsub (lookup_at gsub i)) (flag_of gsub i % 16) p.firsts p.numbers p.sets old new p.puts
+next-more gsub chosen kept i old new (puts_contexts is p) = (chained_text (flag_of gsub i % 16) p.offsets p.subtables, p.puts.text)
+
+next-made : (gsub chosen kept : List ℕ) (i : ℕ) (old new : List ℕ) → PutsNext gsub chosen kept (lookup_at gsub i) i old new → HasNewLookup gsub chosen kept i new (length old)
+next-made gsub chosen kept i old new (puts_rules is p) = has_rules is
+    (lookup-made (new_type gsub (lookup_at gsub i)) (flag_of gsub i % 16) (new_rules gsub chosen kept i) (length kept) p.firsts p.numbers p.sets old new
+    (λ x far. new-far gsub chosen kept i x far) p.puts p.are)
+next-made gsub chosen kept i old new (puts_contexts is p) = has_contexts is (record {
+  offsets = p.offsets;
+  subtables = p.subtables;
+  have = p.have;
+  few = p.puts.few;
+  fit = p.puts.fit;
+  small = p.puts.small;
+  there = subst (λ (xs : List ℕ). Holds (chained_text (flag_of gsub i % 16) p.offsets p.subtables) xs (length old)) (sym p.puts.text)
+      (holds-last old (chained_text (flag_of gsub i % 16) p.offsets p.subtables));
+})
+
+pub rule-lookups-more : (gsub chosen kept : List ℕ) (i : ℕ) (offsets bytes newoffsets newbytes : List ℕ) →
+    HasRuleLookups gsub chosen kept i offsets bytes → PutsNext gsub chosen kept (lookup_at gsub i) i bytes newbytes → newoffsets ≡ offsets ++ length bytes ∷ [] →
     HasRuleLookups gsub chosen kept (i + 1) newoffsets newbytes
-rule-lookups-more gsub chosen kept i firsts numbers sets offsets bytes newoffsets newbytes has are puts is =
-    let more = more-of (new_type gsub (lookup_at gsub i)) (flag_of gsub i % 16) firsts numbers sets bytes newbytes puts in
+rule-lookups-more gsub chosen kept i offsets bytes newoffsets newbytes has puts is =
+    let more = next-more gsub chosen kept i bytes newbytes puts in
     subst (λ (xs : List ℕ). HasRuleLookups gsub chosen kept (i + 1) xs newbytes) (sym is) (record {
       many = (let many = has.many in omega (arith, many, length-append offsets (length bytes ∷ [])));
       each = λ k less. elim (nat_cases k i) [
-        | inl early ↦ subst (λ w. HasRuleLookup (new_type gsub (lookup_at gsub k)) (flag_of gsub k % 16) (new_rules gsub chosen kept k) newbytes w)
+        | inl early ↦ subst (λ w. HasNewLookup gsub chosen kept k newbytes w)
             (sym (get_or_append_left offsets (length bytes ∷ []) 0 k (let many = has.many in omega (arith, many, early))))
-            (subst (λ (xs : List ℕ). HasRuleLookup (new_type gsub (lookup_at gsub k)) (flag_of gsub k % 16) (new_rules gsub chosen kept k) xs (get_or offsets k 0)) (sym more.1)
-            (lookup-on (new_type gsub (lookup_at gsub k)) (flag_of gsub k % 16) (new_rules gsub chosen kept k) bytes more.0 (get_or offsets k 0) (has.each k early)))
+            (subst (λ (xs : List ℕ). HasNewLookup gsub chosen kept k xs (get_or offsets k 0)) (sym more.1)
+            (new-on gsub chosen kept k bytes more.0 (get_or offsets k 0) (has.each k early)))
         | inr late ↦ (let same : i ≡ k = omega (arith, less, late) in
-            subst (λ j. HasRuleLookup (new_type gsub (lookup_at gsub j)) (flag_of gsub j % 16) (new_rules gsub chosen kept j) newbytes
-            (get_or (offsets ++ length bytes ∷ []) j 0)) same
-            (subst (λ w. HasRuleLookup (new_type gsub (lookup_at gsub i)) (flag_of gsub i % 16) (new_rules gsub chosen kept i) newbytes w)
-            (sym (get_or_push offsets (length bytes) 0 i has.many))
-            (lookup-made (new_type gsub (lookup_at gsub i)) (flag_of gsub i % 16) (new_rules gsub chosen kept i) (length kept) firsts numbers sets bytes newbytes
-            (λ x far. new-far gsub chosen kept i x far) puts are)))
+            subst (λ j. HasNewLookup gsub chosen kept j newbytes (get_or (offsets ++ length bytes ∷ []) j 0)) same
+            (subst (λ w. HasNewLookup gsub chosen kept i newbytes w) (sym (get_or_push offsets (length bytes) 0 i has.many))
+            (next-made gsub chosen kept i bytes newbytes puts)))
       ];
     })
 
@@ -202,6 +237,20 @@ pub lookup-in : (type flag : ℕ) (f : ℕ → List (List ℕ)) (t bytes : List 
 lookup-in type flag f t bytes at offset h (has_none none a b k) = has_none none a b (holds-in h k)
 lookup-in type flag f t bytes at offset h (has_one a b k s) =
     has_one a b (holds-in h k) (subst (λ n. HasRuleSubtable type f t n) (omega arith) (subtable-in type f t bytes at (offset + 8) h s))
+
+pub new-in : (gsub chosen kept : List ℕ) (i : ℕ) (t bytes : List ℕ) (at offset : ℕ) → Holds bytes t at → HasNewLookup gsub chosen kept i bytes offset →
+    HasNewLookup gsub chosen kept i t (at + offset)
+new-in gsub chosen kept i t bytes at offset h (has_rules is k) =
+    has_rules is (lookup-in (new_type gsub (lookup_at gsub i)) (flag_of gsub i % 16) (new_rules gsub chosen kept i) t bytes at offset h k)
+new-in gsub chosen kept i t bytes at offset h (has_contexts is k) = has_contexts is (record {
+  offsets = k.offsets;
+  subtables = k.subtables;
+  have = k.have;
+  few = k.few;
+  fit = k.fit;
+  small = k.small;
+  there = holds-in h k.there;
+})
 
 -- the rules of a lookup that keeps them, or none
 and-first : (a b : Bool) → (a && b) ≡ true → a ≡ true

@@ -1,21 +1,25 @@
 -- Lookups of rules that were written are read as they were, and the whole table.
-use Rattle.std.proofs.Common.{◌≡◌, refl, sym, ap, subst, ◌∙◌, ℕ, ◌+◌, ◌*◌, ◌%◌, ◌≤◌, ◌<◌, ◌==◌, ◌&&◌, List, [], ◌++◌, length, get_or, arith, Bool, true, false}
-use Rattle.std.specs.Prelude.{Option, None, Some, nat_eq, if◌then◌else◌}
+use Rattle.std.proofs.Common.{◌≡◌, refl, sym, ap, subst, ◌∙◌, inl, inr, ℕ, ◌+◌, ◌*◌, ◌%◌, ◌≤◌, ◌<◌, ◌==◌, ◌&&◌, ◌||◌, List, [], ◌++◌, length, get_or, arith, Bool, true, false}
+use Rattle.std.specs.Prelude.{Option, None, Some, ◌⊎◌, nat_eq, nat_lt, if◌then◌else◌}
+use Rattle.std.specs.List.{range_with_len}
 use Rattle.std.proofs.lemmas.Bool.{eq-eqb, eqb-true}
 use Rattle.postscript_layout.specs.Numbers.{word, long}
+use Rattle.postscript_layout_write.specs.Contexts.{all_have_sets, contexts_at, contexts_of, is_contextual}
+use Rattle.postscript_layout_write.specs.Coverages.{HasChained}
 use Rattle.postscript_layout_write.specs.First.{first_some}
 use Rattle.postscript_layout_write.specs.Holds.{Holds}
 use Rattle.postscript_layout_write.specs.Pairs.{flag_of, lookup_at, lookups_of}
-use Rattle.postscript_layout_write.specs.RuleLookups.{HasRuleLookups, new_type}
-use Rattle.postscript_layout_write.specs.Rules.{all_rules, first_rules, or_none, part_at, rules_in, rules_of_type, type_at, type_of}
+use Rattle.postscript_layout_write.specs.RuleLookups.{HasNewLookup, HasRuleLookups, has_contexts, has_rules, new_type}
+use Rattle.postscript_layout_write.specs.Rules.{all_rules, first_rules, or_none, part_at, rules_in, rules_of, rules_of_type, type_at, type_of}
 use Rattle.postscript_layout_write.specs.RuleSets.{HasRuleLookup, has_none, has_one, rule_head_text}
 use Rattle.postscript_layout_write.specs.ScriptLists.{ListsEnd}
 use Rattle.postscript_layout_write.specs.Sets.{AreOffsets}
-use Rattle.postscript_layout_write.specs.Substituting.{KeepsSubstitutions, is_kept, new_rules}
+use Rattle.postscript_layout_write.specs.Substituting.{KeepsSubstitutions, is_chosen, is_kept, keeps, keeps_contexts, new_contexts, new_rules, rules_at}
 use Rattle.postscript_layout_write.specs.Text.{front_text, list_text, uint16}
 use Rattle.postscript_layout_write.proofs.Holding.{holds-first, holds-second, holds-word, length-uint16}
 use Rattle.postscript_layout_write.proofs.Kept.{count-held, keeps-lists, lookups-held, place-read}
-use Rattle.postscript_layout_write.proofs.RuleCollecting.{lookup-in}
+use Rattle.postscript_layout_write.proofs.ContextReading.{applying-context, contexts-read, flag-read, have-sets, kept-context, no-rules as no-rules-six, type-read}
+use Rattle.postscript_layout_write.proofs.RuleCollecting.{new-in}
 use Rattle.postscript_layout_write.proofs.RuleReading.{subtable-rules}
 
 -- the numbers of a lookup
@@ -85,41 +89,121 @@ lookup-read t l type flag f (has_one a b h s) =
     }
 
 -- the type that is written is a type that is kept
-not-seven : (gsub : List ℕ) (lookup : ℕ) → nat_eq (new_type gsub lookup) 7 ≡ false
-not-seven gsub lookup = by (is_kept (type_at gsub lookup)) refl
-  where
-    seven : (b : Bool) → nat_eq (type_at gsub lookup) 7 ≡ b → is_kept (type_at gsub lookup) ≡ true → b ≡ false
-    seven true e k = (let same = eqb-true (type_at gsub lookup) 7 e in let never = sym (ap is_kept same) ∙ k in absurd (cc))
-    seven false e k = refl
+module _ (gsub : List ℕ) (lookup : ℕ) where
+  other : (n : ℕ) → is_kept n ≡ false → (1 ≡ n → ⊥) → nat_eq (new_type gsub lookup) n ≡ false
+  other n never one = by (is_kept (type_at gsub lookup)) refl
+    where
+      kept : (b : Bool) → nat_eq (type_at gsub lookup) n ≡ b → is_kept (type_at gsub lookup) ≡ true → b ≡ false
+      kept true e k = (let same = eqb-true (type_at gsub lookup) n e in let no = sym (ap is_kept same) ∙ k in absurd (cc))
+      kept false e k = refl
 
-    by : (b : Bool) → is_kept (type_at gsub lookup) ≡ b → nat_eq (if b then type_at gsub lookup else 1) 7 ≡ false
-    by true k = seven (nat_eq (type_at gsub lookup) 7) refl k
-    by false k = refl
+      first : (b : Bool) → nat_eq 1 n ≡ b → b ≡ false
+      first true e = absurd (one (eqb-true 1 n e))
+      first false e = refl
+
+      by : (b : Bool) → is_kept (type_at gsub lookup) ≡ b → nat_eq (if b then type_at gsub lookup else 1) n ≡ false
+      by true k = kept (nat_eq (type_at gsub lookup) n) refl k
+      by false k = first (nat_eq 1 n) refl
+
+  pub not-seven : nat_eq (new_type gsub lookup) 7 ≡ false
+  not-seven = other 7 refl (λ is. absurd (omega (arith, is)))
+
+  pub not-five : nat_eq (new_type gsub lookup) 5 ≡ false
+  not-five = other 5 refl (λ is. absurd (omega (arith, is)))
+
+  pub not-six : nat_eq (new_type gsub lookup) 6 ≡ false
+  not-six = other 6 refl (λ is. absurd (omega (arith, is)))
+
+-- a lookup that keeps contexts has a type that is not kept
+module _ (gsub chosen : List ℕ) (i lookup : ℕ) (keeps-them : keeps_contexts gsub chosen i lookup ≡ true) where
+  first-true : (a b : Bool) → (a && b) ≡ true → a ≡ true
+  first-true true b is = refl
+  first-true false b is = absurd (cc)
+
+  either-type : (a b : Bool) → (a || b) ≡ true → (a ≡ true) ⊎ (b ≡ true)
+  either-type true b is = inl refl
+  either-type false b is = inr is
+
+  pub contextual : is_contextual gsub lookup ≡ true
+  contextual = first-true _ _ (first-true _ (is_chosen chosen i) keeps-them)
+
+  pub not-kept : is_kept (type_at gsub lookup) ≡ false
+  not-kept = elim (either-type _ _ (first-true _ _ contextual)) [
+    | inl five ↦ ap is_kept (eqb-true (type_at gsub lookup) 5 five)
+    | inr six ↦ ap is_kept (eqb-true (type_at gsub lookup) 6 six)
+  ]
+
+  pub keeps-none : keeps gsub chosen i lookup ≡ false
+  keeps-none = ap (λ (b : Bool). (b && nat_lt (word gsub (lookup + 2)) 16) && is_chosen chosen i) not-kept
+
+-- what a new lookup says
+record IsNewRead (old chosen kept new : List ℕ) (i : ℕ) : Type 0 where
+  flag-is : flag_of new i ≡ flag_of old i % 16
+  type-is : is_kept (type_of old i) ≡ true → type_of new i ≡ type_of old i
+  rules-are : (x : ℕ) → rules_of new i x ≡ new_rules old chosen kept i x
+  contexts-are : contexts_of new (range_with_len 0 (length kept)) i ≡ new_contexts old chosen kept i
+
+rules-new-read : (old chosen kept new : List ℕ) (i : ℕ) → keeps_contexts old chosen i (lookup_at old i) ≡ false →
+    IsLookupRead new (lookup_at new i) (new_type old (lookup_at old i)) (flag_of old i % 16) (new_rules old chosen kept i) → IsNewRead old chosen kept new i
+rules-new-read old chosen kept new i none r =
+    let l = lookup_at new i in
+    let t = r.type-is in
+    let type : type_of new i ≡ new_type old (lookup_at old i) =
+    ap (λ (b : Bool). if b then word new (l + word new (l + 6) + 2) else word new l) (ap (λ n. nat_eq n 7) t ∙ not-seven old (lookup_at old i)) ∙ t in
+    record {
+      flag-is = r.flag-is;
+      type-is = λ k. type ∙ ap (λ (b : Bool). if b then type_of old i else 1) k;
+      rules-are = λ x. ap (λ n. rules_of_type new l n x) type ∙ r.rules-are x;
+      contexts-are = ap (λ (b : Bool). if (b || (type_at new l == 6)) && all_have_sets new l (type_at new l) (word new (l + 4)) then
+          contexts_at new (range_with_len 0 (length kept)) l (type_of new i) else []) (ap (λ n. nat_eq n 5) type ∙ not-five old (lookup_at old i))
+          ∙ ap (λ (b : Bool). if b && all_have_sets new l (type_at new l) (word new (l + 4)) then
+          contexts_at new (range_with_len 0 (length kept)) l (type_of new i) else []) (ap (λ n. nat_eq n 6) type ∙ not-six old (lookup_at old i))
+          ∙ sym (ap (λ (b : Bool). if b then contexts_at old kept (lookup_at old i) (type_of old i) else []) none);
+    }
+
+contexts-new-read : (old chosen kept new : List ℕ) (i : ℕ) → keeps_contexts old chosen i (lookup_at old i) ≡ true →
+    HasChained (flag_of old i % 16) (contexts_at old kept (lookup_at old i) (type_at old (lookup_at old i))) new (lookup_at new i) → IsNewRead old chosen kept new i
+contexts-new-read old chosen kept new i keeps-them has =
+    let l = lookup_at new i in
+    let contexts = contexts_at old kept (lookup_at old i) (type_of old i) in
+    let six : word new l ≡ 6 = type-read new l (flag_of old i % 16) contexts has in
+    let type : type_of new i ≡ 6 = ap (λ n. if nat_eq n 7 then word new (l + word new (l + 6) + 2) else n) six in
+    let sets : all_have_sets new l (type_at new l) (word new (l + 4)) ≡ true =
+    ap (λ n. all_have_sets new l n (word new (l + 4))) type ∙ have-sets new l (flag_of old i % 16) contexts has in
+    record {
+      flag-is = flag-read new l (flag_of old i % 16) contexts has;
+      type-is = λ k. absurd (let no = sym k ∙ not-kept old chosen i (lookup_at old i) keeps-them in cc);
+      rules-are = λ x. ap (λ n. rules_of_type new l n x) type ∙ no-rules-six new l (flag_of old i % 16) contexts has x
+          ∙ sym (ap (λ (b : Bool). if b then rules_at old kept (lookup_at old i) x else []) (keeps-none old chosen i (lookup_at old i) keeps-them));
+      contexts-are = ap (λ n. if ((n == 5) || (n == 6)) && all_have_sets new l n (word new (l + 4)) then
+          contexts_at new (range_with_len 0 (length kept)) l n else []) type
+          ∙ ap (λ (b : Bool). if b then contexts_at new (range_with_len 0 (length kept)) l 6 else []) (have-sets new l (flag_of old i % 16) contexts has)
+          ∙ contexts-read new l (flag_of old i % 16) contexts has (length kept)
+          (λ k less. kept-context old kept (lookup_at old i) (type_of old i) k less) (λ k less. applying-context old kept (lookup_at old i) (type_of old i) k less)
+          ∙ sym (ap (λ (b : Bool). if b then contexts else []) keeps-them);
+    }
+
+new-read : (old chosen kept new : List ℕ) (i : ℕ) → HasNewLookup old chosen kept i new (lookup_at new i) → IsNewRead old chosen kept new i
+new-read old chosen kept new i (has_rules none h) =
+    rules-new-read old chosen kept new i none (lookup-read new (lookup_at new i) (new_type old (lookup_at old i)) (flag_of old i % 16) (new_rules old chosen kept i) h)
+new-read old chosen kept new i (has_contexts keeps-them h) = contexts-new-read old chosen kept new i keeps-them h
 
 module _ (old chosen kept new offsets bytes : List ℕ) (end : ℕ) (lists : ListsEnd old end) (small : end < 65536) (within : end ≤ length old)
     (is : new ≡ front_text old end ++ list_text offsets bytes) (few : length offsets ≤ 32766) (fit : AreOffsets (2 + length offsets * 2) offsets)
     (has : HasRuleLookups old chosen kept (lookups_of old) offsets bytes) where
-  each-read : (i : ℕ) → i < lookups_of old →
-      IsLookupRead new (lookup_at new i) (new_type old (lookup_at old i)) (flag_of old i % 16) (new_rules old chosen kept i)
-  each-read i less = lookup-read new (lookup_at new i) (new_type old (lookup_at old i)) (flag_of old i % 16) (new_rules old chosen kept i)
-      (subst (HasRuleLookup (new_type old (lookup_at old i)) (flag_of old i % 16) (new_rules old chosen kept i) new)
+  each-read : (i : ℕ) → i < lookups_of old → IsNewRead old chosen kept new i
+  each-read i less = new-read old chosen kept new i
+      (subst (HasNewLookup old chosen kept i new)
       (sym (place-read old new offsets bytes end lists small within is few fit i (let many = has.many in omega (arith, less, many))))
-      (lookup-in (new_type old (lookup_at old i)) (flag_of old i % 16) (new_rules old chosen kept i) new bytes (end + 2 + length offsets * 2) (get_or offsets i 0)
+      (new-in old chosen kept i new bytes (end + 2 + length offsets * 2) (get_or offsets i 0)
       (lookups-held old new offsets bytes end lists small within is few fit) (has.each i less)))
-
-  type-read : (i : ℕ) → i < lookups_of old → type_of new i ≡ new_type old (lookup_at old i)
-  type-read i less =
-      let l = lookup_at new i in
-      let t = (each-read i less).type-is in
-      ap (λ (b : Bool). if b then word new (l + word new (l + 6) + 2) else word new l)
-      (ap (λ n. nat_eq n 7) t ∙ not-seven old (lookup_at old i))
-      ∙ t
 
   pub keeps-rules : KeepsSubstitutions old chosen kept new
   keeps-rules = record {
     lists = keeps-lists old new offsets bytes end lists small within is few fit;
     lookups = count-held old new offsets bytes end lists small within is few fit ∙ has.many;
     flags = λ i less. (each-read i less).flag-is;
-    types = λ i less k. type-read i less ∙ ap (λ (b : Bool). if b then type_of old i else 1) k;
-    rules = λ i x less. ap (λ n. rules_of_type new (lookup_at new i) n x) (type-read i less) ∙ (each-read i less).rules-are x;
+    types = λ i less k. (each-read i less).type-is k;
+    rules = λ i x less. (each-read i less).rules-are x;
+    contexts = λ i less. (each-read i less).contexts-are;
   }

@@ -35,7 +35,7 @@ words-take t o ns (suc m) less all h =
     ∙ ap (λ n. take m ns ++ n ∷ []) (holds-array ns o m within (All-get_or (λ n. n < 65536) ns m 0 within all) h)
     ∙ sym (take_more ns m 0 within) ∙ ap (λ k. take k ns) (add-one m)
 
-words-read : (t : List ℕ) (o : ℕ) (ns : List ℕ) (n : ℕ) → n ≡ length ns → All (λ n. n < 65536) ns → Holds (array_text ns) t o → words t o n ≡ ns
+pub words-read : (t : List ℕ) (o : ℕ) (ns : List ℕ) (n : ℕ) → n ≡ length ns → All (λ n. n < 65536) ns → Holds (array_text ns) t o → words t o n ≡ ns
 words-read t o ns n many all h = words-take t o ns n (omega (arith, many)) all h ∙ take_all n ns (omega (arith, many))
 
 several-read : (t : List ℕ) (set : ℕ) (rule : List ℕ) → length rule < 65536 → All (λ n. n < 65536) rule → Holds (several_text rule) t set → glyphs_of t set ≡ rule

@@ -18,3 +18,5 @@ pub mod Substituting
 pub mod RuleSets
 pub mod RuleLookups
 pub mod Leaving
+pub mod Contexts
+pub mod Coverages

@@ -26,6 +26,8 @@
 #![tactic(auto)]
 
 mod classes;
+mod contexts;
+mod coverages;
 mod entries;
 mod error;
 mod leaving;

@@ -1,5 +1,6 @@
 //! The rules of a lookup of substitutions for a first glyph, under new numbers.
 ghost use Rattle.std.specs.Prelude.{◌≡◌, ◌⊎◌, ◌+◌, ◌^◌, ◌<◌, ◌≤◌, ◌++◌, [], ◌∷◌, length, is_some, IfErr, IfOk, IfSome, OnOk};
+ghost use Rattle.std.specs.List.{All};
 ghost use Rattle.postscript_layout.specs.Numbers.{word as the_word, words as the_words};
 ghost use Rattle.postscript_layout.specs.Substitutions.{glyphs_of};
 ghost use Rattle.postscript_layout_write.specs.Refusals.{IsUsedUp};
@@ -30,7 +31,7 @@ pub(crate) fn type_of(gsub: &[u8], lookup: usize) -> usize
 }
 
 /// Returns the offset of subtable `j` of a lookup, or of the subtable that its extension names, if that has a type.
-fn part_at(gsub: &[u8], lookup: usize, kind: usize, j: usize) -> Option<usize>
+pub(crate) fn part_at(gsub: &[u8], lookup: usize, kind: usize, j: usize) -> Option<usize>
     requires near { lookup < 2 ^ 31 }
     requires few { j < 65536 }
     ensures exact { result ≡ the_part gsub.now lookup kind j }
@@ -82,7 +83,7 @@ fn set_at(gsub: &[u8], subtable: usize, i: usize) -> Option<usize>
 }
 
 /// Appends an array of glyphs.
-fn read_glyphs(
+pub(crate) fn read_glyphs(
     out: &mut Vec<u16>,
     gsub: &[u8],
     offset: usize,
@@ -92,6 +93,7 @@ fn read_glyphs(
     requires near { offset < 2 ^ 35 }
     requires few { count < 65536 }
     ensures exact { OnOk result (out.new.items ≡ out.old.items ++ the_words gsub.now offset count) }
+    ensures small { OnOk result (All (λ number. number < 65536) (the_words gsub.now offset count)) }
     ensures spends { limit.new ≤ limit.old }
     ensures why { IfErr result (λ e. (e ≡ errors.Memory) ⊎ IsUsedUp limit.new e) }
 {

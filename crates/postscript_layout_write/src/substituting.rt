@@ -3,12 +3,13 @@ ghost use Rattle.std.specs.Prelude.{◌≡◌, ◌⊎◌, ◌%◌, ◌^◌, ◌<
 ghost use Rattle.postscript_layout_write.specs.Pairs.{lookups_of};
 ghost use Rattle.postscript_layout_write.specs.Refusals.{Fails, Refuses};
 ghost use Rattle.postscript_layout_write.specs.Renumbering.{AreNumbers, kept_rules};
-ghost use Rattle.postscript_layout_write.specs.RuleLookups.{HasRuleLookups, PutsRuleList, new_type as the_type};
+ghost use Rattle.postscript_layout_write.specs.RuleLookups.{HasRuleLookups, PutsContexts, PutsNext, PutsOwnRules, PutsRuleList, new_type as the_type};
 ghost use Rattle.postscript_layout_write.specs.RuleSets.{AreRuleSets, PutsRules, rule_head_text};
 ghost use Rattle.postscript_layout_write.specs.Rules.{rules_of_type, type_at};
-ghost use Rattle.postscript_layout_write.specs.Substituting.{KeepsSubstitutions, is_chosen as the_chosen, is_kept as the_kept, keeps as the_keeps, rules_at};
+ghost use Rattle.postscript_layout_write.specs.Substituting.{KeepsSubstitutions, is_chosen as the_chosen, is_kept as the_kept, keeps as the_keeps, keeps_contexts as the_keeps_contexts, rules_at};
 ghost use Rattle.postscript_layout_write.specs.declared.error.Error.TheVariants as errors;
 
+use crate::contexts::{Source, contexts_of, is_contextual, put_chained};
 use crate::error::{Error, Result};
 use crate::limit::{pay, pay_all};
 use crate::numbers::{put_uint16, word};
@@ -152,6 +153,92 @@ fn put_lookup(out: &mut Vec<u8>, kind: u16, flag: u16, sets: &Sets) -> Result<()
     Ok(())
 }
 
+/// Whether a lookup keeps its contexts: it is chosen, they are contexts of sets of glyphs, and it uses no classes or sets of
+/// marks.
+fn keeps_contexts(gsub: &[u8], lookup: usize, lookups: &[u16], i: usize) -> bool
+    requires near { lookup < 2 ^ 31 }
+    ensures { result ≡ the_keeps_contexts gsub.now lookups.now i lookup }
+{
+    is_contextual(gsub, lookup) && word(gsub, lookup + 2) < 16 && is_chosen(lookups, i)
+}
+
+/// Appends a lookup with its contexts.
+fn put_contexts(
+    alloc: Global,
+    bytes: &mut Vec<u8>,
+    gsub: &[u8],
+    lookup: usize,
+    kept: &[u16],
+    limit: &mut u64,
+) -> Result<()>
+    requires near { lookup < 2 ^ 31 }
+    requires small { length kept.now < 65536 }
+    ensures done { OnOk result (PutsContexts gsub.now kept.now lookup bytes.old.items bytes.new.items) }
+    ensures spends { limit.new ≤ limit.old }
+    ensures why { IfErr result (λ e. Fails limit.new e) }
+{
+    let source = Source { gsub, kept };
+    let contexts = contexts_of(alloc, &source, lookup, type_of(gsub, lookup), limit)?;
+    let flag = word(gsub, lookup + 2) % 16;
+    put_chained(bytes, flag as u16, &contexts)?;
+    Ok(())
+}
+
+/// Appends a lookup with its rules.
+fn put_own_rules(
+    alloc: Global,
+    bytes: &mut Vec<u8>,
+    gsub: &[u8],
+    lookup: usize,
+    lookups: &[u16],
+    i: usize,
+    kept: &[u16],
+    numbers: &[Option<usize>],
+    limit: &mut u64,
+) -> Result<()>
+    requires near { lookup < 2 ^ 31 }
+    requires small { length kept.now < 65536 }
+    requires exact { AreNumbers kept.now numbers.now }
+    ensures done { OnOk result (PutsOwnRules gsub.now lookups.now kept.now lookup i bytes.old.items bytes.new.items) }
+    ensures spends { limit.new ≤ limit.old }
+    ensures why { IfErr result (λ e. Fails limit.new e) }
+{
+    let sets = kept_sets(alloc, gsub, lookup, lookups, i, kept, numbers, limit)?;
+    let kind = new_type(gsub, lookup);
+    let flag = word(gsub, lookup + 2) % 16;
+    put_lookup(bytes, kind as u16, flag as u16, &sets)?;
+    Ok(())
+}
+
+/// Appends a lookup.
+fn put_next(
+    alloc: Global,
+    bytes: &mut Vec<u8>,
+    gsub: &[u8],
+    lookup: usize,
+    lookups: &[u16],
+    i: usize,
+    kept: &[u16],
+    numbers: &[Option<usize>],
+    limit: &mut u64,
+) -> Result<()>
+    requires near { lookup < 2 ^ 31 }
+    requires small { length kept.now < 65536 }
+    requires exact { AreNumbers kept.now numbers.now }
+    ensures done { OnOk result (PutsNext gsub.now lookups.now kept.now lookup i bytes.old.items bytes.new.items) }
+    ensures spends { limit.new ≤ limit.old }
+    ensures why { IfErr result (λ e. Fails limit.new e) }
+{
+    if keeps_contexts(gsub, lookup, lookups, i) {
+        put_contexts(alloc, bytes, gsub, lookup, kept, limit)?;
+    } else {
+        put_own_rules(
+            alloc, bytes, gsub, lookup, lookups, i, kept, numbers, limit,
+        )?;
+    }
+    Ok(())
+}
+
 /// Appends the lookups of a table one after the other, and collects their offsets.
 fn put_each(
     alloc: Global,
@@ -180,11 +267,10 @@ fn put_each(
         if bytes.len() > 65535 {
             return Err(Error::TooLarge);
         }
-        let sets = kept_sets(alloc, gsub, lookup, lookups, i, kept, numbers, limit)?;
         offsets.push(bytes.len())?;
-        let kind = new_type(gsub, lookup);
-        let flag = word(gsub, lookup + 2) % 16;
-        put_lookup(bytes, kind as u16, flag as u16, &sets)?;
+        put_next(
+            alloc, bytes, gsub, lookup, lookups, i, kept, numbers, limit,
+        )?;
     }
     Ok(())
 }
@@ -232,12 +318,13 @@ fn put_list(
 /// `kept` has the old numbers of the glyphs. The new number of a glyph is its first index there. `lookups` has the indices
 /// of the chosen lookups, in any order. The new table has version 1.0, the script list and the feature list of the old one,
 /// and as many lookups in the same order. A chosen lookup of type 1 to 4, also by extensions, keeps the rules whose glyphs
-/// are all kept: single, multiple, alternate and ligature substitutions. All other lookups have no subtables, and neither
-/// has a lookup with a flag above bit 3.
+/// are all kept: single, multiple, alternate and ligature substitutions. A chosen lookup of type 5 or 6 whose subtables all
+/// have format 3 keeps the contexts whose sets of glyphs all have kept glyphs, as a lookup of type 6. All other lookups have
+/// no subtables, and neither has a lookup with a flag above bit 3.
 ///
 /// One unit of the limit is paid for each language system, script, feature and lookup, and for each chosen lookup with which
 /// a lookup is compared. One more is paid for each kept glyph in each lookup that is kept, and for each subtable, covered
-/// glyph, range, ligature and glyph of a rule that is looked at.
+/// glyph, range, ligature and glyph of a rule that is looked at. In contexts, 1,000 are paid for each coverage table.
 ///
 /// # Errors
 ///
@@ -253,7 +340,7 @@ pub fn substitutions(
     kept: &[u16],
     limit: &mut u64,
 ) -> Result<Vec<u8>>
-    // Each chosen lookup substitutes the kept glyphs as before, for the same scripts and features.
+    // Each chosen lookup substitutes kept glyphs in the same contexts, for the same scripts and features.
     ensures kept { IfOk result (λ new. KeepsSubstitutions gsub.now lookups.now kept.now new.items) }
     // The limit never grows.
     ensures spends { limit.new ≤ limit.old }

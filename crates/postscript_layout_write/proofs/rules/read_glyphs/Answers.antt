@@ -1,5 +1,7 @@
-use Rattle.std.proofs.Common.{◌+◌, ◌*◌, ◌++◌, ◌∷◌, [], ◌∙◌, ap, sym, arith}
+use Rattle.std.proofs.Common.{◌+◌, ◌*◌, ◌++◌, ◌∷◌, [], ◌∙◌, ◌<◌, ap, sym, subst, List, ℕ, arith}
+use Rattle.std.specs.List.{All}
 use Rattle.std.proofs.lemmas.List.{append_assoc}
+use Rattle.std.proofs.lemmas.List.Elements.{All-append, All-cons, All-nil}
 use Rattle.postscript_layout.specs.Numbers.{word, words}
 use Rattle.postscript_layout_write.proofs.RuleRows.{words-more}
 use Rattle.postscript_layout_write.proofs.rules.read_glyphs.Goals as goal
@@ -15,5 +17,9 @@ loop-k-preserved c =
           ∙ ap (λ xs. xs ++ word gsub (offset + k * 2) ∷ []) c.loop-k.invariant.read
           ∙ append_assoc old (words gsub offset k) (word gsub (offset + k * 2) ∷ [])
           ∙ ap (λ xs. old ++ xs) (sym (words-more gsub offset k));
+      small = subst (λ (xs : List ℕ). All (λ number. number < 65536) xs) (sym (words-more gsub offset k))
+          (All-append (λ number. number < 65536) (words gsub offset k) (word gsub (offset + k * 2) ∷ []) c.loop-k.invariant.small
+          (All-cons (λ number. number < 65536) (word gsub (offset + k * 2)) []
+          (subst (λ n. n < 65536) c.word-glyph.ensures.exact c.word-glyph.ensures.small) (All-nil (λ number. number < 65536))));
       spent = omega (arith, c.pay.ensures.spends, c.loop-k.invariant.spent);
     }

@@ -1,0 +1,141 @@
+-- Contexts that are collected: coverage tables, subtables and lookups.
+use Rattle.std.proofs.Common.{◌≡◌, refl, sym, ap, subst, ◌∙◌, inl, inr, ℕ, ◌+◌, ◌*◌, ◌≤◌, ◌<◌, ◌&&◌, List, [], ◌∷◌, ◌++◌, length, length-append, get_or, append-nil, arith, Bool, true, false}
+use Rattle.std.specs.List.{All}
+use Rattle.std.proofs.lemmas.List.{append_assoc, get_or_append_left, get_or_push}
+use Rattle.std.proofs.lemmas.List.FromFn.{map-range_with_len_more}
+use Rattle.postscript_layout.specs.Numbers.{word}
+use Rattle.postscript_layout_write.specs.Contexts.{Context, all_some, covered_of, is_some_glyph, sets_at}
+use Rattle.postscript_layout_write.specs.Coverages.{Fits, HasContext, HasCoverage, HaveContexts, HaveCoverages, IsMade, IsPart, PutsContext, base_of, context_text, no_context}
+use Rattle.postscript_layout_write.specs.Holds.{Holds}
+use Rattle.postscript_layout_write.specs.RuleSets.{Begins}
+use Rattle.postscript_layout_write.specs.declared.contexts.Made.{Made}
+use Rattle.postscript_layout_write.proofs.Firsts.{nat_cases}
+use Rattle.postscript_layout_write.proofs.Holding.{holds-last, holds-on}
+use Rattle.postscript_layout_write.proofs.Reading.{any-default}
+
+pub begins-trans : (a b c : List ℕ) → Begins a b → Begins b c → Begins a c
+begins-trans a b c p q = record {
+  more = p.more ++ q.more;
+  is = q.is ∙ ap (λ xs. xs ++ q.more) p.is ∙ append_assoc a p.more q.more;
+}
+
+-- coverage tables with more bytes after them
+coverage-on : (set bytes new : List ℕ) (offset : ℕ) → Begins bytes new → HasCoverage set bytes offset → HasCoverage set new offset
+coverage-on set bytes new offset b h = subst (λ (xs : List ℕ). HasCoverage set xs offset) (sym b.is) (record {
+  few = h.few;
+  small = h.small;
+  there = holds-on b.more h.there;
+})
+
+pub coverages-on : (sets : List (List ℕ)) (offsets bytes new : List ℕ) → Begins bytes new → HaveCoverages sets offsets bytes → HaveCoverages sets offsets new
+coverages-on sets offsets bytes new b h = record {
+  same = h.same;
+  each = λ k less. coverage-on (get_or sets k []) bytes new (get_or offsets k 0) b (h.each k less);
+}
+
+last-index : {X : Type 0} (xs : List X) (x : X) (k : ℕ) → k < length (xs ++ x ∷ []) → length xs ≤ k → length xs ≡ k
+last-index xs x k less late = omega (arith, less, late, length-append xs (x ∷ []))
+
+pub coverages-more : (sets : List (List ℕ)) (set offsets bytes new : List ℕ) (offset : ℕ) → HaveCoverages sets offsets bytes → Begins bytes new →
+    HasCoverage set new offset → HaveCoverages (sets ++ set ∷ []) (offsets ++ offset ∷ []) new
+coverages-more sets set offsets bytes new offset h b one = record {
+  same = (let same = h.same in omega (arith, same, length-append sets (set ∷ []), length-append offsets (offset ∷ [])));
+  each = λ k less. elim (nat_cases k (length sets)) [
+    | inl early ↦ subst (λ (xs : List ℕ). HasCoverage xs new (get_or (offsets ++ offset ∷ []) k 0)) (sym (get_or_append_left sets (set ∷ []) [] k early))
+        (subst (λ n. HasCoverage (get_or sets k []) new n) (sym (get_or_append_left offsets (offset ∷ []) 0 k (let same = h.same in omega (arith, same, early))))
+        (coverage-on (get_or sets k []) bytes new (get_or offsets k 0) b (h.each k early)))
+    | inr late ↦ (let last = last-index sets set k less late in
+        subst (λ (xs : List ℕ). HasCoverage xs new (get_or (offsets ++ offset ∷ []) k 0)) (sym (get_or_push sets set [] k last))
+        (subst (λ n. HasCoverage set new n) (sym (get_or_push offsets offset 0 k (let same = h.same in omega (arith, same, last)))) one))
+  ];
+}
+
+pub coverages-none : (offsets bytes : List ℕ) → offsets ≡ [] → HaveCoverages [] offsets bytes
+coverages-none offsets bytes empty = record {
+  same = ap length empty;
+  each = λ k less. absurd (omega (arith, less));
+}
+
+-- one set more
+pub all-some-more : (sets : List (List ℕ)) (set : List ℕ) → all_some (sets ++ set ∷ []) ≡ (all_some sets && is_some_glyph set)
+all-some-more [] set = by (is_some_glyph set)
+  where
+    by : (b : Bool) → (b && true) ≡ (true && b)
+    by true = refl
+    by false = refl
+all-some-more (s ∷ sets) set = ap (λ b. is_some_glyph s && b) (all-some-more sets set) ∙ by (is_some_glyph s) (all_some sets) (is_some_glyph set)
+  where
+    by : (a b c : Bool) → (a && (b && c)) ≡ ((a && b) && c)
+    by true b c = refl
+    by false b c = refl
+
+pub sets-more : (gsub kept : List ℕ) (subtable array p : ℕ) →
+    sets_at gsub kept subtable array (p + 1) ≡ sets_at gsub kept subtable array p ++ covered_of gsub kept (subtable + word gsub (array + p * 2)) ∷ []
+sets-more gsub kept subtable array p = map-range_with_len_more (λ q. covered_of gsub kept (subtable + word gsub (array + q * 2))) 0 p p (omega arith)
+
+-- contexts
+context-on : (context : Context) (bytes more : List ℕ) (offset : ℕ) → HasContext context bytes offset → HasContext context (bytes ++ more) offset
+context-on context bytes more offset h = record {
+  before = h.before;
+  input = h.input;
+  after = h.after;
+  count = h.count;
+  tables = h.tables;
+  has_before = h.has_before;
+  has_input = h.has_input;
+  has_after = h.has_after;
+  fits = h.fits;
+  small = h.small;
+  there = holds-on more h.there;
+}
+
+pub context-made : (context : Context) (made : Made) (count : ℕ) (old new : List ℕ) → IsMade context made →
+    PutsContext made count old new → HasContext context new (length old)
+context-made context made count old new is puts =
+    let acts = is.actions in
+    record {
+      before = made.before.offsets.items;
+      input = made.input.offsets.items;
+      after = made.after.offsets.items;
+      count = count;
+      tables = made.tables.bytes.items;
+      has_before = is.before.have;
+      has_input = is.input.have;
+      has_after = is.after.have;
+      fits = subst (λ (xs : List ℕ). Fits made.before.offsets.items made.input.offsets.items made.after.offsets.items xs count) acts puts.fits;
+      small = is.small;
+      there = subst (λ (xs : List ℕ). Holds (context_text (base_of made.before.offsets.items made.input.offsets.items made.after.offsets.items xs)
+          made.before.offsets.items made.input.offsets.items made.after.offsets.items count xs made.tables.bytes.items) new (length old)) acts
+          (subst (λ (xs : List ℕ). Holds (context_text (base_of made.before.offsets.items made.input.offsets.items made.after.offsets.items made.actions.items)
+          made.before.offsets.items made.input.offsets.items made.after.offsets.items count made.actions.items made.tables.bytes.items) xs (length old)) (sym puts.text)
+          (holds-last old _));
+    }
+
+pub contexts-more : (contexts : List Context) (context : Context) (offsets bytes new : List ℕ) → HaveContexts contexts offsets bytes → Begins bytes new →
+    HasContext context new (length bytes) → HaveContexts (contexts ++ context ∷ []) (offsets ++ length bytes ∷ []) new
+contexts-more contexts context offsets bytes new h b one = record {
+  same = (let same = h.same in omega (arith, same, length-append contexts (context ∷ []), length-append offsets (length bytes ∷ [])));
+  each = λ k less. elim (nat_cases k (length contexts)) [
+    | inl early ↦ subst (λ (c : Context). HasContext c new (get_or (offsets ++ length bytes ∷ []) k 0)) (sym (get_or_append_left contexts (context ∷ []) no_context k early))
+        (subst (λ n. HasContext (get_or contexts k no_context) new n)
+        (sym (get_or_append_left offsets (length bytes ∷ []) 0 k (let same = h.same in omega (arith, same, early))))
+        (subst (λ (xs : List ℕ). HasContext (get_or contexts k no_context) xs (get_or offsets k 0)) (sym b.is)
+        (context-on (get_or contexts k no_context) bytes b.more (get_or offsets k 0) (h.each k early))))
+    | inr late ↦ (let last = last-index contexts context k less late in
+        subst (λ (c : Context). HasContext c new (get_or (offsets ++ length bytes ∷ []) k 0)) (sym (get_or_push contexts context no_context k last))
+        (subst (λ n. HasContext context new n) (sym (get_or_push offsets (length bytes) 0 k (let same = h.same in omega (arith, same, last)))) one))
+  ];
+}
+
+pub contexts-none : (offsets bytes : List ℕ) → offsets ≡ [] → HaveContexts [] offsets bytes
+contexts-none offsets bytes empty = record {
+  same = ap length empty;
+  each = λ k less. absurd (omega (arith, less));
+}
+
+pub puts-begins : (made : Made) (count : ℕ) (old new : List ℕ) → PutsContext made count old new → Begins old new
+puts-begins made count old new puts = record { more = _; is = puts.text }
+
+-- numbers of two bytes
+pub all-fit : (xs : List ℕ) → ((k : ℕ) → get_or xs k 0 < 65536) → All (λ n. n < 65536) xs
+all-fit xs fits k d less = subst (λ n. n < 65536) (any-default xs k 0 d less) (fits k)

@@ -1,0 +1,386 @@
+-- Contexts that were written are read as they were.
+use Rattle.std.proofs.Common.{◌≡◌, refl, sym, ap, subst, ◌∙◌, inl, inr, ℕ, zero, suc, ◌+◌, ◌*◌, ◌≤◌, ◌<◌, ◌==◌, ◌&&◌, List, [], ◌∷◌, ◌++◌, length, length-append, get_or, take, arith, add-one, Bool, true, false}
+use Rattle.std.specs.Prelude.{Option, None, Some, filter, is_some, map, nat_eq, nat_lt, slice_index, slice_index_or, if◌then◌else◌}
+use Rattle.std.specs.List.{All, Contains, range_with_len}
+use Rattle.std.proofs.lemmas.Bool.{eq-eqb, eqb-true}
+use Rattle.std.proofs.lemmas.List.{ext_get_or, take_all, take_more}
+use Rattle.std.proofs.lemmas.List.Elements.{All-append, All-cons, All-nil, Contains-append_left, Contains-push, filter_passes}
+use Rattle.std.proofs.lemmas.List.FromFn.{get_or-map-range_with_len, get_or-range_with_len, length-map-range_with_len, length-range_with_len}
+use Rattle.postscript_layout.specs.Numbers.{word, long, words}
+use Rattle.postscript_layout.specs.Substitutions.{coverage_of, set_of}
+use Rattle.postscript_layout_write.specs.Contexts.{Context, actions_at, after_at, all_have_sets, all_some, can_apply, chained_parts, context_by, context_of, contexts_at, contexts_below, contexts_in, covered_of, covers, has_sets, if_applies, input_at, parts_of, sets_at}
+use Rattle.postscript_layout_write.specs.Coverages.{Fits, HasChained, HasContext, HasCoverage, HaveContexts, HaveCoverages, base_of, chained_text, context_text, counted_text, no_context}
+use Rattle.postscript_layout_write.specs.First.{all_below, first_some}
+use Rattle.postscript_layout_write.specs.Holds.{Holds}
+use Rattle.postscript_layout_write.specs.Ranges.{coverage_index, index_in, range_of}
+use Rattle.postscript_layout_write.specs.Rules.{first_rules, or_none, part_at, rules_covered, rules_in, rules_of_several, rules_of_type, set_at}
+use Rattle.postscript_layout_write.specs.Sets.{AreOffsets}
+use Rattle.postscript_layout_write.specs.Text.{array_text, coverage_text, offsets_text, uint16}
+use Rattle.postscript_layout_write.proofs.Covering.{filter-more, filter-same}
+use Rattle.postscript_layout_write.proofs.Firsts.{first-none, nat_cases}
+use Rattle.postscript_layout_write.proofs.Holding.{holds-array, holds-first, holds-in, holds-second, holds-word, length-array, length-uint16}
+use Rattle.postscript_layout_write.proofs.Reading.{Searched, any-default, length-coverage, length-offsets, missing, offsets-read, present, searched}
+use Rattle.postscript_layout_write.proofs.RuleReading.{words-read}
+use Rattle.postscript_layout_write.proofs.RuleRows.{below-more}
+
+-- a set of new numbers: those below a number that pass a test
+pub record IsKeptSet (n : ℕ) (set : List ℕ) : Type 0 where
+  pub test : ℕ → Bool
+  pub is : set ≡ filter test (range_with_len 0 n)
+
+passes-there : (p : ℕ → Bool) (n k : ℕ) → k < n → p k ≡ true → Contains (filter p (range_with_len 0 n)) k
+passes-there p zero k less passes = absurd (omega (arith, less))
+passes-there p (suc m) k less passes =
+    let more : filter p (range_with_len 0 (suc m)) ≡ filter p (range_with_len 0 m) ++ (if p m then m ∷ [] else []) =
+    ap (λ i. filter p (range_with_len 0 i)) (sym (add-one m)) ∙ filter-more p m in
+    subst (λ (xs : List ℕ). Contains xs k) (sym more) (elim (nat_cases k m) [
+      | inl early ↦ Contains-append_left (filter p (range_with_len 0 m)) (if p m then m ∷ [] else []) k (passes-there p m k early passes)
+      | inr late ↦ (let same : m ≡ k = omega (arith, less, late) in
+          subst (λ (b : Bool). Contains (filter p (range_with_len 0 m) ++ (if b then m ∷ [] else [])) k) (sym (ap p same ∙ passes))
+          (subst (λ i. Contains (filter p (range_with_len 0 m) ++ m ∷ []) i) same (Contains-push (filter p (range_with_len 0 m)) m)))
+    ])
+
+-- the glyphs of a coverage table
+module _ (t : List ℕ) (c : ℕ) (set : List ℕ) (has : HasCoverage set t c) where
+  index-read : (x : ℕ) → Searched set x (λ i. i) (coverage_index t c x)
+  unfolding coverage_text
+  index-read x =
+      let h = has.there in
+      let few = has.few in
+      let h2 = holds-second (uint16 1) _ 2 (length-uint16 1) h in
+      let h4 = holds-second (uint16 (length set)) _ 2 (length-uint16 (length set)) h2 in
+      let one = holds-word 1 (omega arith) (holds-first (uint16 1) _ h) in
+      let many = holds-word (length set) (omega (arith, few)) (holds-first (uint16 (length set)) _ h2) in
+      let is : coverage_index t c x ≡ first_some (λ i. if word t (c + 4 + i * 2) == x then Some i else None) (word t (c + 2)) =
+      ap (λ (b : Bool). if b then first_some (λ i. if word t (c + 4 + i * 2) == x then Some i else None) (word t (c + 2))
+      else (if word t c == 2 then index_in t x (range_of t c x) else None)) (eq-eqb (word t c) 1 one) in
+      subst (Searched set x (λ i. i)) (sym is) (searched (λ i. word t (c + 4 + i * 2)) set x (λ i. i) (word t (c + 2)) many
+      (λ k less. ap (word t) (omega arith) ∙ holds-array set (c + 2 + 2) k less (has.small k 0 less) h4))
+
+  covers-read : (n : ℕ) (p : ℕ → Bool) → set ≡ filter p (range_with_len 0 n) → (k : ℕ) → k < n → covers t c k ≡ p k
+  covers-read n p is k less = by (coverage_index t c k) (index-read k)
+    where
+      by : (x : Option ℕ) → Searched set k (λ i. i) x → is_some x ≡ p k
+      by _ (missing none) = never (p k) refl
+        where
+          never : (b : Bool) → p k ≡ b → false ≡ b
+          never true passes = (let there = subst (λ (xs : List ℕ). Contains xs k) (sym is) (passes-there p n k less passes) in
+              absurd (none there.0 there.1 (any-default set there.0 0 k there.1 ∙ there.2)))
+          never false fails = refl
+      by _ (present j within same) = sym (subst (λ i. p i ≡ true) same
+          (subst (λ (xs : List ℕ). All (λ x. p x ≡ true) xs) (sym is) (filter_passes p (range_with_len 0 n)) j 0 within))
+
+  pub set-read : (n : ℕ) → IsKeptSet n set → covered_of t (range_with_len 0 n) c ≡ set
+  set-read n kept =
+      ap (λ m. filter (λ k. covers t c (slice_index (range_with_len 0 n) k)) (range_with_len 0 m)) (length-range_with_len 0 n)
+      ∙ filter-same (λ k. covers t c (slice_index (range_with_len 0 n) k)) kept.test n
+      (λ k less. ap (covers t c) (get_or-range_with_len 0 n k 0 less ∙ omega arith) ∙ covers-read n kept.test kept.is k less)
+      ∙ sym kept.is
+
+-- sets of an array of offsets
+pub AreKeptSets : (n : ℕ) (sets : List (List ℕ)) → Type 0
+AreKeptSets n sets = (k : ℕ) → k < length sets → IsKeptSet n (slice_index_or sets k [])
+
+pub sets-read : (t : List ℕ) (s base n array : ℕ) (sets : List (List ℕ)) (offsets tables : List ℕ) (count : ℕ) → count ≡ length offsets → HaveCoverages sets offsets tables →
+    Holds tables t (s + base) → ((k : ℕ) → k < length offsets → word t (array + k * 2) ≡ base + get_or offsets k 0) → AreKeptSets n sets →
+    sets_at t (range_with_len 0 n) s array count ≡ sets
+unfolding AreKeptSets
+sets-read t s base n array sets offsets tables count many have held places kept =
+    let same = have.same in
+    let f = λ (k : ℕ). covered_of t (range_with_len 0 n) (s + word t (array + k * 2)) in
+    ext_get_or [] (sets_at t (range_with_len 0 n) s array count) sets (length-map-range_with_len f 0 count ∙ many ∙ same)
+    (λ k less. (let within : k < length sets = omega (arith, less, length-map-range_with_len f 0 count, many, same) in
+    let below : k < count = omega (arith, within, many, same) in
+    let one = have.each k within in
+    let place = places k (omega (arith, within, same)) in
+    get_or-map-range_with_len f 0 count k k [] below (omega arith)
+    ∙ ap (λ m. covered_of t (range_with_len 0 n) (s + m)) place
+    ∙ set-read t (s + (base + get_or offsets k 0)) (get_or sets k []) (record {
+      few = one.few;
+      small = one.small;
+      there = subst (Holds (coverage_text (get_or sets k [])) t) (omega arith) (holds-in held one.there);
+    }) n (kept k within)))
+
+-- offsets after their number
+length-counted : (base : ℕ) (offsets : List ℕ) → length (counted_text base offsets) ≡ 2 + length offsets * 2
+unfolding counted_text
+length-counted base offsets =
+    omega (arith, length-append (uint16 (length offsets)) (offsets_text base offsets), length-uint16 (length offsets), length-offsets base offsets)
+
+record IsCounted (t : List ℕ) (at base : ℕ) (offsets : List ℕ) : Type 0 where
+  many : word t at ≡ length offsets
+  each : (k : ℕ) → k < length offsets → word t (at + 2 + k * 2) ≡ base + get_or offsets k 0
+
+counted-read : (t : List ℕ) (at base : ℕ) (offsets : List ℕ) → length offsets < 65536 → AreOffsets base offsets → Holds (counted_text base offsets) t at →
+    IsCounted t at base offsets
+unfolding counted_text
+counted-read t at base offsets few fit h = record {
+  many = holds-word (length offsets) few (holds-first (uint16 (length offsets)) _ h);
+  each = λ k less. offsets-read t (at + 2) base offsets k less fit (holds-second (uint16 (length offsets)) _ 2 (length-uint16 (length offsets)) h);
+}
+
+context-with : (before input after : List (List ℕ)) (actions : List ℕ) → Context
+context-with before input after actions = record { before = before; input = input; after = after; actions = actions }
+
+same-context : (a b : Context) → a.before ≡ b.before → a.input ≡ b.input → a.after ≡ b.after → a.actions ≡ b.actions → a ≡ b
+unfolding context-with
+same-context a b p q r s =
+    ap (λ xs. context-with xs a.input a.after a.actions) p ∙ ap (λ xs. context-with b.before xs a.after a.actions) q
+    ∙ ap (λ xs. context-with b.before b.input xs a.actions) r ∙ ap (λ xs. context-with b.before b.input b.after xs) s
+
+-- all sets of a context are sets of new numbers
+pub record IsKeptContext (n : ℕ) (context : Context) : Type 0 where
+  pub before : AreKeptSets n context.before
+  pub input : AreKeptSets n context.input
+  pub after : AreKeptSets n context.after
+
+module _ (t : List ℕ) (s n : ℕ) (context : Context) (has : HasContext context t s) where
+  base : ℕ
+  base = base_of has.before has.input has.after context.actions
+
+  record IsRead : Type 0 where
+    format : word t s ≡ 3
+    before-read : IsCounted t (s + 2) base has.before
+    input-place : input_at t s ≡ s + 4 + length has.before * 2
+    input-read : IsCounted t (s + 4 + length has.before * 2) base has.input
+    after-place : after_at t s ≡ s + 6 + (length has.before + length has.input) * 2
+    after-read : IsCounted t (s + 6 + (length has.before + length has.input) * 2) base has.after
+    actions-place : actions_at t s ≡ s + 8 + (length has.before + length has.input + length has.after) * 2
+    count-read : word t (s + 8 + (length has.before + length has.input + length has.after) * 2) ≡ has.count
+    actions-read : words t (s + 10 + (length has.before + length has.input + length has.after) * 2) (has.count * 2) ≡ context.actions
+    behind : Holds has.tables t (s + base)
+
+  read : IsRead
+  unfolding context_text base
+  read =
+      let a = length has.before in
+      let b = length has.input in
+      let d = length has.after in
+      let near = has.fits.near in
+      let many = has.fits.many in
+      let tail3 : List ℕ = uint16 has.count ++ (array_text context.actions ++ has.tables) in
+      let tail2 : List ℕ = counted_text base has.after ++ tail3 in
+      let tail1 : List ℕ = counted_text base has.input ++ tail2 in
+      let h2 = holds-second (uint16 3) (counted_text base has.before ++ tail1) 2 (length-uint16 3) has.there in
+      let first = counted-read t (s + 2) base has.before (omega (arith, near)) has.fits.fit_before (holds-first (counted_text base has.before) tail1 h2) in
+      let h-input = subst (Holds tail1 t) {x = s + 2 + (2 + a * 2)} {y = s + 4 + a * 2} (omega arith)
+      (holds-second (counted_text base has.before) tail1 (2 + a * 2) (length-counted base has.before) h2) in
+      let second = counted-read t (s + 4 + a * 2) base has.input (omega (arith, near)) has.fits.fit_input (holds-first (counted_text base has.input) tail2 h-input) in
+      let h-after = subst (Holds tail2 t) {x = s + 4 + a * 2 + (2 + b * 2)} {y = s + 6 + (a + b) * 2} (omega arith)
+      (holds-second (counted_text base has.input) tail2 (2 + b * 2) (length-counted base has.input) h-input) in
+      let third = counted-read t (s + 6 + (a + b) * 2) base has.after (omega (arith, near)) has.fits.fit_after (holds-first (counted_text base has.after) tail3 h-after) in
+      let h-count = subst (Holds tail3 t) {x = s + 6 + (a + b) * 2 + (2 + d * 2)} {y = s + 8 + (a + b + d) * 2} (omega arith)
+      (holds-second (counted_text base has.after) tail3 (2 + d * 2) (length-counted base has.after) h-after) in
+      let count = holds-word has.count (omega (arith, near, many)) (holds-first (uint16 has.count) (array_text context.actions ++ has.tables) h-count) in
+      let h-actions = subst (Holds (array_text context.actions ++ has.tables) t) {x = s + 8 + (a + b + d) * 2 + 2} {y = s + 10 + (a + b + d) * 2} (omega arith)
+      (holds-second (uint16 has.count) (array_text context.actions ++ has.tables) 2 (length-uint16 has.count) h-count) in
+      let many1 = first.many in
+      let many2 = second.many in
+      let many3 = third.many in
+      let at1 : input_at t s ≡ s + 4 + a * 2 = omega (arith, many1) in
+      let at2 : after_at t s ≡ s + 6 + (a + b) * 2 = ap (λ k. k + 2 + word t k * 2) at1 ∙ omega (arith, many2) in
+      let at3 : actions_at t s ≡ s + 8 + (a + b + d) * 2 = ap (λ k. k + 2 + word t k * 2) at2 ∙ omega (arith, many3) in
+      record {
+        format = holds-word 3 (omega arith) (holds-first (uint16 3) _ has.there);
+        before-read = first;
+        input-place = at1;
+        input-read = second;
+        after-place = at2;
+        after-read = third;
+        actions-place = at3;
+        count-read = count;
+        actions-read = words-read t (s + 10 + (a + b + d) * 2) context.actions (has.count * 2) (sym many) has.small
+            (holds-first (array_text context.actions) has.tables h-actions);
+        behind = subst (Holds has.tables t) (omega (arith, many))
+            (holds-second (array_text context.actions) has.tables (length context.actions * 2) (length-array context.actions) h-actions);
+      }
+
+  pub format-read : word t s ≡ 3
+  format-read = read.format
+
+  pub context-read : IsKeptContext n context → context_of t (range_with_len 0 n) 6 s ≡ context
+  unfolding base
+  context-read kept =
+      let r = read in
+      same-context (context_of t (range_with_len 0 n) 6 s) context
+      (sets-read t s base n (s + 4) context.before has.before has.tables (word t (s + 2)) r.before-read.many has.has_before r.behind
+      (λ k less. ap (word t) (omega arith) ∙ r.before-read.each k less) kept.before)
+      (sets-read t s base n (input_at t s + 2) context.input has.input has.tables (word t (input_at t s)) (ap (word t) r.input-place ∙ r.input-read.many) has.has_input r.behind
+      (λ k less. ap (λ p. word t (p + 2 + k * 2)) r.input-place ∙ r.input-read.each k less) kept.input)
+      (sets-read t s base n (after_at t s + 2) context.after has.after has.tables (word t (after_at t s)) (ap (word t) r.after-place ∙ r.after-read.many) has.has_after r.behind
+      (λ k less. ap (λ p. word t (p + 2 + k * 2)) r.after-place ∙ r.after-read.each k less) kept.after)
+      (ap (λ p. words t (p + 2) (word t p * 2)) r.actions-place
+      ∙ ap (λ m. words t (s + 8 + (length has.before + length has.input + length has.after) * 2 + 2) (m * 2)) r.count-read
+      ∙ ap (λ p. words t p (has.count * 2)) (omega arith) ∙ r.actions-read)
+
+-- a subtable of format 3 has no rules of other types
+no-rules-in : (t : List ℕ) (s x : ℕ) → word t s ≡ 3 → rules_in t 6 (Some s) x ≡ None
+no-rules-in t s x three = by (coverage_index t (coverage_of t s) x)
+  where
+    by : (index : Option ℕ) → rules_covered t 6 s index x ≡ None
+    by None = refl
+    by (Some i) = ap (λ m. rules_of_several t (if (m == 1) && nat_lt i (word t (s + 4)) then Some (set_of t s i) else None)) three
+
+-- lookups
+record IsHead (t : List ℕ) (l flag : ℕ) (offsets : List ℕ) : Type 0 where
+  type-is : word t l ≡ 6
+  flag-is : word t (l + 2) ≡ flag
+  count-is : word t (l + 4) ≡ length offsets
+  offset-is : (k : ℕ) → k < length offsets → word t (l + 6 + k * 2) ≡ 6 + length offsets * 2 + get_or offsets k 0
+
+module _ (t : List ℕ) (l flag : ℕ) (contexts : List Context) (has : HasChained flag contexts t l) where
+  head : IsHead t l flag has.offsets
+  unfolding chained_text
+  head =
+      let m = length has.offsets in
+      let few = has.few in
+      let front = uint16 6 ++ (uint16 flag ++ uint16 m) in
+      let h = holds-first front _ has.there in
+      let h2 = holds-second (uint16 6) _ 2 (length-uint16 6) h in
+      let h4 = holds-second (uint16 flag) (uint16 m) 2 (length-uint16 flag) h2 in
+      let long : length front ≡ 6 = omega (arith, length-append (uint16 6) (uint16 flag ++ uint16 m), length-append (uint16 flag) (uint16 m), length-uint16 6, length-uint16 flag, length-uint16 m) in
+      let h6 = holds-second front _ 6 long has.there in
+      record {
+        type-is = holds-word 6 (omega arith) (holds-first (uint16 6) _ h);
+        flag-is = holds-word flag has.small (holds-first (uint16 flag) (uint16 m) h2);
+        count-is = ap (word t) (omega arith) ∙ holds-word m (omega (arith, few)) h4;
+        offset-is = λ k less. offsets-read t (l + 6) (6 + m * 2) has.offsets k less has.fit (holds-first (offsets_text (6 + m * 2) has.offsets) has.subtables h6);
+      }
+
+  subtables-held : Holds has.subtables t (l + (6 + length has.offsets * 2))
+  unfolding chained_text
+  subtables-held =
+      let m = length has.offsets in
+      let front = uint16 6 ++ (uint16 flag ++ uint16 m) in
+      let long : length front ≡ 6 = omega (arith, length-append (uint16 6) (uint16 flag ++ uint16 m), length-append (uint16 flag) (uint16 m), length-uint16 6, length-uint16 flag, length-uint16 m) in
+      subst (Holds has.subtables t) (omega arith)
+      (holds-second (offsets_text (6 + m * 2) has.offsets) has.subtables (m * 2) (length-offsets (6 + m * 2) has.offsets)
+      (holds-second front _ 6 long has.there))
+
+  place : ℕ → ℕ
+  place k = l + (6 + length has.offsets * 2) + get_or has.offsets k 0
+
+  part-read : (k : ℕ) → k < length has.offsets → part_at t l 6 k ≡ Some (place k)
+  unfolding place
+  part-read k less =
+      let part = l + word t (l + 6 + k * 2) in
+      let at = head.offset-is k less in
+      ap (λ (b : Bool). if b then Some part else (if (word t l == 7) && (word t (part + 2) == 6) then Some (part + long t (part + 4)) else None))
+      (eq-eqb (word t l) 6 head.type-is)
+      ∙ ap (λ m. Some m) (omega (arith, at))
+
+  context-there : (k : ℕ) → k < length has.offsets → HasContext (get_or contexts k no_context) t (place k)
+  unfolding place
+  context-there k less = (let same = has.have.same in
+      context-in (get_or contexts k no_context) has.subtables (l + (6 + length has.offsets * 2)) (get_or has.offsets k 0) subtables-held
+      (has.have.each k (omega (arith, less, same))))
+    where
+      context-in : (context : Context) (bytes : List ℕ) (at offset : ℕ) → Holds bytes t at → HasContext context bytes offset → HasContext context t (at + offset)
+      context-in context bytes at offset h c = record {
+        before = c.before;
+        input = c.input;
+        after = c.after;
+        count = c.count;
+        tables = c.tables;
+        has_before = c.has_before;
+        has_input = c.has_input;
+        has_after = c.has_after;
+        fits = c.fits;
+        small = c.small;
+        there = holds-in h c.there;
+      }
+
+  pub type-read : word t l ≡ 6
+  type-read = head.type-is
+
+  pub flag-read : word t (l + 2) ≡ flag
+  flag-read = head.flag-is
+
+  pub sets-all : (m : ℕ) → m ≤ length has.offsets → all_have_sets t l 6 m ≡ true
+  sets-all zero less = refl
+  sets-all (suc m) less =
+      ap (λ b. b && has_sets t (part_at t l 6 m)) (sets-all m (omega (arith, less)))
+      ∙ ap (has_sets t) (part-read m (omega (arith, less)))
+      ∙ eq-eqb (word t (place m)) 3 (format-read t (place m) 0 (get_or contexts m no_context) (context-there m (omega (arith, less))))
+
+  pub have-sets : all_have_sets t l 6 (word t (l + 4)) ≡ true
+  have-sets = ap (all_have_sets t l 6) head.count-is ∙ sets-all (length has.offsets) (omega arith)
+
+  pub no-rules : (x : ℕ) → rules_of_type t l 6 x ≡ []
+  no-rules x = ap or_none (first-none (λ j. rules_in t 6 (part_at t l 6 j) x) (word t (l + 4))
+      (λ j less. (let count = head.count-is in
+      let within : j < length has.offsets = omega (arith, less, count) in
+      ap (λ p. rules_in t 6 p x) (part-read j within)
+      ∙ no-rules-in t (place j) x (format-read t (place j) 0 (get_or contexts j no_context) (context-there j within)))))
+
+  module _ (n : ℕ) (kept : (k : ℕ) → k < length contexts → IsKeptContext n (get_or contexts k no_context))
+      (apply : (k : ℕ) → k < length contexts → can_apply (get_or contexts k no_context) ≡ true) where
+    one-read : (k : ℕ) → k < length contexts → contexts_in t (range_with_len 0 n) 6 (part_at t l 6 k) ≡ get_or contexts k no_context ∷ []
+    one-read k less =
+        let same = has.have.same in
+        let within : k < length has.offsets = omega (arith, less, same) in
+        let context = get_or contexts k no_context in
+        ap (contexts_in t (range_with_len 0 n) 6) (part-read k within)
+        ∙ ap if_applies (context-read t (place k) n context (context-there k within) (kept k less))
+        ∙ ap (λ (b : Bool). if b then context ∷ [] else []) (apply k less)
+
+    take-read : (k : ℕ) → k ≤ length contexts → contexts_below t (range_with_len 0 n) l 6 k ≡ take k contexts
+    take-read zero less = refl
+    take-read (suc m) less =
+        let within : m < length contexts = omega (arith, less) in
+        ap (contexts_below t (range_with_len 0 n) l 6) (sym (add-one m)) ∙ below-more (λ j. contexts_in t (range_with_len 0 n) 6 (part_at t l 6 j)) m
+        ∙ ap (λ xs. xs ++ contexts_in t (range_with_len 0 n) 6 (part_at t l 6 m)) (take-read m (omega (arith, less)))
+        ∙ ap (λ xs. take m contexts ++ xs) (one-read m within)
+        ∙ sym (take_more contexts m no_context within) ∙ ap (λ k. take k contexts) (add-one m)
+
+    pub contexts-read : contexts_at t (range_with_len 0 n) l 6 ≡ contexts
+    contexts-read =
+        let same = has.have.same in
+        ap (contexts_below t (range_with_len 0 n) l 6) (head.count-is ∙ same) ∙ take-read (length contexts) (omega arith)
+        ∙ take_all (length contexts) contexts (omega arith)
+
+-- the contexts of an old lookup
+kept-sets : (gsub kept : List ℕ) (s array count : ℕ) → AreKeptSets (length kept) (sets_at gsub kept s array count)
+unfolding AreKeptSets
+kept-sets gsub kept s array count k less =
+    let f = λ (p : ℕ). covered_of gsub kept (s + word gsub (array + p * 2)) in
+    record {
+      test = λ x. covers gsub (s + word gsub (array + k * 2)) (slice_index kept x);
+      is = get_or-map-range_with_len f 0 count k k [] (omega (arith, less, length-map-range_with_len f 0 count)) (omega arith);
+    }
+
+kept-of : (gsub kept : List ℕ) (type s : ℕ) → IsKeptContext (length kept) (context_of gsub kept type s)
+kept-of gsub kept type s =
+    let parts = parts_of gsub type s in
+    record {
+      before = kept-sets gsub kept s parts.before_at parts.before;
+      input = kept-sets gsub kept s parts.input_at parts.input;
+      after = kept-sets gsub kept s parts.after_at parts.after;
+    }
+
+-- what holds of each context of a lookup
+module _ (gsub kept : List ℕ) (lookup type : ℕ) where
+  IsGood : Context → Type 0
+  IsGood context = IsKeptContext (length kept) context × (can_apply context ≡ true)
+
+  good-in : (part : Option ℕ) → All IsGood (contexts_in gsub kept type part)
+  unfolding IsGood
+  good-in None = All-nil IsGood
+  good-in (Some s) = by (can_apply (context_of gsub kept type s)) refl
+    where
+      by : (b : Bool) → can_apply (context_of gsub kept type s) ≡ b → All IsGood (if b then context_of gsub kept type s ∷ [] else [])
+      by true applies = All-cons IsGood (context_of gsub kept type s) [] (kept-of gsub kept type s, applies) (All-nil IsGood)
+      by false fails = All-nil IsGood
+
+  good-below : (count : ℕ) → All IsGood (contexts_below gsub kept lookup type count)
+  good-below zero = All-nil IsGood
+  good-below (suc n) = All-append IsGood (contexts_below gsub kept lookup type n) (contexts_in gsub kept type (part_at gsub lookup type n))
+      (good-below n) (good-in (part_at gsub lookup type n))
+
+  pub kept-context : (k : ℕ) → k < length (contexts_at gsub kept lookup type) → IsKeptContext (length kept) (get_or (contexts_at gsub kept lookup type) k no_context)
+  unfolding IsGood
+  kept-context k less = (good-below (word gsub (lookup + 4)) k no_context less).0
+
+  pub applying-context : (k : ℕ) → k < length (contexts_at gsub kept lookup type) → can_apply (get_or (contexts_at gsub kept lookup type) k no_context) ≡ true
+  unfolding IsGood
+  applying-context k less = (good-below (word gsub (lookup + 4)) k no_context less).1
