@@ -18,3 +18,4 @@ pub mod RuleKept
 pub mod Covering
 pub mod ContextCollecting
 pub mod ContextReading
+pub mod Reaching

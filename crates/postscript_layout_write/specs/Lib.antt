@@ -20,3 +20,5 @@ pub mod RuleLookups
 pub mod Leaving
 pub mod Contexts
 pub mod Coverages
+pub mod Calls
+pub mod Reaching

@@ -74,7 +74,7 @@ fn plain_parts(gsub: &[u8], subtable: usize) -> Parts
 }
 
 /// Returns the parts of a subtable of type 5 or 6.
-fn parts_of(gsub: &[u8], kind: usize, subtable: usize) -> Parts
+pub(crate) fn parts_of(gsub: &[u8], kind: usize, subtable: usize) -> Parts
     requires near { subtable < 2 ^ 33 }
     ensures exact { result ≡ the_parts gsub.now kind subtable }
     ensures near { IsNear result }

@@ -25,6 +25,7 @@
 //! - No clause says when `TooLarge` comes, how small the new table is, or which limit suffices.
 #![tactic(auto)]
 
+mod called;
 mod classes;
 mod contexts;
 mod coverages;
@@ -47,6 +48,7 @@ mod subtables;
 mod tests;
 mod values;
 
+pub use called::with_called;
 pub use classes::glyph_classes;
 pub use error::{Error, Result};
 pub use leaving::left_out;

@@ -6,6 +6,7 @@ use crate::error::{Error, Result};
 
 /// Pays one unit from the limit.
 pub(crate) fn pay(limit: &mut u64) -> Result<()>
+    ensures paid { OnOk result (limit.new + 1 ≡ limit.old) }
     ensures spends { limit.new ≤ limit.old }
     ensures why { IfErr result (λ e. IsUsedUp limit.new e) }
 {

@@ -1,0 +1,30 @@
+use Rattle.std.proofs.Common.{◌≡◌, ◌<◌, ◌≤◌, ◌∙◌, subst, get_or, ℕ, length, arith, rules}
+use Rattle.postscript_layout_write.specs.Calls.{Calls}
+use Rattle.postscript_layout_write.specs.Reaching.{AddsOnly}
+use Rattle.postscript_layout_write.proofs.Reading.{any-default}
+use Rattle.postscript_layout_write.proofs.Reaching.{followed-all, followed-more, followed-none}
+use Rattle.postscript_layout_write.proofs.called.with_called.Goals as goal
+
+pub loop-k-init : goal.loop-k-init
+loop-k-init c = record {
+  followed = followed-none c.args.gsub.now c.args.lookups.now _ _ c.in_ok-reached.ensures.none c.in_ok-add_all.ensures.added;
+  spent = omega (arith, c.add_all.ensures.spends);
+}
+
+pub loop-k-preserved : goal.loop-k-preserved
+loop-k-preserved c =
+    let gsub = c.args.gsub.now in
+    let old = c.loop-k.reached.lookups.items in
+    let k = c.loop-k.k in
+    let less : k < length old = search rules in
+    let at : c.index.result.now ≡ get_or old k 0 = c.index.ensures ∙ any-default old k _ 0 less in
+    record {
+      followed = followed-more gsub c.args.lookups.now k old _ less
+          (subst (λ i. AddsOnly (Calls gsub i) old c.follow.new.self.lookups.items) at c.in_ok-follow.ensures.added) c.loop-k.invariant.followed;
+      spent = omega (arith, c.pay.ensures.spends, c.follow.ensures.spends, c.loop-k.invariant.spent);
+    }
+
+pub returns-clause-reached : goal.returns-clause-reached
+returns-clause-reached c =
+    let past : length c.loop-k.reached.lookups.items ≤ c.loop-k.k = omega arith in
+    followed-all c.args.gsub.now c.args.lookups.now c.loop-k.k _ past c.loop-k.invariant.followed
