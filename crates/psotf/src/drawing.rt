@@ -1,9 +1,10 @@
 //! Drawing of glyphs within the budget.
 use crate::face::Face;
 use crate::failure::Refusal;
+use crate::held::Held;
 use crate::limit::Budget;
 use postscript_drawing::{Accent, Error as Undrawn, draw_components, draw_program};
-use postscript_outline::{Outline, Point, Segment};
+use postscript_outline::{Outline, Point};
 use postscript_type2::{Operand, Program};
 use postscript_view::{Advance, Glyph};
 use std::alloc::Global;
@@ -41,12 +42,12 @@ fn draw_into(
     program: &mut Program<'_>,
     share: &mut u64,
     budget: &mut Budget,
-    segments: &mut Vec<Segment>,
+    held: &mut Held,
 ) -> Result<Option<Operand>, Undrawn> {
-    let width = draw_program(program, Point::ORIGIN, share, segments)?;
+    let width = draw_program(program, Point::ORIGIN, share, held)?;
     if let Some(accent) = Accent::named_by(program.operands_at_end())? {
         budget.search(&face.font);
-        draw_components(alloc, &face.font, &accent, share, segments)?;
+        draw_components(alloc, &face.font, &accent, share, held)?;
     }
     Ok(width)
 }
@@ -63,26 +64,29 @@ pub fn draw<'f, 'l>(
     };
     let share = budget.share();
     let mut left = share;
-    let mut segments = Vec::new(alloc);
+    let mut held = Held::new(alloc, budget);
     let drawn = draw_into(
         alloc,
         face,
         &mut glyph.program(alloc),
         &mut left,
         budget,
-        &mut segments,
+        &mut held,
     );
     budget.spend(share.saturating_sub(left));
-    budget.spend((segments.len() as u64).saturating_mul(SEGMENT));
+    budget.spend((held.segments.len() as u64).saturating_mul(SEGMENT));
     match drawn {
         Ok(width) => Ok((
             glyph,
             Outline {
-                segments,
+                segments: held.segments,
                 width_difference: width,
             },
         )),
-        Err(error) => Err(refusal_of(error, &glyph, share, budget)),
+        Err(error) => match held.refusal_of(&error) {
+            Some(refusal) => Err(refusal),
+            None => Err(refusal_of(error, &glyph, share, budget)),
+        },
     }
 }
 

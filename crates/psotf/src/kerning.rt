@@ -121,7 +121,7 @@ impl Kerning {
         Ok(())
     }
 
-    /// Adds the `GSUB` table, if the chosen features have lookups.
+    /// Adds the `GSUB` table, also if the chosen features have no lookups. Shapers choose by its scripts how to shape.
     fn put_substitutions(
         &mut self,
         alloc: Global,
@@ -134,9 +134,7 @@ impl Kerning {
             self.ligatures = Some(Error::TooLong);
         }
         match face.source.file.table(*b"GSUB") {
-            Some(gsub) if !lookups.chosen.is_empty() => {
-                self.put_rules(alloc, gsub, lookups, glyphs, left)
-            }
+            Some(gsub) if !lookups.lost => self.put_rules(alloc, gsub, lookups, glyphs, left),
             _ => Ok(()),
         }
     }

@@ -19,6 +19,7 @@ mod features;
 mod flat;
 mod glyph;
 mod glyphs;
+mod held;
 mod hints;
 mod inspect;
 mod instance;

@@ -19,7 +19,7 @@ use crate::failure::Failure;
 use crate::hints::hinted;
 use crate::limit::Budget;
 use crate::progress::Progress;
-use crate::saving::save;
+use crate::saving::NewFile;
 use crate::sheet::Sheet;
 use crate::stopped::Stopped;
 use clap::ArgMatches;
@@ -36,17 +36,25 @@ pub use unread::write_refused;
 /// without calls.
 pub const RUNS: u64 = OBJECT + 4;
 
-/// Adds the rows of glyphs to a page, one on each line, and the end of the block of JSON.
-fn put_glyphs(
+/// Writes a piece of a page, and clears it.
+fn take(rt: &HostRuntime, page: &mut Vec<u8>, file: &mut NewFile<'_>) -> Result<(), Failure> {
+    file.put(rt, page.as_slice())?;
+    page.clear();
+    Ok(())
+}
+
+/// Writes the rows of glyphs to a page, one on each line, and the end of the block of JSON.
+fn write_glyphs(
     rt: &HostRuntime,
     face: &Face<'_>,
     mapped: &[Mapped],
     gids: Range<u16>,
     budget: &mut Budget,
     stopped: &mut Stopped<'_>,
-    page: &mut Vec<u8>,
+    file: &mut NewFile<'_>,
 ) -> Result<(), Failure> {
     let from = gids.start;
+    let mut page = Vec::new(rt.alloc());
     let mut progress = Progress::new(rt, gids.end);
     let mut sheet = Sheet::new(rt.alloc());
     for gid in gids {
@@ -55,10 +63,11 @@ fn put_glyphs(
             page.extend_from_slice(b",\n")?;
         }
         row::put(rt.alloc(), &mut sheet, face, mapped, gid, budget, stopped)?;
-        sheet.end_in(page)?;
+        sheet.end_in(&mut page)?;
+        take(rt, &mut page, file)?;
     }
     progress.end();
-    Ok(page.extend_from_slice(b"\n]}\n")?)
+    file.put(rt, b"\n]}\n")
 }
 
 /// The data that all pages share.
@@ -71,15 +80,16 @@ struct Common<'c, 'w, 'l> {
     hinted: u64,
 }
 
-/// Adds the block of JSON of a page (docs/report-format.md).
-fn put_data(
+/// Writes the block of JSON of a page (docs/report-format.md).
+fn write_data(
     rt: &HostRuntime,
     common: &Common<'_, '_, '_>,
     first: u16,
     budget: &mut Budget,
     stopped: &mut Stopped<'_>,
-    page: &mut Vec<u8>,
+    file: &mut NewFile<'_>,
 ) -> Result<(), Failure> {
+    let mut page = Vec::new(rt.alloc());
     let mut sheet = Sheet::new(rt.alloc());
     head::put(
         rt.alloc(),
@@ -90,10 +100,11 @@ fn put_data(
         first,
         common.hinted,
     );
-    sheet.end_in(page)?;
+    sheet.end_in(&mut page)?;
     page.extend_from_slice(b",\n\"glyphs\":[\n")?;
+    take(rt, &mut page, file)?;
     let gids = common.pages.glyphs(first);
-    put_glyphs(rt, common.face, common.mapped, gids, budget, stopped, page)
+    write_glyphs(rt, common.face, common.mapped, gids, budget, stopped, file)
 }
 
 fn put_texts(page: &mut Vec<u8>, texts: &[&str]) -> Result<(), AllocError> {
@@ -119,19 +130,21 @@ fn end(page: &mut Vec<u8>) -> Result<(), AllocError> {
     put_texts(page, &[END])
 }
 
-/// Returns the page that begins with a glyph.
-fn page_of(
+/// Writes the page that begins with a glyph to a file.
+fn write_all(
     rt: &HostRuntime,
     common: &Common<'_, '_, '_>,
     first: u16,
     budget: &mut Budget,
     stopped: &mut Stopped<'_>,
-) -> Result<Vec<u8>, Failure> {
+    file: &mut NewFile<'_>,
+) -> Result<(), Failure> {
     let mut page = Vec::new(rt.alloc());
     begin(rt.alloc(), &mut page)?;
-    put_data(rt, common, first, budget, stopped, &mut page)?;
+    take(rt, &mut page, file)?;
+    write_data(rt, common, first, budget, stopped, file)?;
     end(&mut page)?;
-    Ok(page)
+    take(rt, &mut page, file)
 }
 
 /// Writes the page that begins with a glyph.
@@ -142,9 +155,10 @@ fn write_page(
     budget: &mut Budget,
     stopped: &mut Stopped<'_>,
 ) -> Result<(), Failure> {
-    let page = page_of(rt, common, first, budget, stopped)?;
     let path = common.pages.path_of(rt.alloc(), first)?;
-    save(rt, path.as_str(), page.as_slice())
+    let mut file = NewFile::at(rt, path.as_str())?;
+    let written = write_all(rt, common, first, budget, stopped, &mut file);
+    file.end(rt, written)
 }
 
 fn write_pages(

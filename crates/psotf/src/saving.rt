@@ -1,9 +1,10 @@
 //! Output files that are complete or untouched.
 use crate::failure::Failure;
 use crate::telling;
+use crate::text::Text;
 use clap::ArgMatches;
 use postscript_sfnt_write::{Table, file_of};
-use std::alloc::Global;
+use std::alloc::{AllocError, Global};
 use std::fs::File;
 use std::io::Write;
 use std::{fs, io};
@@ -14,24 +15,104 @@ pub fn file(alloc: Global, tables: &mut Vec<Table<'_>>) -> Result<Vec<u8>, Failu
     Ok(file_of(alloc, tables.as_slice())?)
 }
 
-/// Writes bytes to a new file.
-fn write_beside(rt: &HostRuntime, path: &str, bytes: &[u8]) -> io::Result<()> {
-    let mut file = File::create(rt, path)?;
-    file.write_all(bytes)
+/// A file that is written piece by piece, beside its path. It gets its name at the end.
+#[derive(Drop)]
+pub struct NewFile<'w> {
+    path: &'w str,
+    beside: String,
+    file: File,
 }
 
-/// Writes `path.part` and renames it to `path`.
+impl<'w> NewFile<'w> {
+    /// Begins a file.
+    pub fn at(rt: &HostRuntime, path: &'w str) -> Result<NewFile<'w>, Failure> {
+        let beside = format!(in rt.alloc(); "{path}.part")?;
+        match File::create(rt, beside.as_str()) {
+            Ok(file) => Ok(NewFile { path, beside, file }),
+            Err(error) => Err(Failure::saving(rt.alloc(), path, error)),
+        }
+    }
+
+    /// Adds bytes.
+    pub fn put(&mut self, rt: &HostRuntime, bytes: &[u8]) -> Result<(), Failure> {
+        match self.file.write_all(bytes) {
+            Ok(()) => Ok(()),
+            Err(error) => Err(Failure::saving(rt.alloc(), self.path, error)),
+        }
+    }
+
+    /// Renames the file. After a failure to write it, the file is removed, and the failure is returned.
+    pub fn end(self, rt: &HostRuntime, written: Result<(), Failure>) -> Result<(), Failure> {
+        let named = match written {
+            Ok(()) => match fs::rename(rt, self.beside.as_str(), self.path) {
+                Ok(()) => Ok(()),
+                Err(error) => Err(Failure::saving(rt.alloc(), self.path, error)),
+            },
+            Err(failure) => Err(failure),
+        };
+        if named.is_err() {
+            let _ = fs::remove_file(rt, self.beside.as_str());
+        }
+        named
+    }
+}
+
+/// Writes a file.
 pub fn save(rt: &HostRuntime, path: &str, bytes: &[u8]) -> Result<(), Failure> {
-    let beside = format!(in rt.alloc(); "{path}.part")?;
-    let written = match write_beside(rt, beside.as_str(), bytes) {
-        Ok(()) => fs::rename(rt, beside.as_str(), path),
-        Err(error) => Err(error),
-    };
-    match written {
-        Ok(()) => Ok(()),
-        Err(error) => {
-            let _ = fs::remove_file(rt, beside.as_str());
-            Err(Failure::saving(rt.alloc(), path, error))
+    let mut file = NewFile::at(rt, path)?;
+    let written = file.put(rt, bytes);
+    file.end(rt, written)
+}
+
+/// An output that is written piece by piece: the file in the arguments, or standard output.
+#[derive(Drop)]
+pub enum Output<'w> {
+    File(NewFile<'w>),
+    Standard,
+}
+
+impl<'w> Output<'w> {
+    /// Begins the output.
+    pub fn of(rt: &HostRuntime, words: &'w ArgMatches<'_>) -> Result<Output<'w>, Failure> {
+        match words.get_str("out") {
+            Some(path) => Ok(Output::File(NewFile::at(rt, path)?)),
+            None => Ok(Output::Standard),
+        }
+    }
+
+    /// Adds bytes. `out` is standard output.
+    pub fn put<W: Write>(
+        &mut self,
+        rt: &HostRuntime,
+        bytes: &[u8],
+        out: &mut W,
+    ) -> Result<(), Failure> {
+        match self {
+            Output::File(file) => file.put(rt, bytes),
+            Output::Standard => telling::put(out, bytes),
+        }
+    }
+
+    /// Adds a text, and clears it. `out` is standard output.
+    pub fn take<W: Write>(
+        &mut self,
+        rt: &HostRuntime,
+        text: &mut Text,
+        out: &mut W,
+    ) -> Result<(), Failure> {
+        if text.has_failed() {
+            return Err(Failure::from(AllocError));
+        }
+        self.put(rt, text.as_str().as_bytes(), out)?;
+        text.clear();
+        Ok(())
+    }
+
+    /// Names the file, or removes it after a failure.
+    pub fn end(self, rt: &HostRuntime, written: Result<(), Failure>) -> Result<(), Failure> {
+        match self {
+            Output::File(file) => file.end(rt, written),
+            Output::Standard => written,
         }
     }
 }

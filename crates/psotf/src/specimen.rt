@@ -5,7 +5,7 @@ use crate::failure::{Failure, Refusal};
 use crate::labels::Labels;
 use crate::limit::Budget;
 use crate::progress::Progress;
-use crate::saving;
+use crate::saving::Output;
 use crate::stopped::Stopped;
 use crate::svg::SVG;
 use crate::text::Text;
@@ -114,27 +114,27 @@ fn put_cell(
     refusal
 }
 
-/// Adds the cells of glyphs. Glyphs that cost more than the limit are reported.
-fn put_cells(
+/// Writes the cells of glyphs. Glyphs that cost more than the limit are reported.
+fn write_cells<W: Write>(
     rt: &HostRuntime,
     face: &Face<'_>,
     gids: Range<u16>,
     budget: &mut Budget,
     stopped: &mut Stopped<'_>,
-    picture: &mut Text,
+    output: &mut Output<'_>,
+    out: &mut W,
 ) -> Result<(), Failure> {
     let from = gids.start;
+    let mut picture = Text::new(rt.alloc());
     let mut progress = Progress::new(rt, gids.end);
     for gid in gids {
         progress.at_glyph(gid);
         let cell = u64::from(gid.saturating_sub(from));
-        match put_cell(rt.alloc(), face, gid, cell, budget, picture) {
+        match put_cell(rt.alloc(), face, gid, cell, budget, &mut picture) {
             Some(refusal) if refusal.is_by_limit() => stopped.add(gid, &refusal)?,
             _ => {}
         }
-        if picture.has_failed() {
-            break;
-        }
+        output.take(rt, &mut picture, out)?;
     }
     progress.end();
     Ok(())
@@ -158,20 +158,22 @@ fn put_opening(face: &Face<'_>, cells: u64, picture: &mut Text) {
     picture.push_str("\">\n");
 }
 
-/// Returns the picture of glyphs.
-fn picture_of(
+/// Writes the picture of glyphs, cell by cell.
+fn write_picture<W: Write>(
     rt: &HostRuntime,
     face: &Face<'_>,
     gids: Range<u16>,
     budget: &mut Budget,
     stopped: &mut Stopped<'_>,
-) -> Result<String, Failure> {
-    let mut picture = Text::new(rt.alloc());
+    output: &mut Output<'_>,
+    out: &mut W,
+) -> Result<(), Failure> {
+    let mut opening = Text::new(rt.alloc());
     let cells = gids.end.saturating_sub(gids.start);
-    put_opening(face, u64::from(cells), &mut picture);
-    put_cells(rt, face, gids, budget, stopped, &mut picture)?;
-    picture.push_str("</svg>\n");
-    Ok(picture.end()?)
+    put_opening(face, u64::from(cells), &mut opening);
+    output.take(rt, &mut opening, out)?;
+    write_cells(rt, face, gids, budget, stopped, output, out)?;
+    output.put(rt, b"</svg>\n", out)
 }
 
 /// Writes the picture of the chosen glyphs, with errors in their cells. Afterwards it fails if glyphs cost more than
@@ -187,7 +189,16 @@ pub fn write<W: Write>(
     let most = words.get_one::<u16>("count").unwrap_or(65535);
     let to = count(face).min(from.saturating_add(most));
     let mut stopped = Stopped::new(rt);
-    let picture = picture_of(rt, face, from..to, budget, &mut stopped)?;
-    saving::put(rt, words, picture.as_bytes(), out)?;
+    let mut output = Output::of(rt, words)?;
+    let written = write_picture(
+        rt,
+        face,
+        from..to,
+        budget,
+        &mut stopped,
+        &mut output,
+        out,
+    );
+    output.end(rt, written)?;
     stopped.end()
 }

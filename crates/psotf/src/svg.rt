@@ -2,6 +2,7 @@
 use crate::characters::missing;
 use crate::failure::Failure;
 use crate::glyphs::Glyphs;
+use crate::held::BYTE;
 use crate::limit::Budget;
 use crate::saving;
 use crate::telling::tell;
@@ -39,7 +40,10 @@ fn put<G: Glyphs>(
     }
     match glyphs.outline(alloc, gid, budget) {
         Ok(outline) => {
+            let before = picture.as_str().len();
             put_path(picture, x, &outline);
+            let bytes = picture.as_str().len().saturating_sub(before);
+            budget.spend((bytes as u64).saturating_mul(BYTE));
             Ok(glyphs.advance(gid))
         }
         Err(refusal) => Err(Failure::glyph(gid, &refusal)),

@@ -1,5 +1,6 @@
 //! The glyphs of an instance, drawn within the limit and measured.
 use crate::failure::{Failure, Refusal};
+use crate::held::Held;
 use crate::limit::Budget;
 use crate::progress::Progress;
 use crate::variable::{Chosen, VariableFace, advance_of, refusal_of};
@@ -11,7 +12,7 @@ use postscript_variable_drawing::draw_glyph;
 use std::alloc::Global;
 
 /// The part of the limit that a glyph may cost here, since all its operations are kept in memory while it is written.
-const HELD: u64 = 10;
+const HELD: u64 = 40;
 
 /// A rectangle in whole font units.
 #[derive(Clone, Copy)]
@@ -107,17 +108,20 @@ fn draw_into(
     gid: u16,
     chosen: &Chosen,
     budget: &mut Budget,
-    segments: &mut Vec<Segment>,
+    held: &mut Held,
 ) -> Result<(), Refusal> {
     let share = budget.share();
     let mut left = share;
     let glyph = usize::from(gid);
-    let drawn = draw_glyph(alloc, &face.font, glyph, &chosen.place, &mut left, segments);
+    let drawn = draw_glyph(alloc, &face.font, glyph, &chosen.place, &mut left, held);
     let taken = share.saturating_sub(left);
     budget.spend_whole(taken);
     let most = budget.limit / HELD;
     match drawn {
-        Err(error) => Err(refusal_of(error, face, share, budget)),
+        Err(error) => match held.refusal_of(&error) {
+            Some(refusal) => Err(refusal),
+            None => Err(refusal_of(error, face, share, budget)),
+        },
         Ok(()) if taken > most => Err(Refusal::Held(most)),
         Ok(()) => Ok(()),
     }
@@ -132,10 +136,11 @@ fn frame_of(
     budget: &mut Budget,
     is_rounded: bool,
 ) -> Result<Option<Frame>, Failure> {
-    let mut segments = Vec::new(alloc);
-    if let Err(refusal) = draw_into(alloc, face, gid, chosen, budget, &mut segments) {
+    let mut held = Held::new(alloc, budget);
+    if let Err(refusal) = draw_into(alloc, face, gid, chosen, budget, &mut held) {
         return Err(Failure::glyph(gid, &refusal));
     }
+    let mut segments = held.segments;
     if is_rounded {
         for segment in &mut segments {
             *segment = nearest_segment(*segment);

@@ -6,6 +6,7 @@ use crate::drawing::SEGMENT;
 use crate::failure::{Failure, Refusal};
 use crate::glyph::{chars, shape};
 use crate::glyphs::{self, Glyphs};
+use crate::held::Held;
 use crate::limit::Budget;
 use crate::sheet::Sheet;
 use crate::svg;
@@ -65,23 +66,26 @@ pub fn outline_of(
 ) -> Result<Outline, Refusal> {
     let share = budget.share();
     let mut left = share;
-    let mut segments = Vec::new(alloc);
+    let mut held = Held::new(alloc, budget);
     let drawn = draw_glyph(
         alloc,
         &face.font,
         usize::from(gid),
         &chosen.place,
         &mut left,
-        &mut segments,
+        &mut held,
     );
     budget.spend(share.saturating_sub(left));
-    budget.spend((segments.len() as u64).saturating_mul(SEGMENT));
+    budget.spend((held.segments.len() as u64).saturating_mul(SEGMENT));
     match drawn {
         Ok(()) => Ok(Outline {
-            segments,
+            segments: held.segments,
             width_difference: None,
         }),
-        Err(error) => Err(refusal_of(error, face, share, budget)),
+        Err(error) => match held.refusal_of(&error) {
+            Some(refusal) => Err(refusal),
+            None => Err(refusal_of(error, face, share, budget)),
+        },
     }
 }
 

@@ -4,6 +4,7 @@ use super::glyphs::{advance_of, count, outline_of};
 use super::place::{Chosen, axis_named};
 use crate::characters::{glyph_of, refuse_missing};
 use crate::failure::Failure;
+use crate::held::BYTE;
 use crate::limit::Budget;
 use crate::saving;
 use crate::svg::picture_of;
@@ -16,6 +17,9 @@ use std::io::Write;
 
 /// The number of steps from an end of the axis to its default.
 const STEPS: i64 = 4;
+
+/// How often a path is in the picture: once in each direction, and once at the beginning.
+const SHOWN: u64 = 3;
 
 /// The duration of one movement to the other end and back, repeated forever.
 const TIME: &str = "dur=\"8s\" repeatCount=\"indefinite\"";
@@ -97,8 +101,16 @@ fn asked(
 
 impl Frame {
     /// Adds a glyph to the right of the others.
-    fn put(&mut self, alloc: Global, outline: &Outline, advance: i64) -> Result<(), AllocError> {
-        self.paths.push(format!(in alloc; "{outline}")?)?;
+    fn put(
+        &mut self,
+        alloc: Global,
+        outline: &Outline,
+        advance: i64,
+        budget: &mut Budget,
+    ) -> Result<(), AllocError> {
+        let path = format!(in alloc; "{outline}")?;
+        budget.spend((path.len() as u64).saturating_mul(BYTE * SHOWN));
+        self.paths.push(path)?;
         self.starts.push(self.width)?;
         self.width = self.width.saturating_add(advance);
         Ok(())
@@ -115,7 +127,10 @@ impl Frame {
     ) -> Result<(), Failure> {
         for gid in gids {
             match outline_of(alloc, face, *gid, chosen, budget) {
-                Ok(outline) => self.put(alloc, &outline, advance_of(face, *gid, chosen))?,
+                Ok(outline) => {
+                    let advance = advance_of(face, *gid, chosen);
+                    self.put(alloc, &outline, advance, budget)?;
+                }
                 Err(refusal) => return Err(Failure::glyph(*gid, &refusal)),
             }
         }
