@@ -5,6 +5,7 @@ use crate::features::Features;
 use crate::layout::{narrow, put_closed};
 use crate::limit::Budget;
 use postscript_layout::{Error, Result as Searched, closure_over};
+use postscript_layout_write::{Error as Unwritten, with_called};
 use std::alloc::{AllocError, Global};
 
 /// The lookups of the chosen features, or none if they cost more than the limit.
@@ -31,6 +32,21 @@ struct Closed {
     glyphs: Vec<u16>,
 }
 
+/// Returns the lookups of the features, and those that their contexts call.
+fn lookups_of(
+    alloc: Global,
+    gsub: &[u8],
+    features: &Features,
+    left: &mut u64,
+) -> Searched<Vec<u16>> {
+    let chosen = features.lookups(alloc, gsub, left)?;
+    match with_called(alloc, gsub, &chosen, left) {
+        Ok(lookups) => Ok(lookups),
+        Err(Unwritten::Memory) => Err(Error::Memory),
+        Err(_) => Err(Error::TooLong),
+    }
+}
+
 /// Returns the lookups of the features, and the closure of glyphs over them.
 fn found(
     alloc: Global,
@@ -40,7 +56,7 @@ fn found(
     left: &mut u64,
 ) -> Searched<Closed> {
     let gsub = face.source.file.table(*b"GSUB").unwrap_or(&[]);
-    let lookups = features.lookups(alloc, gsub, left)?;
+    let lookups = lookups_of(alloc, gsub, features, left)?;
     let glyphs = closure_over(alloc, gsub, &lookups, glyphs, left)?;
     Ok(Closed { lookups, glyphs })
 }

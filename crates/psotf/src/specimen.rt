@@ -190,15 +190,7 @@ pub fn write<W: Write>(
     let to = count(face).min(from.saturating_add(most));
     let mut stopped = Stopped::new(rt);
     let mut output = Output::of(rt, words)?;
-    let written = write_picture(
-        rt,
-        face,
-        from..to,
-        budget,
-        &mut stopped,
-        &mut output,
-        out,
-    );
+    let written = write_picture(rt, face, from..to, budget, &mut stopped, &mut output, out);
     output.end(rt, written)?;
     stopped.end()
 }
