@@ -10,7 +10,8 @@ use Rattle.postscript_sfnt.specs.declared.character_map.CharacterMap.{CharacterM
 use Rattle.postscript_sfnt_write.specs.Mappings.{IsMapping}
 use Rattle.postscript_sfnt_write.specs.declared.mapping.Mapping.{Mapping}
 use Rattle.postscript_files.specs.Choices.{AreKeptPairs, IsKept, glyph_of, glyphs_of, named_of}
-use Rattle.postscript_files.specs.Renumbered.{AreNumbersOf, AreRenumbered, IsNumbered, IsOrigin, renumber}
+use Rattle.postscript_files.specs.Origins.{IsOrigin}
+use Rattle.postscript_files.specs.Renumbered.{AreNumbersOf, AreRenumbered, IsNumbered, renumber}
 use Rattle.postscript_files.specs.declared.choice.Choice.{Choice}
 
 abbrev none : Mapping

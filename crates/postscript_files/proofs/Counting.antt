@@ -13,7 +13,7 @@ use Rattle.postscript_write.specs.Sources.{choice_by, kept_of}
 use Rattle.postscript_write.proofs.Drawings.{many-of}
 use Rattle.postscript_write.proofs.Places.{keeping-many}
 use Rattle.postscript_write.proofs.ReadAgain.{one_view}
-use Rattle.postscript_files.specs.Made.{AreOrigins}
+use Rattle.postscript_files.specs.Origins.{AreOrigins}
 use Rattle.postscript_files.specs.Subsets.{IsSubsetFont}
 use Rattle.postscript_files.proofs.Same.{one-closed, same-kept}
 

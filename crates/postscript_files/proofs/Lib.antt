@@ -10,6 +10,7 @@ pub mod Twice
 pub mod Listing
 pub mod Origins
 pub mod Charting
+pub mod Ordering
 pub mod Measuring
 pub mod Counting
 pub mod Subsetting

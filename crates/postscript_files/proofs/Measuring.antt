@@ -1,5 +1,5 @@
 -- The advances and the left side bearings of a subset.
-use Rattle.std.proofs.Common.{◌≡◌, sym, ap, ◌∙◌, subst, ℕ, pos, ◌+◌, ◌*◌, ◌<◌, List, length, arith}
+use Rattle.std.proofs.Common.{◌≡◌, sym, ap, ◌∙◌, ℕ, pos, ◌+◌, ◌*◌, ◌<◌, List, length, arith}
 use Rattle.std.specs.Prelude.{Some, map, slice_get, option_map, nat_lt, if◌then◌else◌}
 use Rattle.std.proofs.lemmas.Bool.{le-ltb, lt-ltb}
 use Rattle.std.proofs.lemmas.List.{length-map}
@@ -11,7 +11,7 @@ use Rattle.postscript_sfnt_write.specs.Metrics.{IsMetric}
 use Rattle.postscript_sfnt_write.specs.declared.metrics.Metric.{Metric}
 use Rattle.postscript_files.specs.Made.{IsHmtxOf}
 use Rattle.postscript_files.specs.Measures.{bearing_in, metric_in}
-use Rattle.postscript_files.specs.Renumbered.{IsOrigin}
+use Rattle.postscript_files.specs.Origins.{IsOrigin}
 use Rattle.postscript_files.specs.Subsets.{bearing_of}
 use Rattle.postscript_files.specs.declared.face.Face.{Face}
 

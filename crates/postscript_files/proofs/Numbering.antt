@@ -2,7 +2,8 @@
 use Rattle.std.proofs.Common.{inl, inr, refl, sym, ap, subst, ℕ, ◌+◌, ◌<◌, List, length, get_or, arith, get_or-set_other, get_or-set_same}
 use Rattle.std.specs.Prelude.{slice_set}
 use Rattle.std.proofs.lemmas.Bool.{cases_eq}
-use Rattle.postscript_files.specs.Renumbered.{IsNumbered, IsOrigin}
+use Rattle.postscript_files.specs.Origins.{IsOrigin}
+use Rattle.postscript_files.specs.Renumbered.{IsNumbered}
 
 pub numbered-more : (origins numbers : List ℕ) (i : ℕ) → i < length origins → get_or origins i 0 < length numbers →
     ((k : ℕ) → k < i → IsNumbered origins numbers (get_or origins k 0)) →

@@ -15,8 +15,7 @@ use Rattle.postscript_write.specs.Sources.{AreThere, choice_by, is_kept, keeping
 use Rattle.postscript_write.proofs.Drawings.{many-of}
 use Rattle.postscript_write.proofs.Marks.{kept_more}
 use Rattle.postscript_write.proofs.Places.{keeping-at, keeping-many}
-use Rattle.postscript_files.specs.Made.{AreOrigins}
-use Rattle.postscript_files.specs.Renumbered.{IsOrigin}
+use Rattle.postscript_files.specs.Origins.{AreOrigins, IsOrigin}
 use Rattle.postscript_files.specs.Subsets.{IsSubsetFont}
 use Rattle.postscript_files.proofs.Keeping.{left-set, right-set}
 use Rattle.postscript_files.proofs.Same.{cut-like}
@@ -28,10 +27,10 @@ kept-at (one ∷ named) (suc i) glyph within is =
     right-set (one == glyph) (is_kept named glyph) (kept-at named i glyph (omega (arith, within)) is)
 
 -- a glyph that is named is kept
-named-kept : (named : List ℕ) (glyph : ℕ) → Contains named glyph → is_kept named glyph ≡ true
+pub named-kept : (named : List ℕ) (glyph : ℕ) → Contains named glyph → is_kept named glyph ≡ true
 named-kept named glyph h = kept-at named h.0 glyph h.1 h.2
 
-zero-kept : (named : List ℕ) → is_kept named 0 ≡ true
+pub zero-kept : (named : List ℕ) → is_kept named 0 ≡ true
 zero-kept [] = refl
 zero-kept (one ∷ named) = right-set (one == 0) (is_kept named 0) (zero-kept named)
 
@@ -39,7 +38,7 @@ last-kept : (b : Bool) (n glyph : ℕ) → b ≡ true → glyph ≡ n → Contai
 last-kept true n glyph kept same = (0, omega arith, sym same)
 last-kept false n glyph kept same = absurd (cc)
 
-contains-kept : (closed : List ℕ) (n glyph : ℕ) → glyph < n → is_kept closed glyph ≡ true → Contains (kept_of closed n) glyph
+pub contains-kept : (closed : List ℕ) (n glyph : ℕ) → glyph < n → is_kept closed glyph ≡ true → Contains (kept_of closed n) glyph
 contains-kept closed zero glyph less kept = absurd (omega (arith, less))
 contains-kept closed (suc n) glyph less kept =
     subst (λ m. Contains (kept_of closed m) glyph) (add-one n)
@@ -106,7 +105,7 @@ above-zero false named cff origins i glyph are h some = elim (cases_eq i 0) [
   | inr other ↦ omega (arith, other)
 ]
 
-source-there : (named cff flat origins closed : List ℕ) (was : FontView) (i glyph : ℕ) → AreOrigins true named cff origins →
+pub source-there : (named cff flat origins closed : List ℕ) (was : FontView) (i glyph : ℕ) → AreOrigins true named cff origins →
     IsOpened cff was → is_kept closed glyph ≡ true → IsOrigin origins i glyph → IsSourceAt (keeping closed (glyphs_of was)) i glyph
 source-there named cff flat origins closed was i glyph are opened kept h =
     let same : i ≡ glyph = own-number named cff origins i glyph are h in

@@ -7,7 +7,8 @@ use Rattle.postscript_write.specs.Sources.{choice_by}
 use Rattle.postscript_write.specs.declared.error.Error.{Error as Refusal}
 use Rattle.postscript_write.specs.declared.error.Error.TheVariants.{Refused, Glyph, SeveralFonts, MissingGlyph, MissingPart, MissingName, LongGlyph, NoGlyphs, TooLarge}
 use Rattle.postscript_write.specs.declared.error.Error.TheVariants as refusals
-use Rattle.postscript_files.specs.Made.{HasNoOrigins, IsUnopened}
+use Rattle.postscript_files.specs.Made.{HasNoOrigins}
+use Rattle.postscript_files.specs.Origins.{IsUnopened}
 use Rattle.postscript_files.specs.declared.error.Error.{Error}
 use Rattle.postscript_files.specs.declared.error.Error.TheVariants as errors
 

@@ -15,9 +15,9 @@ use Rattle.postscript_write.specs.SameGlyphs.{IsSameGlyph}
 use Rattle.postscript_write.specs.Sources.{chosen, is_kept, kept_of}
 use Rattle.postscript_write.proofs.Drawings.{component-moved, many-of}
 use Rattle.postscript_write.proofs.Marks.{kept_more}
-use Rattle.postscript_files.specs.Made.{AreOrigins, KeptAreTheSame}
+use Rattle.postscript_files.specs.Made.{KeptAreTheSame}
 use Rattle.postscript_files.specs.declared.error.Error.{Error}
-use Rattle.postscript_files.specs.Renumbered.{IsOrigin}
+use Rattle.postscript_files.specs.Origins.{AreOrigins, IsOrigin}
 
 reached-moved : (bytes named : List ℕ) (a b : FontView) → IsOpened bytes a → IsOpened bytes b → (glyph : ℕ) → IsReached a named glyph →
     IsReached b named glyph

@@ -26,9 +26,9 @@ use Rattle.postscript_write.specs.declared.error.Error.{Error as Refusal}
 use Rattle.postscript_files.specs.Choices.{AreKeptPairs, IsFirstMissing, IsKept, NoneIsMissing, glyph_of, glyphs_of, named_of}
 use Rattle.postscript_files.specs.Faces.{IsBestMap, IsFaceIn, cff_tag, cmap_tag, hhea_tag, hmtx_tag, maxp_tag}
 use Rattle.postscript_files.specs.Listed.{HasParts, IsFileOfParts, IsUnmade, NoFileOfParts}
-use Rattle.postscript_files.specs.Made.{AreBytes, AreOrigins, HasNoOrigins, IsHmtxOf, IsMade, IsMapOf, IsSubsetFile}
-use Rattle.postscript_files.specs.Renumbered.{IsOrigin}
-use Rattle.postscript_files.specs.Subsets.{HasSame, IsSubsetFace, IsSubsetFont, IsSubsetOf, KeepsNumber, NoSubsetFrom, NoSubsetOf}
+use Rattle.postscript_files.specs.Made.{AreBytes, HasNoOrigins, IsCutFile, IsHmtxOf, IsMade, IsMapOf}
+use Rattle.postscript_files.specs.Origins.{AreOrigins, AreOriginsOf, IsKeptGlyph, IsOrigin, NoOriginsOf}
+use Rattle.postscript_files.specs.Subsets.{AreCounted, AreInOrder, HasSame, IsSame, IsSubsetFace, IsSubsetFile, IsSubsetFont, IsSubsetOf, KeepsNumber, NoSubsetBy, NoSubsetFrom, NoSubsetOf}
 use Rattle.postscript_files.specs.declared.choice.Choice.{Choice}
 use Rattle.postscript_files.specs.declared.error.Error.{Error}
 use Rattle.postscript_files.specs.declared.error.Error.TheVariants.{Cut, File, Font, Memory, MissingCharacter, MissingTable, NoAdvances, NoMap, Overlap, SameTag, TooLarge}
@@ -40,6 +40,7 @@ use Rattle.postscript_files.proofs.Counting.{many-glyphs}
 use Rattle.postscript_files.proofs.Measuring.{many-metrics, same-advance, same-bearing}
 use Rattle.postscript_files.proofs.OneGlyph.{some-glyph}
 use Rattle.postscript_files.proofs.Origins.{above-zero, has-origin, origin-like, own-number}
+use Rattle.postscript_files.proofs.Ordering.{kept-for, kept-like, one-origins}
 use Rattle.postscript_files.proofs.Others.{one-table}
 
 -- what is known of a new face
@@ -126,6 +127,54 @@ char-only choice old new w char i some maps =
       | inr none ↦ absurd (let e = told.lost none in omega (arith, e, some))
     ]
 
+counted-so : (choice : Choice) (old new : Face) (w : Known choice old new) → AreCounted new (length w.origins)
+counted-so choice old new w = record {
+  font = λ view laid. many-glyphs choice.retain_gids (named_of (glyphs_of choice) w.pairs) old.cff.now new.cff.now w.origins w.font w.are view laid;
+  maxp = w.maxp;
+  hhea = w.hhea;
+  hmtx = w.hmtx.size ∙ ap (λ n. n * 4) (many-metrics old w.origins new.hmtx.now w.hmtx);
+}
+
+-- a kept glyph is the same under its new number
+same-kept-glyph : (choice : Choice) (old new : Face) (w : Known choice old new) (i glyph : ℕ) → IsOrigin w.origins i glyph →
+    IsKeptGlyph choice old glyph → IsSame old new glyph i
+same-kept-glyph choice old new w i glyph h kept =
+    let all = kept-for choice old.map kept.0 w.pairs old.cff.now kept.1 kept.2 w.kept kept.3 in
+    record {
+      drawn = λ was is opened made.
+          kept-like DrawsTheSame choice.retain_gids (named_of (glyphs_of choice) w.pairs) old.cff.now new.cff.now w.origins kept.1 w.are
+          w.font.drawn all i glyph kept.4 h was is opened made;
+      told = λ was is opened made.
+          kept-like IsSameGlyph choice.retain_gids (named_of (glyphs_of choice) w.pairs) old.cff.now new.cff.now w.origins kept.1 w.are
+          w.font.same all i glyph kept.4 h was is opened made;
+      advance = same-advance old new w.origins i glyph w.hmtx w.hhea w.advances h;
+      bearing = same-bearing old new w.origins i glyph w.hmtx w.hhea h;
+    }
+
+-- the map gives a kept character the new number of its glyph
+char-number : (choice : Choice) (old new : Face) (w : Known choice old new) (char glyph i : ℕ) → IsKept choice old.map char glyph →
+    Maps new.map char i → IsOrigin w.origins i glyph
+char-number choice old new w char glyph i kept maps =
+    let at = w.kept.all char glyph kept in
+    let told = char-in choice old new w char i maps in
+    let here = mapping-there w.pairs w.cmap.mappings w.cmap.numbers w.cmap.are at.0 at.1 at.2 in
+    let is : i ≡ get_or w.cmap.numbers at.1.glyph 0 = told.given at.0 _ here at.3 in
+    let asked : Contains (named_of (glyphs_of choice) w.pairs) glyph =
+    subst (λ g. Contains (named_of (glyphs_of choice) w.pairs) g) at.4 (glyph-named (glyphs_of choice) w.pairs at.0 at.1 at.2) in
+    let number : i ≡ get_or w.cmap.numbers glyph 0 = is ∙ ap (λ g. get_or w.cmap.numbers g 0) at.4 in
+    subst (λ n. IsOrigin w.origins n glyph) (sym number)
+    (numbered w.origins w.cmap.numbers glyph w.cmap.numbered (origin-there choice old new w glyph asked))
+
+in-order : (choice : Choice) (old new : Face) (w : Known choice old new) (origins : List ℕ) → AreOriginsOf choice old origins →
+    AreInOrder choice old new origins
+in-order choice old new w origins h =
+    let one = one-origins choice old.map h.0 w.pairs old.cff.now origins w.origins h.1 w.kept h.2 w.are in
+    subst (AreInOrder choice old new) (sym one) (record {
+      counted = counted-so choice old new w;
+      same = λ i glyph origin kept. same-kept-glyph choice old new w i glyph origin kept;
+      maps = λ char glyph i kept maps. char-number choice old new w char glyph i kept maps;
+    })
+
 -- a new face whose tables these are
 pub known : (choice : Choice) (old new : Face) (pairs : List Mapping) (origins font : List ℕ) (made : Made) →
     AreKeptPairs choice old.map pairs → IsSubsetFont choice.retain_gids (named_of (glyphs_of choice) pairs) old.cff.now font →
@@ -164,15 +213,8 @@ subset-face choice old new pairs origins font made kept is are m has file read =
         kept = λ char glyph h. char-kept choice old new w char glyph h;
         only = λ char i some maps. char-only choice old new w char i some maps;
       };
-      counted = (
-        length origins,
-        record {
-          font = λ view laid. many-glyphs choice.retain_gids (named_of (glyphs_of choice) pairs) old.cff.now new.cff.now origins w.font are view laid;
-          maxp = w.maxp;
-          hhea = w.hhea;
-          hmtx = w.hmtx.size ∙ ap (λ n. n * 4) (many-metrics old origins new.hmtx.now w.hmtx);
-        },
-      );
+      ordered = λ all h. in-order choice old new w all h;
+      counted = (length origins, counted-so choice old new w);
       hhea = subst (λ (xs : List ℕ). KeepsBut 34 old.hhea.now xs)
           (one-table new.file hhea_tag made.hhea.items new.hhea.now has.hhea read.hhea) m.hhea_kept;
       maxp = subst (λ (xs : List ℕ). KeepsBut 4 old.maxp.now xs)
@@ -300,7 +342,7 @@ pub if-subset : (r : Result (Vec ℕ Global) Error) (choice : Choice) (old : Fac
     (made : Made) → AreKeptPairs choice old.map pairs → named ≡ named_of (glyphs_of choice) pairs →
     IsSubsetFont choice.retain_gids named old.cff.now font → AreOrigins choice.retain_gids named old.cff.now origins →
     IsMade old pairs origins made → IfOk r (λ file. IsFileOfParts choice old.file font made file.items) →
-    IfOk r (λ file. IsSubsetFile choice old file.items)
+    IfOk r (λ file. IsCutFile choice old file.items)
 if-subset (Ok file) choice old pairs named origins font made kept same is are m it =
     let font-is : IsSubsetFont choice.retain_gids (named_of (glyphs_of choice) pairs) old.cff.now font =
     subst (λ (xs : List ℕ). IsSubsetFont choice.retain_gids xs old.cff.now font) same is in
@@ -315,18 +357,28 @@ if-subset (Ok file) choice old pairs named origins font made kept same is are m 
     }
 if-subset (Err e) choice old pairs named origins font made kept same is are m it = tt
 
-pub subset-so : (r : Result (Vec ℕ Global) Error) (choice : Choice) (bytes : List ℕ) (number : ℕ) (old : Face) →
-    IsFaceIn bytes number old → (choice.lenient ≡ false → NoneIsMissing old.map choice.chars.now) →
-    IfOk r (λ file. IsSubsetFile choice old file.items) → IfOk r (λ file. IsSubsetOf choice bytes number file.items)
-subset-so (Ok file) choice bytes number old was all it = record {
-  old = old;
-  was = was;
+pub subset-by : (r : Result (Vec ℕ Global) Error) (choice : Choice) (old : Face) →
+    (choice.lenient ≡ false → NoneIsMissing old.map choice.chars.now) → IfOk r (λ file. IsCutFile choice old file.items) →
+    IfOk r (λ file. IsSubsetFile choice old file.items)
+subset-by (Ok file) choice old all it = record {
   opens = it.opens;
   all = all;
   there = it.there;
   is = it.is;
 }
-subset-so (Err e) choice bytes number old was all it = tt
+subset-by (Err e) choice old all it = tt
+
+pub subset-so : (r : Result (Vec ℕ Global) Error) (choice : Choice) (bytes : List ℕ) (number : ℕ) (old : Face) →
+    IsFaceIn bytes number old → IfOk r (λ file. IsSubsetFile choice old file.items) → IfOk r (λ file. IsSubsetOf choice bytes number file.items)
+subset-so (Ok file) choice bytes number old was it = record {
+  old = old;
+  was = was;
+  opens = it.opens;
+  all = it.all;
+  there = it.there;
+  is = it.is;
+}
+subset-so (Err e) choice bytes number old was it = tt
 
 -- a list that is not empty has an item
 pub some-named : (named : List ℕ) → (named ≡ [] → ⊥) → 0 < length named
@@ -347,14 +399,47 @@ missing-so (Font e) choice old strict h = absurd h
 missing-so Overlap choice old strict h = absurd h
 missing-so Cut choice old strict h = absurd h
 
-pub no-character-so : (e : Error) (choice : Choice) (bytes : List ℕ) (number : ℕ) (old : Face) → IsFaceIn bytes number old →
-    choice.lenient ≡ false → IsFirstMissing old.map choice.chars.now e → NoSubsetOf choice bytes number e
-no-character-so e choice bytes number old was strict h = inr (old, was, missing-so e choice old strict h)
+from-by : (e : Error) (choice : Choice) (old : Face) → NoSubsetFrom choice old e → NoSubsetBy choice old e
+from-by NoAdvances choice old h = absurd h
+from-by (MissingCharacter char) choice old h = h
+from-by Memory choice old h = h
+from-by TooLarge choice old h = h
+from-by (SameTag tag) choice old h = h
+from-by (File e) choice old h = h
+from-by (MissingTable tag) choice old h = h
+from-by NoMap choice old h = h
+from-by (Font e) choice old h = h
+from-by Overlap choice old h = h
+from-by Cut choice old h = h
+
+-- the `hhea` table of an opened face is not truncated
+by-from : (e : Error) (choice : Choice) (bytes : List ℕ) (number : ℕ) (old : Face) → IsFaceIn bytes number old → NoSubsetBy choice old e →
+    NoSubsetFrom choice old e
+by-from NoAdvances choice bytes number old was h = absurd (let w = was.advances.told.counted.within in omega (arith, w, h))
+by-from (MissingCharacter char) choice bytes number old was h = h
+by-from Memory choice bytes number old was h = h
+by-from TooLarge choice bytes number old was h = h
+by-from (SameTag tag) choice bytes number old was h = h
+by-from (File e) choice bytes number old was h = h
+by-from (MissingTable tag) choice bytes number old was h = h
+by-from NoMap choice bytes number old was h = h
+by-from (Font e) choice bytes number old was h = h
+by-from Overlap choice bytes number old was h = h
+by-from Cut choice bytes number old was h = h
+
+pub no-character-so : (e : Error) (choice : Choice) (old : Face) → choice.lenient ≡ false → IsFirstMissing old.map choice.chars.now e →
+    NoSubsetBy choice old e
+no-character-so e choice old strict h = from-by e choice old (missing-so e choice old strict h)
+
+pub no-subset-by : (r : Result (Vec ℕ Global) Error) (choice : Choice) (old : Face) → IfErr r (λ e. NoSubsetFrom choice old e) →
+    IfErr r (λ e. NoSubsetBy choice old e)
+no-subset-by (Ok file) choice old h = tt
+no-subset-by (Err e) choice old h = from-by e choice old h
 
 pub no-subset-so : (r : Result (Vec ℕ Global) Error) (choice : Choice) (bytes : List ℕ) (number : ℕ) (old : Face) →
-    IsFaceIn bytes number old → IfErr r (λ e. NoSubsetFrom choice old e) → IfErr r (λ e. NoSubsetOf choice bytes number e)
+    IsFaceIn bytes number old → IfErr r (λ e. NoSubsetBy choice old e) → IfErr r (λ e. NoSubsetOf choice bytes number e)
 no-subset-so (Ok file) choice bytes number old was h = tt
-no-subset-so (Err e) choice bytes number old was h = inr (old, was, h)
+no-subset-so (Err e) choice bytes number old was h = inr (old, was, by-from e choice bytes number old was h)
 
 pub unmade-so : (e : Error) (choice : Choice) (old : Face) → IsUnmade old e → NoSubsetFrom choice old e
 unmade-so Memory choice old h = tt
@@ -409,3 +494,28 @@ no-origins-so e choice old pairs named all kept is same h = elim h [
   | inl memory ↦ subst (λ (x : Error). NoSubsetFrom choice old x) (sym memory) tt
   | inr font ↦ no-font-so e choice old pairs named all kept is same font
 ]
+
+-- the origins of a choice are not found
+no-order : (e : Error) (choice : Choice) (old : Face) (pairs : List Mapping) (all : List ℕ) → AreKeptPairs choice old.map pairs →
+    all ≡ named_of (glyphs_of choice) pairs → HasNoOrigins choice.retain_gids all old.cff.now e → NoOriginsOf choice old e
+no-order e choice old pairs all kept same h = elim h [
+  | inl memory ↦ subst (λ (x : Error). NoOriginsOf choice old x) (sym memory) tt
+  | inr font ↦ subst (λ (x : Error). NoOriginsOf choice old x) (sym font.1) (
+    pairs,
+    kept,
+    subst (λ (xs : List ℕ). IsSubsetRefusedBy xs (choice_by choice.retain_gids) old.cff.now font.0) same font.2,
+  )
+]
+
+pub no-origins-of : (r : Result (Vec ℕ Global) Error) (choice : Choice) (old : Face) (pairs : List Mapping) (all : List ℕ) →
+    AreKeptPairs choice old.map pairs → all ≡ named_of (glyphs_of choice) pairs →
+    IfErr r (λ e. HasNoOrigins choice.retain_gids all old.cff.now e) → IfErr r (λ e. NoOriginsOf choice old e)
+no-origins-of (Ok origins) choice old pairs all kept same h = tt
+no-origins-of (Err e) choice old pairs all kept same h = no-order e choice old pairs all kept same h
+
+pub origins-so : (r : Result (Vec ℕ Global) Error) (choice : Choice) (old : Face) (pairs : List Mapping) (all : List ℕ) →
+    AreKeptPairs choice old.map pairs → all ≡ named_of (glyphs_of choice) pairs →
+    IfOk r (λ origins. AreOrigins choice.retain_gids all old.cff.now origins.items) → IfOk r (λ origins. AreOriginsOf choice old origins.items)
+origins-so (Ok origins) choice old pairs all kept same h =
+    (pairs, kept, subst (λ (xs : List ℕ). AreOrigins choice.retain_gids xs old.cff.now origins.items) same h)
+origins-so (Err e) choice old pairs all kept same h = tt

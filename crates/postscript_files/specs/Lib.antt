@@ -1,5 +1,6 @@
 pub mod Faces
 pub mod Choices
+pub mod Origins
 pub mod Renumbered
 pub mod Measures
 pub mod Copies

@@ -1,8 +1,6 @@
--- The origins of new glyphs, and the tables that are made. Only private contracts, laws and proofs use these definitions.
-use Rattle.std.specs.Prelude.{◌≡◌, ◌≢◌, ◌⊎◌, ℕ, ◌*◌, ◌<◌, ◌≤◌, Bool, true, false, List, length, map, take, drop, replicate, slice_index_or}
+-- The tables that are made. Only private contracts, laws and proofs use these definitions.
+use Rattle.std.specs.Prelude.{◌≡◌, ◌⊎◌, ℕ, ◌*◌, ◌<◌, ◌≤◌, Bool, List, length, map, take, drop, replicate, slice_index_or}
 use Rattle.postscript_base.specs.Index.{number_at}
-use Rattle.std.specs.List.{range_with_len}
-use Rattle.postscript_drawing.specs.Components.{glyphs_of}
 use Rattle.postscript_sfnt.specs.Lent.{IsTableOf}
 use Rattle.postscript_sfnt.specs.Metrics.{IsGlyphs, IsWord}
 use Rattle.postscript_sfnt.specs.declared.file.FontFile.{FontFile}
@@ -14,27 +12,20 @@ use Rattle.postscript_sfnt_write.specs.declared.metrics.Metric.{Metric}
 use Rattle.postscript_view.specs.declared.font.FontView.{FontView}
 use Rattle.postscript_write.specs.Components.{AreKept, IsOpened}
 use Rattle.postscript_write.specs.Drawings.{DrawsKept, DrawsTheSame}
-use Rattle.postscript_write.specs.Refusals.{IsRefusedAs, IsSubsetRefusedBy}
+use Rattle.postscript_write.specs.Refusals.{IsSubsetRefusedBy}
 use Rattle.postscript_write.specs.SameGlyphs.{GlyphsKept, IsSameGlyph}
 use Rattle.postscript_write.specs.Sources.{choice_by, chosen}
 use Rattle.postscript_write.specs.declared.error.Error.{Error as Refusal}
-use Rattle.postscript_write.specs.declared.error.Error.TheVariants as refusals
 use Rattle.postscript_files.specs.Faces.{IsFaceIn, post_tag}
 use Rattle.postscript_files.specs.Measures.{metric_in}
-use Rattle.postscript_files.specs.Renumbered.{AreNumbersOf, AreRenumbered, AreSmall, IsOrigin}
+use Rattle.postscript_files.specs.Origins.{IsOrigin}
+use Rattle.postscript_files.specs.Renumbered.{AreNumbersOf, AreRenumbered, AreSmall}
 use Rattle.postscript_files.specs.Subsets.{IsSubsetFace}
 use Rattle.postscript_files.specs.declared.choice.Choice.{Choice}
-use Rattle.postscript_base.specs.declared.error.Error as causes
-use Rattle.postscript_base.specs.declared.error.Error.TheVariants.{Memory}
 use Rattle.postscript_files.specs.declared.error.Error.{Error}
 use Rattle.postscript_files.specs.declared.error.Error.TheVariants as errors
 use Rattle.postscript_files.specs.declared.face.Face.{Face}
 use Rattle.postscript_files.specs.declared.subset.Made.{Made}
-
--- Glyphs that keep their numbers are their own origins. Otherwise the origins are the kept glyphs, in order.
-abbrev pub AreOrigins : (retain : Bool) → (named cff origins : List ℕ) → Type 0
-AreOrigins true named cff origins = (font : FontView) × IsOpened cff font × (origins ≡ range_with_len 0 (glyphs_of font))
-AreOrigins false named cff origins = AreKept named cff origins
 
 -- Each glyph that `kept_glyphs` returns is like the glyph at its index in the font that `subset` writes.
 abbrev pub KeptAreTheSame : Type 0
@@ -82,17 +73,13 @@ pub record IsMade (face : Face) (pairs : List Mapping) (origins : List ℕ) (mad
   pub maxp_kept : KeepsBut 4 face.maxp.now made.maxp.items
   pub post : IsPostOf face.file made.post.items
 
--- A file that opens, and whose face is a subset of this one however it is read.
-pub record IsSubsetFile (choice : Choice) (old : Face) (file : List ℕ) : Type 0 where
-  pub opens : (count : ℕ) × Opens file count
-  pub there : (new : Face) × IsFaceIn file 0 new
-  pub is : (new : Face) → IsFaceIn file 0 new → IsSubsetFace choice old new
-
--- why a font is not opened
-abbrev pub IsUnopened : (cff : List ℕ) → Error → Type 0
-IsUnopened cff e = (e ≡ errors.Memory) ⊎ ((cause : causes.Error) × (e ≡ errors.Font (refusals.Refused cause)) × (cause ≢ Memory → IsRefusedAs cff cause))
-
 -- why the origins are not found
 abbrev pub HasNoOrigins : (retain : Bool) → (named cff : List ℕ) → Error → Type 0
 HasNoOrigins retain named cff e = (e ≡ errors.Memory)
     ⊎ ((fault : Refusal) × (e ≡ errors.Font fault) × IsSubsetRefusedBy named (choice_by retain) cff fault)
+
+-- A file that opens, and whose face is a subset of this one however it is read.
+pub record IsCutFile (choice : Choice) (old : Face) (file : List ℕ) : Type 0 where
+  pub opens : (count : ℕ) × Opens file count
+  pub there : (new : Face) × IsFaceIn file 0 new
+  pub is : (new : Face) → IsFaceIn file 0 new → IsSubsetFace choice old new

@@ -1,13 +1,9 @@
--- The new numbers of glyphs. The origin of a new glyph is the old glyph that it is made of. Only private contracts use this file.
+-- The new numbers of glyphs, listed by their old numbers. Only private contracts use this file.
 use Rattle.std.specs.Prelude.{◌≡◌, ◌⊎◌, ℕ, ◌<◌, ◌≤◌, List, length, map, slice_index_or}
 use Rattle.postscript_sfnt_write.specs.declared.mapping.Mapping.{Mapping}
+use Rattle.postscript_files.specs.Origins.{IsOrigin}
 use Rattle.postscript_files.specs.declared.error.Error.{Error}
 use Rattle.postscript_files.specs.declared.error.Error.TheVariants.{Memory, TooLarge}
-
--- a new glyph of this number has this origin
-pub record IsOrigin (origins : List ℕ) (i glyph : ℕ) : Type 0 where
-  pub there : i < length origins
-  pub is : slice_index_or origins i 0 ≡ glyph
 
 -- the number that is listed for an old glyph is that of a new glyph with this origin
 abbrev pub IsNumbered : (origins numbers : List ℕ) → (glyph : ℕ) → Type 0

@@ -23,11 +23,12 @@ use Rattle.postscript_files.specs.Choices.{AreKeptPairs, IsFirstOf, IsKept, None
 use Rattle.postscript_files.specs.Copies.{HasCopy}
 use Rattle.postscript_files.specs.Faces.{IsFaceIn, IsNeeded, NoFaceIn, cff_tag, cmap_tag, hhea_tag, hmtx_tag, maxp_tag, post_tag}
 use Rattle.postscript_files.specs.Measures.{bearing_in}
+use Rattle.postscript_files.specs.Origins.{AreOriginsOf, IsKeptGlyph, IsOrigin}
 use Rattle.postscript_files.specs.Sound.{IsSoundFont}
 use Rattle.postscript_files.specs.declared.choice.Choice.{Choice}
 use Rattle.postscript_files.specs.declared.choice.Given.{Given}
 use Rattle.postscript_files.specs.declared.error.Error.{Error}
-use Rattle.postscript_files.specs.declared.error.Error.TheVariants.{Cut, Font, Memory, MissingCharacter, SameTag, TooLarge}
+use Rattle.postscript_files.specs.declared.error.Error.TheVariants.{Cut, Font, Memory, MissingCharacter, NoAdvances, SameTag, TooLarge}
 use Rattle.postscript_files.specs.declared.face.Face.{Face}
 
 -- The glyphs that a subset is made for: each is chosen, or it is that of a kept character.
@@ -84,6 +85,13 @@ pub record AreCounted (new : Face) (count : ℕ) : Type 0 where
   pub hhea : IsWord new.hhea.now 34 count
   pub hmtx : length new.hmtx.now ≡ count * 4
 
+-- New glyph i is old glyph origins[i], and there are no others. If glyphs keep their numbers, this is said of the kept ones. The best map
+-- gives each kept character the index of its old glyph.
+pub record AreInOrder (choice : Choice) (old new : Face) (origins : List ℕ) : Type 0 where
+  pub counted : AreCounted new (length origins)
+  pub same : (i glyph : ℕ) → IsOrigin origins i glyph → IsKeptGlyph choice old glyph → IsSame old new glyph i
+  pub maps : (char glyph i : ℕ) → IsKept choice old.map char glyph → Maps new.map char i → IsOrigin origins i glyph
+
 -- The `post` table has version 3.0, which has no names. Its other values are those of the old one, if this has 32 bytes, otherwise 0.
 pub record IsPost (old new : Face) (post : List ℕ) : Type 0 where
   pub is : IsTableOf new.file post_tag post
@@ -110,6 +118,7 @@ pub record IsSubsetFace (choice : Choice) (old new : Face) : Type 0 where
   pub font : IsSubsetFont choice.retain_gids named old.cff.now new.cff.now
   pub glyphs : (glyph : ℕ) → Contains (glyphs_of choice) glyph → (i : ℕ) × HasSame choice old new glyph i
   pub characters : AreCharacters choice old new
+  pub ordered : (origins : List ℕ) → AreOriginsOf choice old origins → AreInOrder choice old new origins
   pub counted : (count : ℕ) × AreCounted new count
   pub hhea : KeepsBut 34 old.hhea.now new.hhea.now
   pub maxp : KeepsBut 4 old.maxp.now new.maxp.now
@@ -123,6 +132,14 @@ pub record IsSubsetFace (choice : Choice) (old new : Face) : Type 0 where
 pub record IsSubsetOf (choice : Choice) (bytes : List ℕ) (number : ℕ) (file : List ℕ) : Type 0 where
   pub old : Face
   pub was : IsFaceIn bytes number old
+  pub opens : (count : ℕ) × Opens file count
+  pub all : choice.lenient ≡ false → NoneIsMissing old.map choice.chars.now
+  pub there : (new : Face) × IsFaceIn file 0 new
+  pub is : (new : Face) → IsFaceIn file 0 new → IsSubsetFace choice old new
+
+-- The face has all characters that are asked for, unless missing ones are left out. The new file has one face, of version "OTTO", which
+-- opens, and it is a subset of this face however it is opened.
+pub record IsSubsetFile (choice : Choice) (old : Face) (file : List ℕ) : Type 0 where
   pub opens : (count : ℕ) × Opens file count
   pub all : choice.lenient ≡ false → NoneIsMissing old.map choice.chars.now
   pub there : (new : Face) × IsFaceIn file 0 new
@@ -156,6 +173,11 @@ NoSubsetFrom choice old (SameTag tag) = IsTwice choice old.file tag
 NoSubsetFrom choice old (Font e) = (pairs : List Mapping) × AreKeptPairs choice old.map pairs
     × IsSubsetRefusedBy (named_of (glyphs_of choice) pairs) (choice_by choice.retain_gids) old.cff.now e
 NoSubsetFrom choice old _ = ⊥
+
+-- No subset of the face is written, or its `hhea` table is truncated.
+abbrev pub NoSubsetBy : Choice → (old : Face) → Error → Type 0
+NoSubsetBy choice old NoAdvances = length old.hhea.now < 36
+NoSubsetBy choice old e = NoSubsetFrom choice old e
 
 -- There is no such face, or no subset of it.
 abbrev pub NoSubsetOf : Choice → (bytes : List ℕ) → (number : ℕ) → Error → Type 0

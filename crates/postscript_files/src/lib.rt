@@ -32,6 +32,7 @@ mod choice;
 mod error;
 mod face;
 mod flat;
+mod glyphs;
 pub mod laws;
 mod metrics;
 mod numbers;

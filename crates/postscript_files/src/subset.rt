@@ -8,9 +8,10 @@ ghost use Rattle.postscript_write.specs.Refusals.{IsChoiceRefusedBy, IsSubsetRef
 ghost use Rattle.postscript_write.specs.Sources.{choice_by};
 ghost use Rattle.postscript_write.specs.declared.error.Error.{Error as Refusal};
 ghost use Rattle.postscript_files.specs.Listed.{Adds, AreCopiedTo, AreGivenTo, AreMade, CountsCopied, CountsGiven, IsFileOfParts, IsListed, IsUnmade, NoFileOfParts, Puts};
-ghost use Rattle.postscript_files.specs.Made.{AreBytes, AreOrigins, HasNoOrigins, IsHmtxOf, IsMade, IsMapOf, IsPostOf, IsSubsetFile, IsUnopened};
+ghost use Rattle.postscript_files.specs.Made.{AreBytes, HasNoOrigins, IsCutFile, IsHmtxOf, IsMade, IsMapOf, IsPostOf};
+ghost use Rattle.postscript_files.specs.Origins.{AreOrigins, IsUnopened};
 ghost use Rattle.postscript_files.specs.Renumbered.{AreSmall};
-ghost use Rattle.postscript_files.specs.Subsets.{IsCopied, IsGivenTag, IsSubsetFont, IsSubsetOf, NoSubsetFrom, NoSubsetOf};
+ghost use Rattle.postscript_files.specs.Subsets.{IsCopied, IsGivenTag, IsSubsetFile, IsSubsetFont, IsSubsetOf, NoSubsetBy, NoSubsetFrom, NoSubsetOf};
 ghost use Rattle.postscript_files.specs.declared.error.Error.TheVariants as errors;
 
 use crate::choice::{Choice, Given, kept_pairs, named, refuse_missing};
@@ -88,7 +89,12 @@ fn up_to(alloc: Global, count: usize) -> Result<Vec<usize>>
 }
 
 /// Returns the origin of each new glyph: the old glyph that it is made of.
-fn origins_of(alloc: Global, cff: &[u8], named: &[usize], retain_gids: bool) -> Result<Vec<usize>>
+pub(crate) fn origins_of(
+    alloc: Global,
+    cff: &[u8],
+    named: &[usize],
+    retain_gids: bool,
+) -> Result<Vec<usize>>
     ensures are { IfOk result (λ origins. AreOrigins retain_gids named.now cff.now origins.items) }
     ensures refused { IfErr result (λ e. HasNoOrigins retain_gids named.now cff.now e) }
 {
@@ -315,7 +321,7 @@ const POST: u32 = 0x706f7374;
 /// Writes the subset of a face.
 fn subset_of(alloc: Global, face: &Face<'_>, choice: &Choice<'_>) -> Result<Vec<u8>>
     requires { 36 ≤ length face.now.hhea.now }
-    ensures subset { IfOk result (λ file. IsSubsetFile choice.now face.now file.items) }
+    ensures subset { IfOk result (λ file. IsCutFile choice.now face.now file.items) }
     ensures refused { IfErr result (λ e. NoSubsetFrom choice.now face.now e) }
 {
     let pairs = kept_pairs(alloc, &face.map, choice)?;
@@ -357,8 +363,27 @@ pub fn subset_file(
     ensures refused { IfErr result (λ e. NoSubsetOf choice.now file.now number e) }
 {
     let face = Face::open(file, number)?;
-    if !choice.lenient {
-        refuse_missing(&face.map, choice.chars)?;
+    face.subset(alloc, choice)
+}
+
+impl Face<'_> {
+    /// Writes a file with only some characters and glyphs of this face, as [`subset_file`] does.
+    ///
+    /// # Errors
+    ///
+    /// As for [`subset_file`], and `NoAdvances` if the `hhea` table is truncated. That of an opened face never is.
+    pub fn subset(&self, alloc: Global, choice: &Choice<'_>) -> Result<Vec<u8>>
+        // The new file opens, and has exactly the kept characters, glyphs and tables.
+        ensures subset { IfOk result (λ new. IsSubsetFile choice.now self.now new.items) }
+        // An error is justified by a missing character, the font, a truncated table or a repeated tag.
+        ensures refused { IfErr result (λ e. NoSubsetBy choice.now self.now e) }
+    {
+        if self.hhea.len() < 36 {
+            return Err(Error::NoAdvances);
+        }
+        if !choice.lenient {
+            refuse_missing(&self.map, choice.chars)?;
+        }
+        subset_of(alloc, self, choice)
     }
-    subset_of(alloc, &face, choice)
 }

@@ -1,6 +1,6 @@
 use Rattle.std.proofs.Common.{sym, subst, Bool}
 use Rattle.std.specs.Prelude.{IfOk}
-use Rattle.postscript_files.specs.Made.{AreOrigins}
+use Rattle.postscript_files.specs.Origins.{AreOrigins}
 use Rattle.postscript_files.proofs.Refusing.{no-every, no-kept}
 use Rattle.postscript_files.proofs.subset.origins_of.Goals as goal
 

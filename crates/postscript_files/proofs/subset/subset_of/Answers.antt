@@ -4,7 +4,8 @@ use Rattle.std.specs.Prelude.{IfOk}
 use Rattle.postscript_sfnt_write.specs.declared.mapping.Mapping.{Mapping}
 use Rattle.postscript_files.specs.Choices.{glyphs_of, named_of}
 use Rattle.postscript_files.specs.Listed.{IsFileOfParts}
-use Rattle.postscript_files.specs.Made.{AreOrigins, IsMade}
+use Rattle.postscript_files.specs.Made.{IsMade}
+use Rattle.postscript_files.specs.Origins.{AreOrigins}
 use Rattle.postscript_files.specs.Subsets.{IsSubsetFont}
 use Rattle.postscript_files.proofs.Subsetting.{if-subset, no-origins-so, no-written-so, unmade-so}
 use Rattle.postscript_files.proofs.subset.subset_of.Goals as goal

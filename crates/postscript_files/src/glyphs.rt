@@ -1,0 +1,68 @@
+//! The glyphs of a subset, under their old numbers.
+ghost use Rattle.std.specs.Prelude.{◌≡◌, IfOk, IfErr};
+ghost use Rattle.postscript_files.specs.Origins.{AreAllNamed, AreOriginsOf, HasGlyphs, IsUnopened, NoOriginsOf};
+ghost use Rattle.postscript_files.specs.declared.error.Error.TheVariants as errors;
+
+use crate::choice::{Choice, kept_pairs, named};
+use crate::error::{Error, Result};
+use crate::face::Face;
+use crate::subset::origins_of;
+use postscript_view::FontView;
+use std::alloc::Global;
+
+impl Face<'_> {
+    /// Returns the number of glyphs in the `CFF ` table.
+    ///
+    /// # Errors
+    ///
+    /// - `Font`: the `CFF ` table is malformed.
+    /// - `Memory`: out of memory.
+    pub fn number_of_glyphs(&self, alloc: Global) -> Result<usize>
+        // The number is that of the charstrings.
+        ensures counted { IfOk result (λ count. HasGlyphs self.now count) }
+        // An error is `Memory`, or it is justified by the `CFF ` table.
+        ensures refused { IfErr result (λ e. IsUnopened self.now.cff.now e) }
+    {
+        match FontView::read(alloc, self.cff) {
+            Ok(font) => Ok(font.char_strings.len()),
+            Err(error) => Err(Error::Font(postscript_write::Error::Refused(error))),
+        }
+    }
+
+    /// Returns the glyphs that a subset is made for: the chosen ones, and those of kept characters. A glyph can be in the
+    /// list more than once. A missing character is no error.
+    ///
+    /// # Errors
+    ///
+    /// - `Memory`: out of memory.
+    pub fn named_glyphs(&self, alloc: Global, choice: &Choice<'_>) -> Result<Vec<usize>>
+        // A glyph is in the list exactly if it is chosen, or if it is that of a kept character.
+        ensures named { IfOk result (λ named. AreAllNamed choice.now self.now named.items) }
+        // The only error is `Memory`.
+        ensures memory { IfErr result (λ e. e ≡ errors.Memory) }
+    {
+        let pairs = kept_pairs(alloc, &self.map, choice)?;
+        named(alloc, choice, &pairs)
+    }
+
+    /// Returns the origins of the glyphs of a subset: glyph `i` of the new face is the old glyph at index `i`.
+    ///
+    /// The list has `.notdef`, the glyphs of all kept characters, the chosen glyphs, and the components of `seac` glyphs among
+    /// them, in ascending order. If `choice.retain_gids` is set, it has all glyphs of the face. A missing character is no
+    /// error.
+    ///
+    /// # Errors
+    ///
+    /// - `Font`: the `CFF ` table is malformed, or a chosen glyph is missing, or no glyph is kept.
+    /// - `Memory`: out of memory.
+    pub fn origins(&self, alloc: Global, choice: &Choice<'_>) -> Result<Vec<usize>>
+        // These are the old glyphs that the new glyphs are made of, in the order of the new numbers.
+        ensures are { IfOk result (λ origins. AreOriginsOf choice.now self.now origins.items) }
+        // An error is `Memory`, or it is justified by the font or the chosen glyphs.
+        ensures refused { IfErr result (λ e. NoOriginsOf choice.now self.now e) }
+    {
+        let pairs = kept_pairs(alloc, &self.map, choice)?;
+        let named = named(alloc, choice, &pairs)?;
+        origins_of(alloc, self.cff, &named, choice.retain_gids)
+    }
+}

@@ -1,0 +1,43 @@
+-- Layout tables of which less of the limit is left.
+use Rattle.std.proofs.Common.{inl, inr, ℕ, ◌≤◌, List, arith}
+use Rattle.postscript_layout_write.specs.Classes.{RefusesClasses}
+use Rattle.postscript_layout_write.specs.Refusals.{Refuses}
+use Rattle.postscript_layout_write.specs.declared.error.Error.{Error as Fault}
+use Rattle.postscript_layout_write.specs.declared.error.Error.TheVariants.{ListsTooLong, Memory, TooLarge, TooLong}
+use Rattle.postscript_sfnt.specs.declared.file.FontFile.{FontFile}
+use Rattle.postscript_subset.specs.Layers.{IsGdef, IsGsub}
+use Rattle.postscript_subset.specs.declared.layers.Outcome.{Outcome}
+use Rattle.postscript_subset.specs.declared.layers.Outcome.TheVariants.{Absent, Kept, Lost, NotChosen}
+
+less-classes : (e : Fault) (kept : List ℕ) (left less : ℕ) → less ≤ left → RefusesClasses e kept left → RefusesClasses e kept less
+less-classes Memory kept left less below h = tt
+less-classes TooLong kept left less below h = omega (arith, below, h)
+less-classes TooLarge kept left less below h = h
+less-classes ListsTooLong kept left less below h = h
+
+less-rules : (e : Fault) (table : List ℕ) (left less : ℕ) → less ≤ left → Refuses e table left → Refuses e table less
+less-rules Memory table left less below h = tt
+less-rules TooLong table left less below h = omega (arith, below, h)
+less-rules TooLarge table left less below h = tt
+less-rules ListsTooLong table left less below h = h
+
+pub less-gdef : (o : Outcome) (file : FontFile) (origins : List ℕ) (left less : ℕ) (new : List ℕ) → less ≤ left →
+    IsGdef o file origins left new → IsGdef o file origins less new
+less-gdef Absent file origins left less new below h = h
+less-gdef NotChosen file origins left less new below h = h
+less-gdef Kept file origins left less new below h = h
+less-gdef (Lost e) file origins left less new below h = (h.0, h.1, (h.2.0, less-classes e origins left less below h.2.1))
+
+pub less-gsub : (o : Outcome) (file : FontFile) (lookups origins : List ℕ) (gdef : Outcome) (left less : ℕ) (new : List ℕ) → less ≤ left →
+    IsGsub o file lookups origins gdef left new → IsGsub o file lookups origins gdef less new
+less-gsub Absent file lookups origins gdef left less new below h = h
+less-gsub NotChosen file lookups origins gdef left less new below h = h
+less-gsub Kept file lookups origins gdef left less new below h = h
+less-gsub (Lost e) file lookups origins gdef left less new below h = (
+  h.0,
+  h.1,
+  elim h.2 [
+    | inl refused ↦ inl (less-rules e h.0 left less below refused)
+    | inr lost ↦ inr lost
+  ],
+)

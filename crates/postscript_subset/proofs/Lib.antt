@@ -1,0 +1,3 @@
+pub mod Layering
+pub mod Staying
+pub mod Cutting

@@ -1,0 +1,65 @@
+-- Glyphs that substitutions make.
+use Rattle.std.proofs.Common.{◌≡◌, sym, ap, ◌∙◌, subst, inl, inr, ℕ, zero, suc, ◌<◌, List, [], ◌∷◌, ◌++◌, Bool, true, false, length, get_or, arith}
+use Rattle.std.specs.Prelude.{if◌then◌else◌, nat_lt}
+use Rattle.std.specs.List.{All, Contains}
+use Rattle.std.proofs.lemmas.Bool.{lt-ltb}
+use Rattle.std.proofs.lemmas.List.Elements.{All-contains, All-weaker, Contains-append_left, Contains-append_right}
+use Rattle.postscript_layout.proofs.Stays.{stays}
+use Rattle.postscript_files.specs.Origins.{AreAllNamed, AreOriginsOf, IsNamed}
+use Rattle.postscript_files.specs.declared.choice.Choice.{Choice}
+use Rattle.postscript_files.specs.declared.face.Face.{Face}
+use Rattle.postscript_files.proofs.Ordering.{unmapped-there}
+use Rattle.postscript_subset.specs.Closing.{IsClosingError, below}
+use Rattle.postscript_subset.specs.Refusals.{IsWide}
+use Rattle.postscript_subset.specs.Subsets.{IsBy, TextStaysIn}
+use Rattle.postscript_subset.specs.declared.error.Error.{Error}
+use Rattle.postscript_subset.specs.declared.features.Features.{Features}
+
+first-in : (b : Bool) (one glyph : ℕ) (rest : List ℕ) → b ≡ true → one ≡ glyph → Contains (if b then one ∷ rest else rest) glyph
+first-in true one glyph rest is same = (0, omega arith, same)
+first-in false one glyph rest is same = absurd (cc)
+
+later-in : (b : Bool) (one glyph : ℕ) (rest : List ℕ) → Contains rest glyph → Contains (if b then one ∷ rest else rest) glyph
+later-in true one glyph rest h = (suc h.0, let w = h.1 in omega (arith, w), h.2)
+later-in false one glyph rest h = h
+
+-- a glyph of the list that is below the number
+below-at : (count : ℕ) (glyphs : List ℕ) (i glyph : ℕ) → i < length glyphs → get_or glyphs i glyph ≡ glyph → glyph < count →
+    Contains (below count glyphs) glyph
+below-at count [] i glyph within is less = absurd (omega (arith, within))
+below-at count (one ∷ glyphs) zero glyph within is less =
+    first-in (nat_lt one count) one glyph (below count glyphs) (ap (λ g. nat_lt g count) is ∙ lt-ltb glyph count less) is
+below-at count (one ∷ glyphs) (suc i) glyph within is less =
+    later-in (nat_lt one count) one glyph (below count glyphs) (below-at count glyphs i glyph (omega (arith, within)) is less)
+
+below-there : (count : ℕ) (glyphs : List ℕ) (glyph : ℕ) → Contains glyphs glyph → glyph < count → Contains (below count glyphs) glyph
+below-there count glyphs glyph h less = below-at count glyphs h.0 glyph h.1 h.2 less
+
+-- a text of named glyphs stays among the new ones
+pub text-stays : (choice : Choice) (features : Features) (old : Face) (tables : List (ℕ × List ℕ)) (by : Choice) (origins : List ℕ)
+    (is : IsBy choice features old tables by) → by.retain_gids ≡ false → AreOriginsOf by old origins →
+    TextStaysIn choice old is.count is.gsub is.lookups origins
+text-stays choice features old tables by origins is anew are first last named comes glyph there less =
+    let closed : All (Contains is.closed) first = All-weaker (IsNamed choice old) (Contains is.closed)
+    (λ g h. All-contains (Contains is.closed) (is.are.named ++ 0 ∷ []) g is.are.closure.holds
+    (Contains-append_left is.are.named (0 ∷ []) g ((is.are.are g).1 h))) first named in
+    let stay : All (Contains is.closed) last = stays is.gsub is.lookups is.closed first last is.are.closure.closed closed comes in
+    let here : Contains is.closed glyph = All-contains (Contains is.closed) last glyph stay there in
+    let added : Contains (below is.count is.closed) glyph = below-there is.count is.closed glyph here less in
+    let further : Contains by.unmapped.now glyph =
+    subst (λ (xs : List ℕ). Contains xs glyph) (sym is.widened.unmapped)
+    (Contains-append_right choice.unmapped.now (below is.count is.closed) glyph added) in
+    unmapped-there by old origins is.count anew is.counted are glyph further less
+
+-- a glyph above 65,535 is a named one
+pub wide-named : (e : Error) (choice : Choice) (face : Face) (left : ℕ) (named glyphs : List ℕ) → AreAllNamed choice face named →
+    glyphs ≡ named → IsWide glyphs e → IsClosingError choice face left e
+wide-named e choice face left named glyphs are same h = elim h [
+  | inl memory ↦ inl (inl memory)
+  | inr large ↦ inr (
+    large.0,
+    large.1,
+    (are large.0).0 (subst (λ (xs : List ℕ). Contains xs large.0) same large.2),
+    large.3,
+  )
+]

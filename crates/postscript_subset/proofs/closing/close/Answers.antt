@@ -1,0 +1,24 @@
+use Rattle.std.proofs.Common.{◌∙◌, ◌++◌, ◌∷◌, [], ap, subst, ℕ, List}
+use Rattle.std.proofs.lemmas.Result.{err_from_is_err_and}
+use Rattle.postscript_layout.specs.Closure.{IsClosure}
+use Rattle.postscript_subset.proofs.Staying.{wide-named}
+use Rattle.postscript_subset.proofs.closing.close.Goals as goal
+
+pub returns-in_err-glyphs-clause-why : goal.returns-in_err-glyphs-clause-why
+returns-in_err-glyphs-clause-why c =
+    let error = err_from_is_err_and c.from_residual-in_err-glyphs.result c.from_residual-in_err-glyphs.ensures.1 in
+    rw (error.1, error.2) (wide-named _ c.args.choice.now c.args.face.now c.args.limit.now c.in_ok-named.named.items c.deref.result.now
+    c.in_ok-named.ensures.named c.deref.ensures.value c.in_err-glyphs.ensures.why)
+
+pub returns-clause-closed : goal.returns-clause-closed
+returns-clause-closed c = record {
+  of_features = c.in_ok-lookups.ensures.exact;
+  named = c.in_ok-named.named.items;
+  are = c.in_ok-named.ensures.named;
+  closure =
+      subst (λ (xs : List ℕ). IsClosure c.args.gsub.now c.in_ok-lookups.lookups.items xs c.in_ok-glyphs-2.glyphs.items)
+      (c.deref-3.ensures.value ∙ c.in_ok-push.ensures.items
+      ∙ ap (λ (xs : List ℕ). xs ++ 0 ∷ []) (c.in_ok-glyphs.ensures.same ∙ c.deref.ensures.value))
+      (subst (λ (xs : List ℕ). IsClosure c.args.gsub.now xs c.deref-3.result.now c.in_ok-glyphs-2.glyphs.items) c.deref-2.ensures.value
+      c.in_ok-glyphs-2.ensures.closed);
+}

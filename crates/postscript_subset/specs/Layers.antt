@@ -1,0 +1,58 @@
+-- Layout tables under new glyph numbers, and why one is not written.
+use Rattle.std.specs.Prelude.{◌≡◌, ◌⊎◌, ℕ, ◌<◌, ◌++◌, List, [], ◌∷◌}
+use Rattle.postscript_layout.specs.Numbers.{word}
+use Rattle.postscript_layout_write.specs.Classes.{KeepsClasses, RefusesClasses}
+use Rattle.postscript_layout_write.specs.Kerning.{KeepsKerning}
+use Rattle.postscript_layout_write.specs.Refusals.{Refuses}
+use Rattle.postscript_layout_write.specs.Substituting.{KeepsSubstitutions}
+use Rattle.postscript_sfnt.specs.Lent.{HasNoTable, IsTableOf}
+use Rattle.postscript_sfnt.specs.declared.file.FontFile.{FontFile}
+use Rattle.postscript_subset.specs.Lookups.{HasKerning}
+use Rattle.postscript_subset.specs.declared.features.Features.{Features}
+use Rattle.postscript_subset.specs.declared.layers.Outcome.{Outcome}
+use Rattle.postscript_subset.specs.declared.layers.Outcome.TheVariants.{Absent, Kept, Lost, NotChosen}
+
+-- tags of tables
+abbrev pub gdef_tag : ℕ
+gdef_tag = 0x47444546
+
+abbrev pub gsub_tag : ℕ
+gsub_tag = 0x47535542
+
+abbrev pub gpos_tag : ℕ
+gpos_tag = 0x47504f53
+
+-- the face has the table, and this is true of it
+abbrev pub OfTable : FontFile → (tag : ℕ) → (List ℕ → Type 0) → Type 0
+OfTable file tag P = (table : List ℕ) × IsTableOf file tag table × P table
+
+-- The outcome for `GDEF`, and the new table. The table is absent if the face has none, or no glyph classes in it.
+abbrev pub IsGdef : Outcome → (file : FontFile) → (origins : List ℕ) → (left : ℕ) → (new : List ℕ) → Type 0
+IsGdef Absent file origins left new = HasNoTable file gdef_tag ⊎ OfTable file gdef_tag (λ gdef. word gdef 4 ≡ 0)
+IsGdef NotChosen file origins left new = ⊥
+IsGdef Kept file origins left new = OfTable file gdef_tag (λ gdef. (0 < word gdef 4) × KeepsClasses gdef origins new)
+IsGdef (Lost e) file origins left new = OfTable file gdef_tag (λ gdef. (0 < word gdef 4) × RefusesClasses e origins left)
+
+-- The outcome for `GSUB`, and the new table. It is lost if it is refused, or with `GDEF`.
+abbrev pub IsGsub : Outcome → (file : FontFile) → (lookups origins : List ℕ) → (gdef : Outcome) → (left : ℕ) → (new : List ℕ) → Type 0
+IsGsub Absent file lookups origins gdef left new = HasNoTable file gsub_tag
+IsGsub NotChosen file lookups origins gdef left new = ⊥
+IsGsub Kept file lookups origins gdef left new = OfTable file gsub_tag (λ gsub. KeepsSubstitutions gsub lookups origins new)
+IsGsub (Lost e) file lookups origins gdef left new = OfTable file gsub_tag (λ gsub. Refuses e gsub left ⊎ (gdef ≡ Lost e))
+
+-- The outcome for `GPOS`, and the new table. It is chosen if kerning is.
+abbrev pub IsGpos : Outcome → (file : FontFile) → (features : Features) → (origins : List ℕ) → (gdef : Outcome) → (left : ℕ) → (new : List ℕ) → Type 0
+IsGpos Absent file features origins gdef left new = HasNoTable file gpos_tag
+IsGpos NotChosen file features origins gdef left new = (HasKerning features → ⊥) × OfTable file gpos_tag (λ gpos. Unit {0})
+IsGpos Kept file features origins gdef left new = HasKerning features × OfTable file gpos_tag (λ gpos. KeepsKerning gpos origins new)
+IsGpos (Lost e) file features origins gdef left new =
+    HasKerning features × OfTable file gpos_tag (λ gpos. Refuses e gpos left ⊎ (gdef ≡ Lost e))
+
+-- a table with its tag, if it is kept
+abbrev pub table_if : Outcome → (tag : ℕ) → (table : List ℕ) → List (ℕ × List ℕ)
+table_if Kept tag table = (tag, table) ∷ []
+table_if _ tag table = []
+
+-- the layout tables that are kept
+abbrev pub all_tables : (gdef gsub gpos : Outcome) → (a b c : List ℕ) → List (ℕ × List ℕ)
+all_tables gdef gsub gpos a b c = table_if gdef gdef_tag a ++ (table_if gsub gsub_tag b ++ table_if gpos gpos_tag c)

@@ -1,0 +1,86 @@
+//! The glyphs that substitutions can make of the glyphs of a choice.
+ghost use Rattle.std.specs.Prelude.{◌≡◌, ◌⊎◌, ◌++◌, ◌∷◌, [], ◌<◌, ◌≤◌, IfOk, IfErr};
+ghost use Rattle.postscript_subset.specs.Closing.{AreClosed, AreExtended, IsClosingError, IsUnopenedFace, below as the_below};
+ghost use Rattle.postscript_subset.specs.Refusals.{IsWide};
+ghost use Rattle.postscript_files.specs.declared.error.Error.TheVariants as causes;
+ghost use Rattle.postscript_subset.specs.declared.error.Error.TheVariants as errors;
+
+use crate::error::{Error, Result};
+use crate::features::Features;
+use postscript_files::{Choice, Face};
+use postscript_layout::closure_over;
+use std::alloc::Global;
+
+/// The lookups that are chosen, and the glyphs that they can make of the named ones.
+#[derive(Drop)]
+pub(crate) struct Closed {
+    pub(crate) lookups: Vec<u16>,
+    pub(crate) glyphs: Vec<u16>,
+}
+
+/// Returns glyph numbers in 16 bits.
+pub(crate) fn narrow(alloc: Global, glyphs: &[usize]) -> Result<Vec<u16>>
+    ensures same { IfOk result (λ narrow. narrow.items ≡ glyphs.now) }
+    ensures why { IfErr result (λ e. IsWide glyphs.now e) }
+{
+    let mut narrow = Vec::new(alloc);
+    for glyph in glyphs {
+        if *glyph > 65535 {
+            return Err(Error::LargeGlyph(*glyph));
+        }
+        narrow.push(*glyph as u16)?;
+    }
+    Ok(narrow)
+}
+
+/// Returns the glyphs below a number.
+fn below(alloc: Global, glyphs: &[u16], count: usize) -> Result<Vec<usize>>
+    ensures below { IfOk result (λ found. found.items ≡ the_below count glyphs.now) }
+    ensures memory { IfErr result (λ e. e ≡ errors.File causes.Memory) }
+{
+    let mut found = Vec::new(alloc);
+    for glyph in glyphs {
+        if usize::from(*glyph) < count {
+            found.push(usize::from(*glyph))?;
+        }
+    }
+    Ok(found)
+}
+
+/// Returns the chosen lookups, and the glyphs that they can make of the named ones and `.notdef`.
+pub(crate) fn close(
+    alloc: Global,
+    face: &Face<'_>,
+    choice: &Choice<'_>,
+    features: &Features<'_>,
+    gsub: &[u8],
+    limit: &mut u64,
+) -> Result<Closed>
+    ensures closed { IfOk result (λ closed. AreClosed choice.now features.now face.now gsub.now closed.lookups.items closed.glyphs.items) }
+    ensures spends { limit.new ≤ limit.old }
+    ensures why { IfErr result (λ e. IsClosingError choice.now face.now limit.new e) }
+{
+    let named = face.named_glyphs(alloc, choice)?;
+    let mut glyphs = narrow(alloc, &named)?;
+    glyphs.push(0)?;
+    let lookups = features.lookups(alloc, gsub, limit)?;
+    let glyphs = closure_over(alloc, gsub, &lookups, &glyphs, limit)?;
+    Ok(Closed { lookups, glyphs })
+}
+
+/// Returns the further glyphs of a choice, and those of a list that a face has.
+pub(crate) fn extended(
+    alloc: Global,
+    face: &Face<'_>,
+    choice: &Choice<'_>,
+    glyphs: &[u16],
+) -> Result<Vec<usize>>
+    ensures extended { IfOk result (λ all. AreExtended face.now choice.now.unmapped.now glyphs.now all.items) }
+    ensures why { IfErr result (λ e. IsUnopenedFace face.now e) }
+{
+    let count = face.number_of_glyphs(alloc)?;
+    let added = below(alloc, glyphs, count)?;
+    let mut all = Vec::from_slice(alloc, choice.unmapped)?;
+    all.extend_from_slice(&added)?;
+    Ok(all)
+}

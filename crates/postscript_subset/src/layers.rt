@@ -1,0 +1,166 @@
+//! Layout tables under new glyph numbers.
+ghost use Rattle.std.specs.Prelude.{◌≡◌, ◌≤◌, [], IfOk, IfErr};
+ghost use Rattle.postscript_layout.specs.Numbers.{word};
+ghost use Rattle.postscript_files.specs.declared.error.Error.TheVariants as causes;
+ghost use Rattle.postscript_subset.specs.Layers.{IsGdef, IsGpos, IsGsub};
+ghost use Rattle.postscript_subset.specs.Layering.{AreLayers, IsLayer};
+ghost use Rattle.postscript_subset.specs.declared.error.Error.TheVariants as errors;
+ghost use Rattle.postscript_subset.specs.declared.layers.Outcome.TheVariants as outcomes;
+
+use crate::error::{Error, Result};
+use crate::features::Features;
+use postscript_base::index::number::number_at;
+use postscript_layout_write::{Error as Fault, glyph_classes, kerning, substitutions};
+use postscript_sfnt::FontFile;
+use std::alloc::Global;
+
+/// The outcome for a layout table.
+#[derive(Clone, Copy, Debug, Drop, PartialEq, Eq)]
+pub enum Outcome {
+    /// The face has no such table, or no glyph classes in its `GDEF` table.
+    Absent,
+    /// The face has a `GPOS` table, but `kern` is not among the features.
+    NotChosen,
+    /// The new file has the table.
+    Kept,
+    /// The table is not written, for this reason. If `GDEF` is lost, `GSUB` and `GPOS` are lost for the same reason.
+    Lost(Fault),
+}
+
+/// A layout table that is written, or no bytes.
+#[derive(Drop)]
+pub(crate) struct Layer {
+    pub(crate) outcome: Outcome,
+    pub(crate) table: Vec<u8>,
+}
+
+/// The layout tables of a subset.
+#[derive(Drop)]
+pub(crate) struct Layers {
+    pub(crate) gdef: Layer,
+    pub(crate) gsub: Layer,
+    pub(crate) gpos: Layer,
+}
+
+/// Returns an outcome without a table.
+fn without(alloc: Global, outcome: Outcome) -> Layer
+    ensures outcome { result.outcome ≡ outcome }
+    ensures none { result.table.items ≡ [] }
+{
+    Layer {
+        outcome,
+        table: Vec::new(alloc),
+    }
+}
+
+/// Returns a table that is written, or the reason why it is not. Memory is an error.
+fn layer_of(alloc: Global, written: std::result::Result<Vec<u8>, Fault>) -> Result<Layer>
+    ensures layer { IfOk result (λ layer. IsLayer written layer) }
+    ensures memory { IfErr result (λ e. e ≡ errors.File causes.Memory) }
+{
+    match written {
+        Ok(table) => Ok(Layer {
+            outcome: Outcome::Kept,
+            table,
+        }),
+        Err(Fault::Memory) => Err(Error::File(postscript_files::Error::Memory)),
+        Err(fault) => Ok(without(alloc, Outcome::Lost(fault))),
+    }
+}
+
+/// Returns the offset of the glyph classes in a `GDEF` table, or 0 if it has none.
+fn classes_at(gdef: &[u8]) -> usize
+    ensures { result ≡ word gdef.now 4 }
+{
+    if gdef.len() < 6 {
+        0
+    } else {
+        number_at(gdef, 4, 2)
+    }
+}
+
+/// Returns the `GDEF` table with the classes of the origins.
+fn gdef_of(alloc: Global, file: &FontFile<'_>, origins: &[u16], limit: &mut u64) -> Result<Layer>
+    ensures gdef { IfOk result (λ gdef. IsGdef gdef.outcome file.now origins.now limit.new gdef.table.items) }
+    ensures spends { limit.new ≤ limit.old }
+    ensures memory { IfErr result (λ e. e ≡ errors.File causes.Memory) }
+{
+    match file.table(*b"GDEF") {
+        None => Ok(without(alloc, Outcome::Absent)),
+        Some(gdef) => {
+            if classes_at(gdef) > 0 {
+                layer_of(alloc, glyph_classes(alloc, gdef, origins, limit))
+            } else {
+                Ok(without(alloc, Outcome::Absent))
+            }
+        }
+    }
+}
+
+/// Returns the `GSUB` table with the rules of the lookups for the origins.
+fn gsub_of(
+    alloc: Global,
+    file: &FontFile<'_>,
+    lookups: &[u16],
+    origins: &[u16],
+    gdef: Outcome,
+    limit: &mut u64,
+) -> Result<Layer>
+    ensures gsub { IfOk result (λ gsub. IsGsub gsub.outcome file.now lookups.now origins.now gdef limit.new gsub.table.items) }
+    ensures spends { limit.new ≤ limit.old }
+    ensures memory { IfErr result (λ e. e ≡ errors.File causes.Memory) }
+{
+    match file.table(*b"GSUB") {
+        None => Ok(without(alloc, Outcome::Absent)),
+        Some(gsub) => match gdef {
+            Outcome::Lost(fault) => Ok(without(alloc, Outcome::Lost(fault))),
+            _ => layer_of(alloc, substitutions(alloc, gsub, lookups, origins, limit)),
+        },
+    }
+}
+
+/// Returns the `GPOS` table with the pairs of the origins, if kerning is chosen.
+fn gpos_of(
+    alloc: Global,
+    file: &FontFile<'_>,
+    features: &Features<'_>,
+    origins: &[u16],
+    gdef: Outcome,
+    limit: &mut u64,
+) -> Result<Layer>
+    ensures gpos { IfOk result (λ gpos. IsGpos gpos.outcome file.now features.now origins.now gdef limit.new gpos.table.items) }
+    ensures spends { limit.new ≤ limit.old }
+    ensures memory { IfErr result (λ e. e ≡ errors.File causes.Memory) }
+{
+    match file.table(*b"GPOS") {
+        None => Ok(without(alloc, Outcome::Absent)),
+        Some(gpos) => {
+            if !features.has_kerning() {
+                return Ok(without(alloc, Outcome::NotChosen));
+            }
+            match gdef {
+                Outcome::Lost(fault) => Ok(without(alloc, Outcome::Lost(fault))),
+                _ => layer_of(alloc, kerning(alloc, gpos, origins, limit)),
+            }
+        }
+    }
+}
+
+/// Returns the layout tables of the origins.
+pub(crate) fn layers_of(
+    alloc: Global,
+    file: &FontFile<'_>,
+    features: &Features<'_>,
+    lookups: &[u16],
+    origins: &[u16],
+    limit: &mut u64,
+) -> Result<Layers>
+    ensures layers { IfOk result (λ layers. AreLayers file.now features.now lookups.now origins.now limit.new layers) }
+    ensures spends { limit.new ≤ limit.old }
+    ensures memory { IfErr result (λ e. e ≡ errors.File causes.Memory) }
+{
+    let gdef = gdef_of(alloc, file, origins, limit)?;
+    let gsub = gsub_of(alloc, file, lookups, origins, gdef.outcome, limit)?;
+    let gpos = gpos_of(alloc, file, features, origins, gdef.outcome, limit)?;
+    Ok(Layers { gdef, gsub, gpos })
+}

@@ -1,0 +1,32 @@
+//! Writes OpenType files with only some characters, whose layout tables still apply (ISO/IEC 14496-22, 6).
+//!
+//! [`subset_with_layout`] cuts a face as [`postscript_files::subset_file`] does. It also keeps the glyphs that the substitutions
+//! of chosen features can make, and writes `GSUB`, `GPOS` and `GDEF` tables under the new glyph numbers.
+//!
+//! # What is proved
+//!
+//! Each call is safe and ends, on all bytes.
+//!
+//! - The file is a subset of the face, for the caller's choice with further glyphs and tables. All clauses of `subset_file`
+//!   are true of it.
+//! - A text of named glyphs has only glyphs of the subset, after any substitutions by the chosen lookups.
+//! - The `GSUB` table substitutes as the old one (`KeepsSubstitutions` of `postscript_layout_write`), the `GPOS` table adjusts
+//!   pairs as the old one (`KeepsKerning`), and the `GDEF` table has the old classes (`KeepsClasses`).
+//! - A table is absent or lost only for the cause that its outcome names. Each error has its cause.
+//!
+//! # What is not proved
+//!
+//! - That there is enough memory, and which limit suffices.
+//! - What `postscript_layout_write` leaves out: contexts, marks, device tables and feature variations.
+#![tactic(auto)]
+
+mod closing;
+mod error;
+mod features;
+mod layers;
+mod subset;
+
+pub use error::{Error, Result};
+pub use features::Features;
+pub use layers::Outcome;
+pub use subset::{Subset, subset_with_layout};

@@ -1,0 +1,239 @@
+//! Files with only some characters, with layout tables.
+ghost use Rattle.std.specs.Prelude.{◌≡◌, ◌++◌, ◌≤◌, false, length, map, IfOk, IfErr, OnOk};
+ghost use Rattle.postscript_files.specs.Origins.{AreOriginsOf};
+ghost use Rattle.postscript_files.specs.declared.error.Error.TheVariants as causes;
+ghost use Rattle.postscript_subset.specs.Closing.{IsTableOrNone};
+ghost use Rattle.postscript_subset.specs.Layers.{gsub_tag, table_if};
+ghost use Rattle.postscript_subset.specs.Planning.{IsCutBy, IsCutFace, IsFinished, IsUnfinished, NoCutBy, NoCutFace, NoOriginsBy};
+ghost use Rattle.postscript_subset.specs.Subsets.{IsCutWithLayout, NoCutWithLayout, left_in, shown};
+ghost use Rattle.postscript_subset.specs.Layering.{tables_of};
+ghost use Rattle.postscript_subset.specs.declared.error.Error.TheVariants as errors;
+
+use crate::closing::{close, extended, narrow};
+use crate::error::{Error, Result};
+use crate::features::Features;
+use crate::layers::{Layer, Layers, Outcome, layers_of};
+use postscript_files::{Choice, Face, Given};
+use postscript_layout_write::left_out;
+use postscript_sfnt::FontFile;
+use std::alloc::Global;
+
+/// The tags of the layout tables.
+const GDEF: u32 = 0x47444546;
+
+const GPOS: u32 = 0x47504f53;
+
+const GSUB: u32 = 0x47535542;
+
+/// A file with layout tables.
+#[derive(Drop)]
+pub struct Subset {
+    /// The file.
+    pub file: Vec<u8>,
+    /// The outcome for `GSUB`.
+    pub gsub: Outcome,
+    /// The outcome for `GPOS`.
+    pub gpos: Outcome,
+    /// The outcome for `GDEF`.
+    pub gdef: Outcome,
+    /// The chosen lookups that the new `GSUB` table does not keep. There are none if there is no such table.
+    pub left_out: Vec<u16>,
+}
+
+/// Returns the `GSUB` table of a face, or no bytes if it has none.
+fn gsub_in<'l>(file: &FontFile<'l>) -> &'l [u8]
+    ensures { IsTableOrNone file.now gsub_tag result.now }
+{
+    match file.table(*b"GSUB") {
+        Some(gsub) => gsub,
+        None => &[],
+    }
+}
+
+/// Returns the chosen lookups that a new `GSUB` table does not keep.
+fn left_of(alloc: Global, gsub: &[u8], lookups: &[u16], outcome: Outcome) -> Result<Vec<u16>>
+    ensures left { IfOk result (λ left. left.items ≡ left_in outcome gsub.now lookups.now) }
+    ensures memory { IfErr result (λ e. e ≡ errors.File causes.Memory) }
+{
+    match outcome {
+        Outcome::Kept => match left_out(alloc, gsub, lookups) {
+            Ok(left) => Ok(left),
+            Err(_) => Err(Error::File(postscript_files::Error::Memory)),
+        },
+        _ => Ok(Vec::new(alloc)),
+    }
+}
+
+/// Returns the origins of a subset, in 16 bits.
+fn origins_of(alloc: Global, face: &Face<'_>, by: &Choice<'_>) -> Result<Vec<u16>>
+    ensures origins { IfOk result (λ origins. AreOriginsOf by.now face.now origins.items) }
+    ensures why { IfErr result (λ e. NoOriginsBy by.now face.now e) }
+{
+    let origins = face.origins(alloc, by)?;
+    match narrow(alloc, &origins) {
+        Ok(origins) => Ok(origins),
+        Err(Error::LargeGlyph(_)) => Err(Error::File(postscript_files::Error::TooLarge)),
+        Err(_) => Err(Error::File(postscript_files::Error::Memory)),
+    }
+}
+
+/// Returns a table that is given, with the same tag and bytes.
+fn copy(alloc: Global, table: &Given) -> Result<Given>
+    ensures same { IfOk result (λ copy. shown copy ≡ shown table.now) }
+    ensures memory { IfErr result (λ e. e ≡ errors.File causes.Memory) }
+{
+    Ok(Given {
+        tag: table.tag,
+        bytes: Vec::from_slice(alloc, table.bytes.as_slice())?,
+    })
+}
+
+/// Returns tables that are given, with the same tags and bytes.
+fn copies(alloc: Global, given: &[Given]) -> Result<Vec<Given>>
+    ensures same { IfOk result (λ copies. map shown copies.items ≡ map shown given.now) }
+    ensures memory { IfErr result (λ e. e ≡ errors.File causes.Memory) }
+{
+    let mut copies = Vec::new(alloc);
+    for table in given {
+        copies.push(copy(alloc, table)?)?;
+    }
+    Ok(copies)
+}
+
+/// Adds a layout table, if it is kept.
+fn put(given: &mut Vec<Given>, tag: u32, layer: Layer) -> Result<()>
+    ensures put { OnOk result (map shown given.new.items ≡ map shown given.old.items ++ table_if layer.outcome tag layer.table.items) }
+    ensures memory { IfErr result (λ e. e ≡ errors.File causes.Memory) }
+{
+    if let Outcome::Kept = layer.outcome {
+        given.push(Given {
+            tag,
+            bytes: layer.table,
+        })?;
+    }
+    Ok(())
+}
+
+/// Adds the layout tables that are kept.
+fn put_all(given: &mut Vec<Given>, layers: Layers) -> Result<()>
+    ensures put { OnOk result (map shown given.new.items ≡ map shown given.old.items ++ tables_of layers) }
+    ensures memory { IfErr result (λ e. e ≡ errors.File causes.Memory) }
+{
+    let Layers { gdef, gsub, gpos } = layers;
+    put(given, GDEF, gdef)?;
+    put(given, GSUB, gsub)?;
+    put(given, GPOS, gpos)
+}
+
+/// Writes the subset of a choice, with these layout tables in addition.
+fn finish(alloc: Global, face: &Face<'_>, by: &Choice<'_>, layers: Layers) -> Result<Vec<u8>>
+    ensures file { IfOk result (λ file. IsFinished by.now face.now layers file.items) }
+    ensures why { IfErr result (λ e. IsUnfinished by.now face.now layers e) }
+{
+    let mut given = copies(alloc, by.given)?;
+    put_all(&mut given, layers)?;
+    let with = Choice {
+        given: &given,
+        ..*by
+    };
+    Ok(face.subset(alloc, &with)?)
+}
+
+/// Writes the subset of a choice, with layout tables for its glyphs.
+fn write(
+    alloc: Global,
+    face: &Face<'_>,
+    by: &Choice<'_>,
+    features: &Features<'_>,
+    gsub: &[u8],
+    lookups: &[u16],
+    limit: &mut u64,
+) -> Result<Subset>
+    ensures subset { IfOk result (λ subset. IsCutBy by.now features.now face.now gsub.now lookups.now limit.new subset) }
+    ensures spends { limit.new ≤ limit.old }
+    ensures why { IfErr result (λ e. NoCutBy by.now face.now e) }
+{
+    let origins = origins_of(alloc, face, by)?;
+    let layers = layers_of(alloc, &face.file, features, lookups, &origins, limit)?;
+    let left_out = left_of(alloc, gsub, lookups, layers.gsub.outcome)?;
+    let (gsub, gpos, gdef) = (
+        layers.gsub.outcome,
+        layers.gpos.outcome,
+        layers.gdef.outcome,
+    );
+    let file = finish(alloc, face, by, layers)?;
+    Ok(Subset {
+        file,
+        gsub,
+        gpos,
+        gdef,
+        left_out,
+    })
+}
+
+/// Writes the subset of a face, with layout tables.
+fn cut(
+    alloc: Global,
+    face: &Face<'_>,
+    choice: &Choice<'_>,
+    features: &Features<'_>,
+    limit: &mut u64,
+) -> Result<Subset>
+    requires room { 36 ≤ length face.now.hhea.now }
+    requires anew { choice.now.retain_gids ≡ false }
+    ensures subset { IfOk result (λ subset. IsCutFace choice.now features.now face.now limit.new subset) }
+    ensures spends { limit.new ≤ limit.old }
+    ensures why { IfErr result (λ e. NoCutFace choice.now features.now face.now limit.new e) }
+{
+    let gsub = gsub_in(&face.file);
+    let closed = close(alloc, face, choice, features, gsub, limit)?;
+    let unmapped = extended(alloc, face, choice, &closed.glyphs)?;
+    let by = Choice {
+        unmapped: &unmapped,
+        ..*choice
+    };
+    write(alloc, face, &by, features, gsub, &closed.lookups, limit)
+}
+
+/// Writes a file with only some characters and glyphs of a face, as [`postscript_files::subset_file`] does, and with layout
+/// tables that set its text as before.
+///
+/// The lookups of the features in `GSUB` are chosen. The subset keeps the glyphs of `subset_file`, and all glyphs of the face
+/// that the chosen lookups can make of them. It has these tables in addition, under the new glyph numbers:
+///
+/// - `GDEF`, with the glyph classes, if the face has classes;
+/// - `GSUB`, with the chosen lookups, if the face has this table;
+/// - `GPOS`, with the kerning, if the face has this table and `kern` is among the features.
+///
+/// If `choice.given` or `choice.copied` has one of these tables too, the error is `SameTag`.
+///
+/// The search for lookups and glyphs and the tables are paid from `limit`, as in `postscript_layout` and
+/// `postscript_layout_write`. If the limit does not suffice for a table, the table is lost, and the file is written.
+///
+/// # Errors
+///
+/// - `RetainGids`: `choice.retain_gids` is set.
+/// - `TooLong`: the search for lookups and glyphs costs more than the limit.
+/// - `LargeGlyph`: a chosen glyph has a number above 65,535.
+/// - `File`: as for `subset_file`.
+pub fn subset_with_layout(
+    alloc: Global,
+    file: &[u8],
+    number: usize,
+    choice: &Choice<'_>,
+    features: Features<'_>,
+    limit: &mut u64,
+) -> Result<Subset>
+    // The file is a subset of the face, has its layout tables, and keeps the glyphs of shaped text.
+    ensures subset { IfOk result (λ subset. IsCutWithLayout choice.now features.entry file.now number limit.new subset) }
+    // The limit never grows.
+    ensures spends { limit.new ≤ limit.old }
+    // An error is justified by the choice, the limit, the file or the face.
+    ensures why { IfErr result (λ e. NoCutWithLayout choice.now features.entry file.now number limit.new e) }
+{
+    if choice.retain_gids {
+        return Err(Error::RetainGids);
+    }
+    let face = Face::open(file, number)?;
+    cut(alloc, &face, choice, &features, limit)
+}
