@@ -33,7 +33,7 @@ subtable-in form f t bytes at offset h s = record {
   there = holds-in h s.there;
 }
 
-lookup-in : (flag : ℕ) (f : (x y : ℕ) → Adjustment) (t bytes : List ℕ) (at offset : ℕ) → Holds bytes t at → HasLookup flag f bytes offset →
+pub lookup-in : (flag : ℕ) (f : (x y : ℕ) → Adjustment) (t bytes : List ℕ) (at offset : ℕ) → Holds bytes t at → HasLookup flag f bytes offset →
     HasLookup flag f t (at + offset)
 lookup-in flag f t bytes at offset h l = record {
   offsets = l.offsets;
@@ -55,7 +55,7 @@ module _ (flag : ℕ) (f : (x y : ℕ) → Adjustment) (t : List ℕ) (l : ℕ) 
   unfolding lookup_text
   head = holds-first _ _ has.there
 
-  type-read : word t l ≡ 2
+  pub type-read : word t l ≡ 2
   type-read = holds-word 2 (omega arith) (holds-first (uint16 2) _ head)
 
   rest : Holds (uint16 flag ++ uint16 (length has.offsets)) t (l + 2)
@@ -198,18 +198,3 @@ module _ (old new offsets bytes : List ℕ) (end : ℕ) (lists : ListsEnd old en
 
   pub count-held : lookups_of new ≡ length offsets
   count-held = ap (word new) list-at ∙ many-read
-
-  lookup-held : (kept : List ℕ) → HasLookups old kept (lookups_of old) offsets bytes → (i : ℕ) → i < lookups_of old →
-      HasLookup (flag_of old i % 16) (kept_pair old kept (lookup_at old i)) new (lookup_at new i)
-  lookup-held kept has i less = subst (HasLookup (flag_of old i % 16) (kept_pair old kept (lookup_at old i)) new)
-      (sym (place-read i (let many = has.many in omega (arith, less, many))))
-      (lookup-in (flag_of old i % 16) (kept_pair old kept (lookup_at old i)) new bytes (end + 2 + length offsets * 2) (get_or offsets i 0) lookups-held
-      (has.each i less))
-
-  pub keeps : (kept : List ℕ) → HasLookups old kept (lookups_of old) offsets bytes → KeepsKerning old kept new
-  keeps kept has = record {
-    lists = keeps-lists;
-    lookups = count-held ∙ has.many;
-    flags = λ i less. flag-read (flag_of old i % 16) (kept_pair old kept (lookup_at old i)) new (lookup_at new i) (lookup-held kept has i less);
-    pairs = λ i x y less. lookup-read (flag_of old i % 16) (kept_pair old kept (lookup_at old i)) new (lookup_at new i) (lookup-held kept has i less) x y;
-  }

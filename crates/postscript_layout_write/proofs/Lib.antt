@@ -15,3 +15,8 @@ pub mod RuleWriting
 pub mod RuleReading
 pub mod RuleCollecting
 pub mod RuleKept
+pub mod Rows
+pub mod MarkWriting
+pub mod MarkReading
+pub mod MarkKept
+pub mod PositionKept

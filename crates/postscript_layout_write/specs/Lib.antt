@@ -18,3 +18,6 @@ pub mod Substituting
 pub mod RuleSets
 pub mod RuleLookups
 pub mod Leaving
+pub mod Marks
+pub mod Positions
+pub mod Attaching

@@ -25,12 +25,15 @@
 //! - No clause says when `TooLarge` comes, how small the new table is, or which limit suffices.
 #![tactic(auto)]
 
+mod anchors;
+mod cells;
 mod classes;
 mod entries;
 mod error;
 mod leaving;
 mod limit;
 mod lookups;
+mod marks;
 mod numbers;
 mod pairs;
 mod positioning;
@@ -48,5 +51,5 @@ mod values;
 pub use classes::glyph_classes;
 pub use error::{Error, Result};
 pub use leaving::left_out;
-pub use positioning::kerning;
+pub use positioning::{kerning, positions};
 pub use substituting::substitutions;
