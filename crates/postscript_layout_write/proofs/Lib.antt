@@ -16,6 +16,7 @@ pub mod RuleReading
 pub mod RuleCollecting
 pub mod RuleKept
 pub mod Rows
+pub mod LigatureRows
 pub mod MarkWriting
 pub mod MarkReading
 pub mod MarkKept

@@ -4,85 +4,75 @@ use Rattle.std.specs.Prelude.{Option}
 use Rattle.std.proofs.lemmas.List.{append_assoc}
 use Rattle.std.proofs.lemmas.List.{get_or_append_left, get_or_push}
 use Rattle.postscript_layout.specs.Numbers.{word}
-use Rattle.postscript_layout_write.specs.Attaching.{AddsAttaching, AddsMarks, AreSides, HasAttaching, HasMarks, HasParts, PutsAttaching, attaching_head, attaching_text, classes_of, parts_text}
+use Rattle.postscript_layout_write.specs.Attaching.{AddsAttaching, AddsMarks, HasAttaching, HasMarkArray, HasMarks, HasParts, HasSecondArray, PutsAttaching, attaching_head, attaching_text, classes_of, parts_text}
 use Rattle.postscript_layout_write.specs.Holds.{Holds}
 use Rattle.postscript_layout_write.specs.Marks.{attaching_at, type_at}
 use Rattle.postscript_layout_write.specs.RuleSets.{rule_head_text}
 use Rattle.postscript_layout_write.specs.Sets.{AreOffsets}
 use Rattle.postscript_layout_write.specs.Text.{coverage_text, offsets_text}
-use Rattle.postscript_layout_write.specs.declared.anchors.Cell.{Cell}
 use Rattle.postscript_layout_write.proofs.Lists.{push-each}
 use Rattle.postscript_layout_write.proofs.Holding.{holds-in, holds-last, holds-on}
 
 -- a subtable with more bytes after it, and in other bytes
-attaching-on : (gpos : List ℕ) (subtable : Option ℕ) (kept bytes more : List ℕ) (at : ℕ) → HasAttaching gpos subtable kept bytes at →
-    HasAttaching gpos subtable kept (bytes ++ more) at
-attaching-on gpos subtable kept bytes more at s = record {
+attaching-on : (type : ℕ) (gpos : List ℕ) (subtable : Option ℕ) (kept bytes more : List ℕ) (at : ℕ) → HasAttaching type gpos subtable kept bytes at →
+    HasAttaching type gpos subtable kept (bytes ++ more) at
+attaching-on type gpos subtable kept bytes more at s = record {
   marks = s.marks;
-  mark_cells = s.mark_cells;
   bases = s.bases;
-  base_cells = s.base_cells;
   first = s.first;
   second = s.second;
-  first_is = s.first_is;
-  second_is = s.second_is;
   small = s.small;
-  fit = s.fit;
-  are = s.are;
+  first_has = s.first_has;
+  second_has = s.second_has;
+  fits = s.fits;
   there = holds-on more s.there;
 }
 
-pub attaching-in : (gpos : List ℕ) (subtable : Option ℕ) (kept t bytes : List ℕ) (at offset : ℕ) → Holds bytes t at → HasAttaching gpos subtable kept bytes offset →
-    HasAttaching gpos subtable kept t (at + offset)
-attaching-in gpos subtable kept t bytes at offset h s = record {
+pub attaching-in : (type : ℕ) (gpos : List ℕ) (subtable : Option ℕ) (kept t bytes : List ℕ) (at offset : ℕ) → Holds bytes t at →
+    HasAttaching type gpos subtable kept bytes offset → HasAttaching type gpos subtable kept t (at + offset)
+attaching-in type gpos subtable kept t bytes at offset h s = record {
   marks = s.marks;
-  mark_cells = s.mark_cells;
   bases = s.bases;
-  base_cells = s.base_cells;
   first = s.first;
   second = s.second;
-  first_is = s.first_is;
-  second_is = s.second_is;
   small = s.small;
-  fit = s.fit;
-  are = s.are;
+  first_has = s.first_has;
+  second_has = s.second_has;
+  fits = s.fits;
   there = holds-in h s.there;
 }
 
 -- a subtable that is appended
-pub adds-attaching : (gpos : List ℕ) (subtable : Option ℕ) (kept marks : List ℕ) (mark_cells : List Cell) (bases : List ℕ) (base_cells : List Cell) (old new : List ℕ) →
-    AreSides gpos subtable kept marks mark_cells bases base_cells →
-    PutsAttaching (classes_of gpos subtable) marks mark_cells bases base_cells old new → AddsAttaching gpos subtable kept old new
-adds-attaching gpos subtable kept marks mark_cells bases base_cells old new are puts = record {
-  more = attaching_text (classes_of gpos subtable) marks bases puts.first puts.second;
+pub adds-attaching : (type : ℕ) (gpos : List ℕ) (subtable : Option ℕ) (kept marks bases first second old new : List ℕ) → length kept < 65536 →
+    HasMarkArray gpos subtable kept marks first → HasSecondArray type gpos subtable kept marks bases second →
+    PutsAttaching (classes_of gpos subtable) marks bases first second old new → AddsAttaching type gpos subtable kept old new
+adds-attaching type gpos subtable kept marks bases first second old new small first_has second_has puts = record {
+  more = attaching_text (classes_of gpos subtable) marks bases first second;
   bytes = puts.text;
   has = record {
     marks = marks;
-    mark_cells = mark_cells;
     bases = bases;
-    base_cells = base_cells;
-    first = puts.first;
-    second = puts.second;
-    first_is = puts.first_is;
-    second_is = puts.second_is;
-    small = puts.small;
-    fit = puts.fit;
-    are = are;
-    there = subst (λ (xs : List ℕ). Holds (attaching_text (classes_of gpos subtable) marks bases puts.first puts.second) xs (length old)) (sym puts.text)
-        (holds-last old (attaching_text (classes_of gpos subtable) marks bases puts.first puts.second));
+    first = first;
+    second = second;
+    small = small;
+    first_has = first_has;
+    second_has = second_has;
+    fits = puts.fits;
+    there = subst (λ (xs : List ℕ). Holds (attaching_text (classes_of gpos subtable) marks bases first second) xs (length old)) (sym puts.text)
+        (holds-last old (attaching_text (classes_of gpos subtable) marks bases first second));
   };
 }
 
 -- one more subtable
 pub parts-more : (gpos : List ℕ) (lookup type : ℕ) (kept : List ℕ) (j : ℕ) (offsets bytes newoffsets newbytes : List ℕ) →
-    HasParts gpos lookup type kept j offsets bytes → AddsAttaching gpos (attaching_at gpos lookup type j) kept bytes newbytes →
+    HasParts gpos lookup type kept j offsets bytes → AddsAttaching type gpos (attaching_at gpos lookup type j) kept bytes newbytes →
     newoffsets ≡ offsets ++ length bytes ∷ [] → HasParts gpos lookup type kept (j + 1) newoffsets newbytes
 parts-more gpos lookup type kept j offsets bytes newoffsets newbytes has adds is =
     subst (λ (xs : List ℕ). HasParts gpos lookup type kept (j + 1) xs newbytes) (sym is) (record {
       many = (let many = has.many in omega (arith, many, length-append offsets (length bytes ∷ [])));
-      each = push-each (λ k o. HasAttaching gpos (attaching_at gpos lookup type k) kept newbytes o) offsets (length bytes) 0 j has.many
-          (λ k less. subst (λ (xs : List ℕ). HasAttaching gpos (attaching_at gpos lookup type k) kept xs (get_or offsets k 0)) (sym adds.bytes)
-          (attaching-on gpos (attaching_at gpos lookup type k) kept bytes adds.more (get_or offsets k 0) (has.each k less)))
+      each = push-each (λ k o. HasAttaching type gpos (attaching_at gpos lookup type k) kept newbytes o) offsets (length bytes) 0 j has.many
+          (λ k less. subst (λ (xs : List ℕ). HasAttaching type gpos (attaching_at gpos lookup type k) kept xs (get_or offsets k 0)) (sym adds.bytes)
+          (attaching-on type gpos (attaching_at gpos lookup type k) kept bytes adds.more (get_or offsets k 0) (has.each k less)))
           adds.has;
     })
 
@@ -145,7 +135,3 @@ pub parts-joined : (type flag : ℕ) (offsets subtables out : List ℕ) →
     ≡ out ++ parts_text type flag offsets subtables
 unfolding parts_text
 parts-joined type flag offsets subtables out = simp append_assoc
-
-pub empty-is : (xs : List ℕ) → length xs ≡ 0 → xs ≡ []
-empty-is [] none = refl
-empty-is (x ∷ xs) none = absurd (omega (arith, none))

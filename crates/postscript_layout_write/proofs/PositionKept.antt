@@ -7,10 +7,11 @@ use Rattle.postscript_layout_write.specs.First.{first_some}
 use Rattle.postscript_layout_write.specs.Holds.{Holds}
 use Rattle.postscript_layout_write.specs.Kerning.{KeepsKerning, kept_pair}
 use Rattle.postscript_layout_write.specs.Lookups.{HasLookup, HasLookups, HasPosition, Keeps, has_marks, has_pairs}
-use Rattle.postscript_layout_write.specs.Marks.{Attachment, attaches, attachment, by_subtables, type_at}
+use Rattle.postscript_layout_write.specs.Ligatures.{by_lookup as ligature_by_lookup, by_subtables as ligatures_by}
+use Rattle.postscript_layout_write.specs.Marks.{attaches, by_subtables, type_at}
 use Rattle.postscript_layout_write.specs.Marks.{by_lookup as attached_by}
 use Rattle.postscript_layout_write.specs.Pairs.{adjustment, by_lookup, by_part, flag_of, lookup_at, lookups_of, or_nothing, pairs_at}
-use Rattle.postscript_layout_write.specs.Positions.{KeepsPositions, has_no_pairs, kept_attachment, keeps_marks}
+use Rattle.postscript_layout_write.specs.Positions.{KeepsPositions, has_no_pairs, is_marks, kept_attachment, kept_to_component, keeps_marks}
 use Rattle.postscript_layout_write.specs.ScriptLists.{ListsEnd}
 use Rattle.postscript_layout_write.specs.Sets.{AreOffsets}
 use Rattle.postscript_layout_write.specs.Text.{front_text, list_text}
@@ -18,7 +19,7 @@ use Rattle.postscript_layout_write.specs.Values.{nothing}
 use Rattle.postscript_layout_write.specs.declared.values.Adjustment.{Adjustment}
 use Rattle.postscript_layout_write.proofs.Firsts.{Found, first-cases, first-none, none_found, some_found}
 use Rattle.postscript_layout_write.proofs.Kept.{count-held, flag-read, keeps-lists, lookup-in, lookup-read, lookups-held, place-read, type-read}
-use Rattle.postscript_layout_write.proofs.MarkKept.{mark-flag, mark-type, marks-attached, type-not, word-type}
+use Rattle.postscript_layout_write.proofs.MarkKept.{components-attached, mark-flag, mark-type, marks-attached, type-not, word-type}
 use Rattle.postscript_layout_write.proofs.MarkWriting.{marks-in}
 
 position-in : (marks : Bool) (gpos kept : List ℕ) (lookup : ℕ) (t bytes : List ℕ) (at offset : ℕ) → Holds bytes t at → HasPosition marks gpos kept lookup bytes offset →
@@ -35,9 +36,9 @@ and-right : (a b : Bool) → (a && b) ≡ true → b ≡ true
 and-right true b is = is
 and-right false b is = absurd (cc)
 
-attaches-if : (gpos : List ℕ) (lookup : ℕ) → keeps_marks gpos lookup ≡ true → attaches (type_at gpos lookup) ≡ true
-attaches-if gpos lookup keeps = and-left (attaches (type_at gpos lookup)) (nat_lt (word gpos (lookup + 2)) 16)
-    (and-left (attaches (type_at gpos lookup) && nat_lt (word gpos (lookup + 2)) 16) (has_no_pairs gpos lookup) keeps)
+attaches-if : (gpos : List ℕ) (lookup : ℕ) → keeps_marks gpos lookup ≡ true → is_marks (type_at gpos lookup) ≡ true
+attaches-if gpos lookup keeps = and-left (is_marks (type_at gpos lookup)) (nat_lt (word gpos (lookup + 2)) 16)
+    (and-left (is_marks (type_at gpos lookup) && nat_lt (word gpos (lookup + 2)) 16) (has_no_pairs gpos lookup) keeps)
 
 -- a lookup without pairs adjusts none
 none-if : {X : Type 0} (f : ℕ → Option X) (n : ℕ) → is_none (first_some f n) ≡ true → (k : ℕ) → k < n → f k ≡ None
@@ -62,7 +63,7 @@ old-nothing gpos kept lookup x y keeps = if-nothing (nat_lt x (length kept) && n
     (by_lookup gpos lookup (get_or kept x 0) (get_or kept y 0))
     (no-pairs gpos lookup (get_or kept x 0) (get_or kept y 0)
     (none-if (λ j. pairs_at gpos lookup j) (word gpos (lookup + 4))
-    (and-right (attaches (type_at gpos lookup) && nat_lt (word gpos (lookup + 2)) 16) (has_no_pairs gpos lookup) keeps)))
+    (and-right (is_marks (type_at gpos lookup) && nat_lt (word gpos (lookup + 2)) 16) (has_no_pairs gpos lookup) keeps)))
 
 -- a lookup of another type has no pairs
 other-type : (t : List ℕ) (l j : ℕ) → nat_eq (word t l) 2 ≡ false → nat_eq (word t l) 9 ≡ false → pairs_at t l j ≡ None
@@ -102,6 +103,19 @@ marks-said gpos kept lookup t l (has_pairs never p) x y =
 marks-said gpos kept lookup t l (has_marks keeps m) x y = marks-attached gpos kept lookup t l m (attaches-if gpos lookup keeps) x y
     ∙ sym (ap (λ (b : Bool). if b && (nat_lt x (length kept) && nat_lt y (length kept)) then attached_by gpos lookup (get_or kept x 0) (get_or kept y 0) else None) keeps)
 
+components-said : (gpos kept : List ℕ) (lookup : ℕ) (t : List ℕ) (l : ℕ) → HasPosition true gpos kept lookup t l →
+    (x y component : ℕ) → ligature_by_lookup t l x y component ≡ kept_to_component gpos kept lookup x y component
+components-said gpos kept lookup t l (has_pairs never p) x y component =
+    let two = type-read (word gpos (lookup + 2) % 16) (kept_pair gpos kept lookup) t l p in
+    let type : type_at t l ≡ 2 = ap (λ k. if k == 9 then word t (l + word t (l + 6) + 2) else k) two in
+    ap (λ k. if k == 5 then ligatures_by t l x y component else None) type
+    ∙ sym (ap (λ (b : Bool). if b && (nat_lt x (length kept) && nat_lt y (length kept))
+    then ligature_by_lookup gpos lookup (get_or kept x 0) (get_or kept y 0) component else None) never)
+components-said gpos kept lookup t l (has_marks keeps m) x y component =
+    components-attached gpos kept lookup t l m (attaches-if gpos lookup keeps) x y component
+    ∙ sym (ap (λ (b : Bool). if b && (nat_lt x (length kept) && nat_lt y (length kept))
+    then ligature_by_lookup gpos lookup (get_or kept x 0) (get_or kept y 0) component else None) keeps)
+
 module _ (old new offsets bytes : List ℕ) (end : ℕ) (lists : ListsEnd old end) (small : end < 65536) (within : end ≤ length old)
     (is : new ≡ front_text old end ++ list_text offsets bytes) (few : length offsets ≤ 32766) (fit : AreOffsets (2 + length offsets * 2) offsets)
     (kept : List ℕ) where
@@ -126,4 +140,5 @@ module _ (old new offsets bytes : List ℕ) (end : ℕ) (lists : ListsEnd old en
     kerning = keeps-kerning true has;
     types = λ i less is. type-said old kept (lookup_at old i) new (lookup_at new i) (held true has i less) is;
     marks = λ i x y less. marks-said old kept (lookup_at old i) new (lookup_at new i) (held true has i less) x y;
+    ligatures = λ i x y component less. components-said old kept (lookup_at old i) new (lookup_at new i) (held true has i less) x y component;
   }

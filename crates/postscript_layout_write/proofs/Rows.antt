@@ -191,12 +191,26 @@ module _ (count : ℕ) (cells : List Cell) (t : List ℕ) (at : ℕ) (has : HasC
       ∙ ap (λ (a : Anchor). Some a) (anchor-held anchor w placed))
 
 -- an array in other bytes
-pub cells-in : (count : ℕ) (cells : List Cell) (t bytes : List ℕ) (at : ℕ) → Holds bytes t at → HasCells count cells bytes 0 → HasCells count cells t at
-cells-in count cells t bytes at h has = record {
+pub cells-within : (count : ℕ) (cells : List Cell) (t bytes : List ℕ) (at offset : ℕ) → Holds bytes t at → HasCells count cells bytes offset →
+    HasCells count cells t (at + offset)
+cells-within count cells t bytes at offset h has = record {
   numbers = has.numbers;
   pool = has.pool;
   small = has.small;
   same = has.same;
   each = has.each;
-  there = subst (Holds (cells_text count has.numbers has.pool) t) (omega arith) (holds-in h has.there);
+  there = holds-in h has.there;
+}
+
+pub cells-in : (count : ℕ) (cells : List Cell) (t bytes : List ℕ) (at : ℕ) → Holds bytes t at → HasCells count cells bytes 0 → HasCells count cells t at
+cells-in count cells t bytes at h has = subst (HasCells count cells t) (omega arith) (cells-within count cells t bytes at 0 h has)
+
+pub cells-on : (count : ℕ) (cells : List Cell) (bytes more : List ℕ) (at : ℕ) → HasCells count cells bytes at → HasCells count cells (bytes ++ more) at
+cells-on count cells bytes more at has = record {
+  numbers = has.numbers;
+  pool = has.pool;
+  small = has.small;
+  same = has.same;
+  each = has.each;
+  there = holds-on more has.there;
 }

@@ -1,13 +1,14 @@
 -- Marks and bases as they are written. Only contracts of private functions and proofs name this.
-use Rattle.std.specs.Prelude.{◌≡◌, ◌⊎◌, ℕ, true, ◌+◌, ◌*◌, ◌%◌, ◌<◌, ◌≤◌, ◌==◌, List, [], ◌∷◌, ◌++◌, Option, None, Some, Vec, length, nat_lt, slice_index, slice_index_or, if◌then◌else◌}
+use Rattle.std.specs.Prelude.{◌≡◌, ◌⊎◌, ℕ, true, ◌+◌, ◌*◌, ◌/◌, ◌%◌, ◌<◌, ◌≤◌, ◌==◌, List, [], ◌∷◌, ◌++◌, Option, None, Some, Vec, length, nat_lt, slice_index, slice_index_or, if◌then◌else◌}
 use Rattle.std.specs.List.{Contains}
 use Rattle.std.specs.declared.alloc.Global.{Global}
 use Rattle.postscript_layout.specs.Numbers.{word}
 use Rattle.postscript_layout_write.specs.Holds.{Holds}
+use Rattle.postscript_layout_write.specs.Ligatures.{ligature_of}
 use Rattle.postscript_layout_write.specs.Marks.{Mark, anchor_in, attaching_at, mark_in, type_at}
 use Rattle.postscript_layout_write.specs.Ranges.{coverage_index}
 use Rattle.postscript_layout_write.specs.RuleSets.{rule_head_text}
-use Rattle.postscript_layout_write.specs.Sets.{AreOffsets}
+use Rattle.postscript_layout_write.specs.Sets.{AreOffsets, Places}
 use Rattle.postscript_layout_write.specs.Text.{array_text, coverage_text, offsets_text, uint16}
 use Rattle.postscript_layout_write.specs.declared.anchors.Anchor.{Anchor}
 use Rattle.postscript_layout_write.specs.declared.anchors.Cell.{Cell}
@@ -128,7 +129,7 @@ pub record HasCells (count : ℕ) (cells : List Cell) (bytes : List ℕ) (offset
   pub each : (k : ℕ) → k < length cells → IsCell (2 + length cells * 2) pool (slice_index_or cells k no_cell) (slice_index numbers k)
   pub there : Holds (cells_text count numbers pool) bytes offset
 
--- A subtable of format 1. Its coverage tables and its arrays follow the header.
+-- the header of a subtable of format 1, and the subtable: its coverage tables and its arrays follow the header
 unfoldable pub attaching_head : (classes marks bases size : ℕ) → List ℕ
 attaching_head classes marks bases size =
     array_text (1 ∷ 12 ∷ (16 + marks * 2) ∷ classes ∷ (20 + marks * 2 + bases * 2) ∷ (20 + marks * 2 + bases * 2 + size) ∷ [])
@@ -137,51 +138,107 @@ unfoldable pub attaching_text : (classes : ℕ) → (marks bases first second : 
 attaching_text classes marks bases first second =
     attaching_head classes (length marks) (length bases) (length first) ++ (coverage_text marks ++ (coverage_text bases ++ (first ++ second)))
 
--- an array of rows by itself
-pub record IsArray (glyphs : List ℕ) (cells : List Cell) (text : List ℕ) : Type 0 where
-  pub few : length glyphs ≤ 16380
-  pub has : HasCells (length glyphs) cells text 0
+-- what fits into a subtable
+pub record Fits (classes : ℕ) (marks bases first : List ℕ) : Type 0 where
+  pub small : classes < 65536
+  pub few_marks : length marks ≤ 16380
+  pub few_bases : length bases ≤ 16380
+  pub size : 20 + length marks * 2 + length bases * 2 + length first < 65536
 
 -- a subtable is appended
-pub record PutsAttaching (classes : ℕ) (marks : List ℕ) (mark_cells : List Cell) (bases : List ℕ) (base_cells : List Cell) (old new : List ℕ) : Type 0 where
-  pub first : List ℕ
-  pub second : List ℕ
-  pub first_is : IsArray marks mark_cells first
-  pub second_is : IsArray bases base_cells second
-  pub small : classes < 65536
-  pub fit : 20 + length marks * 2 + length bases * 2 + length first < 65536
+pub record PutsAttaching (classes : ℕ) (marks bases first second old new : List ℕ) : Type 0 where
+  pub fits : Fits classes marks bases first
   pub text : new ≡ old ++ attaching_text classes marks bases first second
 
--- the marks and the bases of the kept glyphs under their new numbers; without marks, no bases are needed
-pub record AreSides (gpos : List ℕ) (subtable : Option ℕ) (kept marks : List ℕ) (mark_cells : List Cell) (bases : List ℕ) (base_cells : List Cell) : Type 0 where
-  pub marks_are : AreRows 2 (λ x. row_of gpos subtable Marks (slice_index kept x)) (length kept) marks mark_cells
-  pub bases_are : (marks ≡ []) ⊎ AreRows (classes_of gpos subtable) (λ x. row_of gpos subtable Bases (slice_index kept x)) (length kept) bases base_cells
-  pub small : length kept < 65536
+-- the marks of a subtable
+pub record HasMarkArray (gpos : List ℕ) (subtable : Option ℕ) (kept marks text : List ℕ) : Type 0 where
+  pub cells : List Cell
+  pub are : AreRows 2 (λ x. row_of gpos subtable Marks (slice_index kept x)) (length kept) marks cells
+  pub has : HasCells (length marks) cells text 0
 
--- a subtable at an offset has the marks and the bases
-pub record HasAttaching (gpos : List ℕ) (subtable : Option ℕ) (kept bytes : List ℕ) (offset : ℕ) : Type 0 where
+-- the bases of a subtable
+pub record HasBaseArray (gpos : List ℕ) (subtable : Option ℕ) (kept bases text : List ℕ) : Type 0 where
+  pub cells : List Cell
+  pub are : AreRows (classes_of gpos subtable) (λ x. row_of gpos subtable Bases (slice_index kept x)) (length kept) bases cells
+  pub has : HasCells (length bases) cells text 0
+
+-- the anchors of the components of a ligature, one component after the other
+pub record AreComponents (gpos : List ℕ) (ligature classes : ℕ) (cells : List Cell) : Type 0 where
+  pub many : length cells ≡ word gpos ligature * classes
+  pub each : (q : ℕ) → q < length cells → slice_index_or cells q no_cell ≡ cell_of (anchor_in gpos ligature classes (q / classes) (q % classes))
+
+-- the table of a ligature is there
+pub record HasLigature (gpos : List ℕ) (ligature classes : ℕ) (bytes : List ℕ) (offset : ℕ) : Type 0 where
+  pub cells : List Cell
+  pub are : AreComponents gpos ligature classes cells
+  pub has : HasCells (word gpos ligature) cells bytes offset
+
+abbrev pub HasLigatureOf : List ℕ → (ligature : Option ℕ) → (classes : ℕ) → (bytes : List ℕ) → (offset : ℕ) → Type 0
+HasLigatureOf gpos None classes bytes offset = ⊥
+HasLigatureOf gpos (Some ligature) classes bytes offset = HasLigature gpos ligature classes bytes offset
+
+-- the table of a ligature glyph
+abbrev pub ligature_at : List ℕ → (subtable : Option ℕ) → (glyph : ℕ) → Option ℕ
+ligature_at gpos None glyph = None
+ligature_at gpos (Some subtable) glyph = ligature_of gpos subtable glyph
+
+-- the ligatures of the new numbers below a number
+pub record AreLigatures (gpos : List ℕ) (subtable : Option ℕ) (kept : List ℕ) (count : ℕ) (glyphs offsets bytes : List ℕ) : Type 0 where
+  pub same : length offsets ≡ length glyphs
+  pub fit : (k : ℕ) → k < length glyphs → slice_index glyphs k < count
+  pub each : (k : ℕ) → k < length glyphs →
+      HasLigatureOf gpos (ligature_at gpos subtable (slice_index kept (slice_index glyphs k))) (classes_of gpos subtable) bytes (slice_index offsets k)
+  pub all : (x : ℕ) → x < count → (ligature_at gpos subtable (slice_index kept x) ≡ None) ⊎ Contains glyphs x
+
+-- the table of a ligature is added
+pub record AddsLigature (glyph : ℕ) (text glyphs offsets bytes newglyphs newoffsets newbytes : List ℕ) : Type 0 where
+  pub place : ℕ
+  pub glyphs_are : newglyphs ≡ glyphs ++ glyph ∷ []
+  pub offsets_are : newoffsets ≡ offsets ++ place ∷ []
+  pub placed : Places text bytes newbytes place
+
+-- an array of ligatures
+unfoldable pub ligatures_text : (offsets bytes : List ℕ) → List ℕ
+ligatures_text offsets bytes = uint16 (length offsets) ++ (offsets_text (2 + length offsets * 2) offsets ++ bytes)
+
+pub record IsLigatureArray (offsets bytes text : List ℕ) : Type 0 where
+  pub few : length offsets ≤ 16380
+  pub fit : AreOffsets (2 + length offsets * 2) offsets
+  pub is : text ≡ ligatures_text offsets bytes
+
+pub record HasLigatureArray (gpos : List ℕ) (subtable : Option ℕ) (kept bases text : List ℕ) : Type 0 where
+  pub offsets : List ℕ
+  pub bytes : List ℕ
+  pub are : AreLigatures gpos subtable kept (length kept) bases offsets bytes
+  pub is : IsLigatureArray offsets bytes text
+
+-- the bases or the ligatures; without marks, none are needed
+pub data HasSecondArray (type : ℕ) (gpos : List ℕ) (subtable : Option ℕ) (kept marks bases text : List ℕ) : Type 0 where
+  no_marks : marks ≡ [] → HasSecondArray type gpos subtable kept marks bases text
+  are_bases : (type ≡ 5 → ⊥) → HasBaseArray gpos subtable kept bases text → HasSecondArray type gpos subtable kept marks bases text
+  are_ligatures : type ≡ 5 → HasLigatureArray gpos subtable kept bases text → HasSecondArray type gpos subtable kept marks bases text
+
+-- a subtable at an offset has the marks, and the bases or the ligatures
+pub record HasAttaching (type : ℕ) (gpos : List ℕ) (subtable : Option ℕ) (kept bytes : List ℕ) (offset : ℕ) : Type 0 where
   pub marks : List ℕ
-  pub mark_cells : List Cell
   pub bases : List ℕ
-  pub base_cells : List Cell
   pub first : List ℕ
   pub second : List ℕ
-  pub first_is : IsArray marks mark_cells first
-  pub second_is : IsArray bases base_cells second
-  pub small : classes_of gpos subtable < 65536
-  pub fit : 20 + length marks * 2 + length bases * 2 + length first < 65536
-  pub are : AreSides gpos subtable kept marks mark_cells bases base_cells
+  pub small : length kept < 65536
+  pub first_has : HasMarkArray gpos subtable kept marks first
+  pub second_has : HasSecondArray type gpos subtable kept marks bases second
+  pub fits : Fits (classes_of gpos subtable) marks bases first
   pub there : Holds (attaching_text (classes_of gpos subtable) marks bases first second) bytes offset
 
-pub record AddsAttaching (gpos : List ℕ) (subtable : Option ℕ) (kept old new : List ℕ) : Type 0 where
+pub record AddsAttaching (type : ℕ) (gpos : List ℕ) (subtable : Option ℕ) (kept old new : List ℕ) : Type 0 where
   pub more : List ℕ
   pub bytes : new ≡ old ++ more
-  pub has : HasAttaching gpos subtable kept new (length old)
+  pub has : HasAttaching type gpos subtable kept new (length old)
 
 -- the first subtables of a lookup are there
 pub record HasParts (gpos : List ℕ) (lookup type : ℕ) (kept : List ℕ) (count : ℕ) (offsets bytes : List ℕ) : Type 0 where
   pub many : length offsets ≡ count
-  pub each : (j : ℕ) → j < count → HasAttaching gpos (attaching_at gpos lookup type j) kept bytes (slice_index offsets j)
+  pub each : (j : ℕ) → j < count → HasAttaching type gpos (attaching_at gpos lookup type j) kept bytes (slice_index offsets j)
 
 -- a lookup with subtables
 unfoldable pub parts_text : (type flag : ℕ) → (offsets subtables : List ℕ) → List ℕ

@@ -19,5 +19,6 @@ pub mod RuleSets
 pub mod RuleLookups
 pub mod Leaving
 pub mod Marks
+pub mod Ligatures
 pub mod Positions
 pub mod Attaching

@@ -52,7 +52,13 @@ fn anchor_at(gpos: &[u8], table: usize, offset: usize) -> Anchor
 }
 
 /// Returns the anchor of base `i` for a class of marks.
-fn anchor_in(gpos: &[u8], array: usize, classes: usize, i: usize, class: usize) -> Option<Anchor>
+pub(crate) fn anchor_in(
+    gpos: &[u8],
+    array: usize,
+    classes: usize,
+    i: usize,
+    class: usize,
+) -> Option<Anchor>
     requires near { array < 2 ^ 36 }
     requires small { classes < 65536 }
     ensures { result ≡ the_anchor_in gpos.now array classes i class }
@@ -70,7 +76,7 @@ fn anchor_in(gpos: &[u8], array: usize, classes: usize, i: usize, class: usize) 
 }
 
 /// Returns the cell of an anchor. No anchor is the offset 0.
-fn cell_of(anchor: Option<Anchor>) -> Cell
+pub(crate) fn cell_of(anchor: Option<Anchor>) -> Cell
     ensures { result ≡ the_cell anchor }
 {
     match anchor {
@@ -124,7 +130,7 @@ fn base_row(
 }
 
 /// Returns the offset of the coverage table of marks or bases.
-fn coverage_of(gpos: &[u8], subtable: usize, side: Side) -> usize
+pub(crate) fn coverage_of(gpos: &[u8], subtable: usize, side: Side) -> usize
     requires near { subtable < 2 ^ 33 }
     ensures exact { result ≡ the_coverage gpos.now subtable side }
     ensures near { result < 2 ^ 34 }
@@ -136,7 +142,7 @@ fn coverage_of(gpos: &[u8], subtable: usize, side: Side) -> usize
 }
 
 /// Returns the offset of the array of marks or bases.
-fn array_of(gpos: &[u8], subtable: usize, side: Side) -> usize
+pub(crate) fn array_at(gpos: &[u8], subtable: usize, side: Side) -> usize
     requires near { subtable < 2 ^ 33 }
     ensures exact { result ≡ the_array gpos.now subtable side }
     ensures near { result < 2 ^ 34 }
@@ -162,7 +168,7 @@ fn row_in(
     ensures spends { limit.new ≤ limit.old }
     ensures why { IfErr result (λ e. (e ≡ errors.Memory) ⊎ IsUsedUp limit.new e) }
 {
-    let array = array_of(gpos, subtable, side);
+    let array = array_at(gpos, subtable, side);
     match side {
         Side::Marks => {
             let row = mark_row(alloc, gpos, array, i)?;

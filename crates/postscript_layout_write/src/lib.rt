@@ -31,6 +31,7 @@ mod classes;
 mod entries;
 mod error;
 mod leaving;
+mod ligatures;
 mod limit;
 mod lookups;
 mod marks;

@@ -1,15 +1,16 @@
-//! Lookups that attach marks to bases or to other marks.
+//! Lookups that attach marks to bases, to ligatures or to other marks.
 ghost use Rattle.std.specs.Prelude.{◌≡◌, ◌⊎◌, ◌%◌, ◌+◌, ◌*◌, ◌^◌, ◌<◌, ◌≤◌, ◌++◌, length, IfErr, IfOk, IfSome, OnOk};
 ghost use Rattle.postscript_layout.specs.Numbers.{word as the_word};
-ghost use Rattle.postscript_layout_write.specs.Attaching.{AddsAttaching, AddsMarks, HasParts, IsArray, PutsAttaching, attaching_head, classes_of as the_classes};
-ghost use Rattle.postscript_layout_write.specs.Marks.{attaches as the_attaches, attaching_at as the_subtable, of_format1 as the_format1, type_at};
-ghost use Rattle.postscript_layout_write.specs.Positions.{has_no_pairs as the_no_pairs, keeps_marks as the_keeps};
+ghost use Rattle.postscript_layout_write.specs.Attaching.{AddsAttaching, AddsMarks, HasBaseArray, HasCells, HasLigatureArray, HasMarkArray, HasParts, HasSecondArray, PutsAttaching, attaching_head, classes_of as the_classes};
+ghost use Rattle.postscript_layout_write.specs.Marks.{attaching_at as the_subtable, of_format1 as the_format1, type_at};
+ghost use Rattle.postscript_layout_write.specs.Positions.{has_no_pairs as the_no_pairs, is_marks as the_marks, keeps_marks as the_keeps};
 ghost use Rattle.postscript_layout_write.specs.Refusals.{Fails, IsUsedUp};
 ghost use Rattle.postscript_layout_write.specs.declared.error.Error.TheVariants as errors;
 
 use crate::anchors::Side;
 use crate::cells::{Rows, array_of, rows_of};
 use crate::error::{Error, Result};
+use crate::ligatures::{ligature_array, ligatures_of};
 use crate::limit::pay;
 use crate::lookups::pairs_at;
 use crate::numbers::{long, word};
@@ -31,11 +32,11 @@ fn type_of(gpos: &[u8], lookup: usize) -> usize
     }
 }
 
-/// Whether lookups of a type attach marks to single glyphs.
-fn attaches(kind: usize) -> bool
-    ensures { result ≡ the_attaches kind }
+/// Whether lookups of a type attach marks.
+fn is_marks(kind: usize) -> bool
+    ensures { result ≡ the_marks kind }
 {
-    kind == 4 || kind == 6
+    kind == 4 || kind == 6 || kind == 5
 }
 
 /// Returns a subtable, if it has format 1.
@@ -93,7 +94,7 @@ pub(crate) fn keeps_marks(gpos: &[u8], lookup: usize, limit: &mut u64) -> Result
     ensures spends { limit.new ≤ limit.old }
     ensures why { IfErr result (λ e. IsUsedUp limit.new e) }
 {
-    if attaches(type_of(gpos, lookup)) && word(gpos, lookup + 2) < 16 {
+    if is_marks(type_of(gpos, lookup)) && word(gpos, lookup + 2) < 16 {
         let none = has_no_pairs(gpos, lookup, limit)?;
         Ok(none)
     } else {
@@ -111,19 +112,6 @@ fn classes_of(gpos: &[u8], subtable: Option<usize>) -> usize
         Some(at) => word(gpos, at + 6),
         None => 0,
     }
-}
-
-/// Returns the array of some rows.
-fn text_of(alloc: Global, rows: &Rows) -> Result<Vec<u8>>
-    ensures text { IfOk result (λ text. IsArray rows.now.glyphs.items rows.now.cells.items text.items) }
-    ensures why { IfErr result (λ e. (e ≡ errors.Memory) ⊎ (e ≡ errors.TooLarge)) }
-{
-    let count = rows.glyphs.len();
-    if count > 16380 {
-        return Err(Error::TooLarge);
-    }
-    let text = array_of(alloc, count as u16, &rows.cells)?;
-    Ok(text)
 }
 
 /// Appends the header of a subtable with numbers of marks and bases, and with an array of marks of a size.
@@ -164,58 +152,167 @@ fn put_numbers(
 /// Appends a subtable.
 #[tactic(auto, unfolding(crate::specs::Attaching::attaching_text))]
 fn put_subtable(
-    alloc: Global,
     out: &mut Vec<u8>,
     classes: u16,
-    marks: &Rows,
-    bases: &Rows,
+    marks: &[u16],
+    bases: &[u16],
+    first: &[u8],
+    second: &[u8],
 ) -> Result<()>
-    ensures done { OnOk result (PutsAttaching classes marks.now.glyphs.items marks.now.cells.items bases.now.glyphs.items bases.now.cells.items out.old.items out.new.items) }
+    ensures done { OnOk result (PutsAttaching classes marks.now bases.now first.now second.now out.old.items out.new.items) }
     ensures why { IfErr result (λ e. (e ≡ errors.Memory) ⊎ (e ≡ errors.TooLarge)) }
 {
-    let first = text_of(alloc, marks)?;
-    let second = text_of(alloc, bases)?;
-    put_numbers(
-        out,
-        classes,
-        marks.glyphs.len(),
-        bases.glyphs.len(),
-        first.len(),
-    )?;
-    put_coverage(out, &marks.glyphs)?;
-    put_coverage(out, &bases.glyphs)?;
-    out.extend_from_slice(&first)?;
-    out.extend_from_slice(&second)?;
+    if marks.len() > 16380 || bases.len() > 16380 {
+        return Err(Error::TooLarge);
+    }
+    put_numbers(out, classes, marks.len(), bases.len(), first.len())?;
+    put_coverage(out, marks)?;
+    put_coverage(out, bases)?;
+    out.extend_from_slice(first)?;
+    out.extend_from_slice(second)?;
     Ok(())
 }
 
-/// Appends a subtable with the kept marks and bases.
+/// The glyphs of an array, and its bytes.
+#[derive(Drop)]
+struct Array {
+    glyphs: Vec<u16>,
+    bytes: Vec<u8>,
+}
+
+/// Returns the array of some rows.
+fn rows_array(alloc: Global, rows: Rows) -> Result<Array>
+    ensures glyphs { IfOk result (λ array. array.glyphs.items ≡ rows.glyphs.items) }
+    ensures text { IfOk result (λ array. HasCells (length rows.glyphs.items) rows.cells.items array.bytes.items 0) }
+    ensures why { IfErr result (λ e. (e ≡ errors.Memory) ⊎ (e ≡ errors.TooLarge)) }
+{
+    let count = rows.glyphs.len();
+    if count > 16380 {
+        return Err(Error::TooLarge);
+    }
+    let bytes = array_of(alloc, count as u16, &rows.cells)?;
+    Ok(Array {
+        glyphs: rows.glyphs,
+        bytes,
+    })
+}
+
+/// Returns the kept marks of a subtable.
+fn marks_of(
+    alloc: Global,
+    gpos: &[u8],
+    subtable: Option<usize>,
+    kept: &[u16],
+    limit: &mut u64,
+) -> Result<Array>
+    requires near { IfSome subtable (λ at. at < 2 ^ 33) }
+    requires few { length kept.now < 65536 }
+    ensures exact { IfOk result (λ array. HasMarkArray gpos.now subtable kept.now array.glyphs.items array.bytes.items) }
+    ensures spends { limit.new ≤ limit.old }
+    ensures why { IfErr result (λ e. Fails limit.new e) }
+{
+    let rows = rows_of(alloc, gpos, subtable, Side::Marks, kept, limit)?;
+    let array = rows_array(alloc, rows)?;
+    Ok(array)
+}
+
+/// Returns the kept bases of a subtable.
+fn bases_of(
+    alloc: Global,
+    gpos: &[u8],
+    subtable: Option<usize>,
+    kept: &[u16],
+    limit: &mut u64,
+) -> Result<Array>
+    requires near { IfSome subtable (λ at. at < 2 ^ 33) }
+    requires few { length kept.now < 65536 }
+    ensures exact { IfOk result (λ array. HasBaseArray gpos.now subtable kept.now array.glyphs.items array.bytes.items) }
+    ensures spends { limit.new ≤ limit.old }
+    ensures why { IfErr result (λ e. Fails limit.new e) }
+{
+    let rows = rows_of(alloc, gpos, subtable, Side::Bases, kept, limit)?;
+    let array = rows_array(alloc, rows)?;
+    Ok(array)
+}
+
+/// Returns the kept ligatures of a subtable.
+fn ligated(
+    alloc: Global,
+    gpos: &[u8],
+    subtable: Option<usize>,
+    kept: &[u16],
+    limit: &mut u64,
+) -> Result<Array>
+    requires near { IfSome subtable (λ at. at < 2 ^ 33) }
+    requires few { length kept.now < 65536 }
+    ensures exact { IfOk result (λ array. HasLigatureArray gpos.now subtable kept.now array.glyphs.items array.bytes.items) }
+    ensures spends { limit.new ≤ limit.old }
+    ensures why { IfErr result (λ e. Fails limit.new e) }
+{
+    let classes = classes_of(gpos, subtable);
+    let sets = ligatures_of(alloc, gpos, subtable, classes, kept, limit)?;
+    let bytes = ligature_array(alloc, &sets.offsets, &sets.bytes)?;
+    Ok(Array {
+        glyphs: sets.firsts,
+        bytes,
+    })
+}
+
+/// Returns the kept bases of a subtable of a type, or its kept ligatures. Without marks, none are needed.
+fn seconds_of(
+    alloc: Global,
+    gpos: &[u8],
+    kind: usize,
+    subtable: Option<usize>,
+    marks: &[u16],
+    kept: &[u16],
+    limit: &mut u64,
+) -> Result<Array>
+    requires near { IfSome subtable (λ at. at < 2 ^ 33) }
+    requires few { length kept.now < 65536 }
+    ensures exact { IfOk result (λ array. HasSecondArray kind gpos.now subtable kept.now marks.now array.glyphs.items array.bytes.items) }
+    ensures spends { limit.new ≤ limit.old }
+    ensures why { IfErr result (λ e. Fails limit.new e) }
+{
+    if marks.is_empty() {
+        let array = rows_array(alloc, Rows::new(alloc))?;
+        return Ok(array);
+    }
+    if kind == 5 {
+        let array = ligated(alloc, gpos, subtable, kept, limit)?;
+        Ok(array)
+    } else {
+        let array = bases_of(alloc, gpos, subtable, kept, limit)?;
+        Ok(array)
+    }
+}
+
+/// Appends a subtable of a type with the kept marks, and with the kept bases or ligatures.
 fn add_subtable(
     alloc: Global,
     out: &mut Vec<u8>,
     gpos: &[u8],
+    kind: usize,
     subtable: Option<usize>,
     kept: &[u16],
     limit: &mut u64,
 ) -> Result<()>
     requires near { IfSome subtable (λ at. at < 2 ^ 33) }
     requires few { length kept.now < 65536 }
-    ensures done { OnOk result (AddsAttaching gpos.now subtable kept.now out.old.items out.new.items) }
+    ensures done { OnOk result (AddsAttaching kind gpos.now subtable kept.now out.old.items out.new.items) }
     ensures spends { limit.new ≤ limit.old }
     ensures why { IfErr result (λ e. Fails limit.new e) }
 {
-    let marks = rows_of(alloc, gpos, subtable, Side::Marks, kept, limit)?;
-    let bases = if marks.glyphs.is_empty() {
-        Rows::new(alloc)
-    } else {
-        rows_of(alloc, gpos, subtable, Side::Bases, kept, limit)?
-    };
+    let marks = marks_of(alloc, gpos, subtable, kept, limit)?;
+    let others = seconds_of(alloc, gpos, kind, subtable, &marks.glyphs, kept, limit)?;
+    let classes = classes_of(gpos, subtable);
     put_subtable(
-        alloc,
         out,
-        classes_of(gpos, subtable) as u16,
-        &marks,
-        &bases,
+        classes as u16,
+        &marks.glyphs,
+        &others.glyphs,
+        &marks.bytes,
+        &others.bytes,
     )?;
     Ok(())
 }
@@ -252,7 +349,7 @@ fn parts_of(
         }
         offsets.push(bytes.len())?;
         let subtable = subtable_at(gpos, lookup, kind, j);
-        add_subtable(alloc, &mut bytes, gpos, subtable, kept, limit)?;
+        add_subtable(alloc, &mut bytes, gpos, kind, subtable, kept, limit)?;
     }
     Ok(Parts { offsets, bytes })
 }
