@@ -1,5 +1,5 @@
 -- Lookups that were written are read as their pairs, and the whole table.
-use Rattle.std.proofs.Common.{◌≡◌, refl, sym, ap, subst, ◌∙◌, inl, inr, ℕ, ◌+◌, ◌-◌, ◌*◌, ◌%◌, ◌≤◌, ◌<◌, ◌==◌, List, [], ◌++◌, length, length-append, length-drop, get_or, take, drop, arith, Bool}
+use Rattle.std.proofs.Common.{◌≡◌, refl, sym, ap, subst, ◌∙◌, inl, inr, ℕ, ◌+◌, ◌-◌, ◌*◌, ◌≤◌, ◌<◌, ◌==◌, List, [], ◌++◌, length, length-append, length-drop, get_or, take, drop, arith, Bool}
 use Rattle.std.specs.Prelude.{Option, None, Some, slice_range, if◌then◌else◌}
 use Rattle.std.proofs.lemmas.Bool.{eq-eqb}
 use Rattle.std.proofs.lemmas.List.{length-take-le}
@@ -7,9 +7,9 @@ use Rattle.std.proofs.Math.Seq.{drop-append_seam, take-append_seam}
 use Rattle.postscript_layout.specs.Numbers.{word, long}
 use Rattle.postscript_layout_write.specs.Entries.{form_of}
 use Rattle.postscript_layout_write.specs.Holds.{Holds}
-use Rattle.postscript_layout_write.specs.Kerning.{KeepsKerning, KeepsLists, kept_pair}
-use Rattle.postscript_layout_write.specs.Lookups.{HasLookup, HasLookups}
-use Rattle.postscript_layout_write.specs.Pairs.{by_lookup, by_part, flag_of, found_in, lookup_at, lookups_of, or_nothing, pairs_at}
+use Rattle.postscript_layout_write.specs.Kerning.{KeepsLists}
+use Rattle.postscript_layout_write.specs.Lookups.{HasLookup}
+use Rattle.postscript_layout_write.specs.Pairs.{by_lookup, by_part, found_in, lookup_at, lookups_of, or_nothing, pairs_at}
 use Rattle.postscript_layout_write.specs.ScriptLists.{ListsEnd}
 use Rattle.postscript_layout_write.specs.Sets.{AreOffsets, HasSubtable}
 use Rattle.postscript_layout_write.specs.Text.{front_text, list_text, lookup_text, offsets_text, uint16}

@@ -1,16 +1,12 @@
 -- Ligatures that are collected.
-use Rattle.std.proofs.Common.{◌≡◌, refl, sym, ap, subst, ◌∙◌, inl, inr, ℕ, ◌+◌, ◌*◌, ◌≤◌, ◌<◌, List, [], ◌∷◌, ◌++◌, length, length-append, get_or, arith}
+use Rattle.std.proofs.Common.{◌≡◌, sym, subst, inl, inr, ℕ, ◌+◌, ◌≤◌, ◌<◌, List, [], ◌∷◌, ◌++◌, length, length-append, get_or, arith}
 use Rattle.std.specs.Prelude.{None, Some, Option}
 use Rattle.std.specs.List.{Contains}
 use Rattle.std.proofs.lemmas.List.{get_or_append_left, get_or_push}
 use Rattle.std.proofs.lemmas.List.Elements.{Contains-append_left, Contains-push}
 use Rattle.postscript_layout.specs.Numbers.{word}
-use Rattle.postscript_layout_write.specs.Attaching.{AddsLigature, AreLigatures, HasCells, HasLigature, HasLigatureOf, cells_text, classes_of, ligature_at}
-use Rattle.postscript_layout_write.specs.Holds.{Holds}
-use Rattle.postscript_layout_write.specs.declared.anchors.Cell.{Cell}
+use Rattle.postscript_layout_write.specs.Attaching.{AddsLigature, AreLigatures, HasLigature, HasLigatureOf, classes_of, ligature_at}
 use Rattle.postscript_layout_write.proofs.Firsts.{nat_cases}
-use Rattle.postscript_layout_write.proofs.Holding.{holds-in, holds-on}
-use Rattle.postscript_layout_write.proofs.Lists.{push-each}
 use Rattle.postscript_layout_write.proofs.Rows.{cells-in, cells-on}
 
 ligature-on : (gpos : List ℕ) (ligature : Option ℕ) (classes : ℕ) (bytes more : List ℕ) (at : ℕ) → HasLigatureOf gpos ligature classes bytes at →

@@ -1,27 +1,25 @@
 -- Subtables and lookups that attach marks attach the kept marks as before.
-use Rattle.std.proofs.Common.{◌≡◌, refl, sym, ap, subst, ◌∙◌, inl, inr, ℕ, zero, suc, ◌+◌, ◌*◌, ◌%◌, ◌≤◌, ◌<◌, ◌==◌, ◌&&◌, ◌||◌, List, [], ◌∷◌, ◌++◌, length, length-append, get_or, arith, Bool, true, false}
-use Rattle.std.specs.Prelude.{Option, None, Some, nat_eq, nat_lt, slice_index, if◌then◌else◌}
-use Rattle.std.specs.List.{Contains}
+use Rattle.std.proofs.Common.{◌≡◌, refl, sym, ap, subst, ◌∙◌, inl, inr, ℕ, ◌+◌, ◌*◌, ◌%◌, ◌≤◌, ◌<◌, ◌==◌, ◌&&◌, List, [], ◌∷◌, ◌++◌, length, get_or, arith, Bool, true, false}
+use Rattle.std.specs.Prelude.{Option, None, Some, nat_eq, nat_lt, if◌then◌else◌}
 use Rattle.std.proofs.lemmas.Bool.{eq-eqb, eqb-true, le-ltb, lt-ltb}
 use Rattle.postscript_layout.specs.Numbers.{word, long}
-use Rattle.postscript_layout_write.specs.Attaching.{AreRows, HasAttaching, HasBaseArray, HasCells, HasLigatureArray, HasLigatureOf, HasMarks, HasSecondArray, are_bases, are_ligatures, at_class, attaching_head, attaching_text, base_in, base_row, classes_of, ligature_at, mark_row, no_marks, parts_text, row_covered, row_of}
+use Rattle.postscript_layout_write.specs.Attaching.{AreRows, HasAttaching, HasBaseArray, HasLigatureArray, HasLigatureOf, HasMarks, HasSecondArray, are_bases, are_ligatures, at_class, attaching_head, attaching_text, base_in, base_row, classes_of, ligature_at, mark_row, no_marks, parts_text, row_covered, row_of}
 use Rattle.postscript_layout_write.specs.First.{first_some}
 use Rattle.postscript_layout_write.specs.Holds.{Holds}
 use Rattle.postscript_layout_write.specs.Ligatures.{ToComponent, ligature_covered, ligature_of, to_component}
 use Rattle.postscript_layout_write.specs.Ligatures.{by_lookup as ligature_by_lookup, by_subtable as ligature_by, by_subtables as ligatures_by}
-use Rattle.postscript_layout_write.specs.Marks.{Attachment, Mark, anchor_at, anchor_covered, anchor_in, anchor_of, attached, attaches, attaching_at, by_lookup, by_subtable, by_subtables, mark_covered, mark_in, mark_of, met, of_format1, type_at}
+use Rattle.postscript_layout_write.specs.Marks.{Attachment, Mark, anchor_at, anchor_covered, anchor_in, anchor_of, attached, attaches, attaching_at, by_lookup, by_subtable, by_subtables, mark_covered, mark_of, met, of_format1, type_at}
 use Rattle.postscript_layout_write.specs.Positions.{is_marks}
 use Rattle.postscript_layout_write.specs.Ranges.{coverage_index}
 use Rattle.postscript_layout_write.specs.RuleSets.{rule_head_text}
 use Rattle.postscript_layout_write.specs.Text.{array_text, coverage_text, offsets_text, uint16}
 use Rattle.postscript_layout_write.specs.declared.anchors.Anchor.{Anchor}
-use Rattle.postscript_layout_write.specs.declared.anchors.Cell.{Cell}
 use Rattle.postscript_layout_write.specs.declared.anchors.Side.TheVariants.{Bases, Marks}
 use Rattle.postscript_layout_write.proofs.Firsts.{first-none, first-same, nat_cases}
-use Rattle.postscript_layout_write.proofs.Holding.{holds-array, holds-first, holds-in, holds-second, holds-word, length-array, length-uint16}
+use Rattle.postscript_layout_write.proofs.Holding.{holds-array, holds-first, holds-second}
 use Rattle.postscript_layout_write.proofs.MarkReading.{and-false, bases-read, coverage-read, ligatures-read, marks-read, row-none}
 use Rattle.postscript_layout_write.proofs.MarkWriting.{attaching-in}
-use Rattle.postscript_layout_write.proofs.Reading.{Searched, length-coverage, length-offsets, offsets-read}
+use Rattle.postscript_layout_write.proofs.Reading.{length-coverage, length-offsets, offsets-read}
 use Rattle.postscript_layout_write.proofs.Rows.{cells-in, rows-as}
 use Rattle.postscript_layout_write.proofs.RuleKept.{IsHead, head-read, length-rule-head}
 

@@ -1,5 +1,5 @@
 -- Subtables that attach marks are read as they were written.
-use Rattle.std.proofs.Common.{◌≡◌, refl, sym, ap, subst, ◌∙◌, inl, inr, ℕ, ◌+◌, ◌-◌, ◌*◌, ◌/◌, ◌%◌, ◌≤◌, ◌<◌, ◌==◌, ◌&&◌, List, [], ◌∷◌, ◌++◌, length, length-append, get_or, arith, Bool, true, false}
+use Rattle.std.proofs.Common.{◌≡◌, refl, sym, ap, subst, ◌∙◌, inl, inr, ℕ, ◌+◌, ◌*◌, ◌%◌, ◌≤◌, ◌<◌, ◌==◌, ◌&&◌, List, ◌++◌, length, get_or, arith, Bool, true, false}
 use Rattle.std.specs.Prelude.{◌⊎◌, Option, None, Some, nat_lt, if◌then◌else◌}
 use Rattle.std.specs.List.{Contains}
 use Rattle.std.proofs.lemmas.Bool.{eq-eqb, le-ltb, lt-ltb}
@@ -9,16 +9,14 @@ use Rattle.postscript_layout_write.specs.Attaching.{AreRows, HasCells, HasLigatu
 use Rattle.postscript_layout_write.specs.First.{first_some}
 use Rattle.postscript_layout_write.specs.Holds.{Holds}
 use Rattle.postscript_layout_write.specs.Ligatures.{component_of, counted, ligature_covered, ligature_in, to_component}
-use Rattle.postscript_layout_write.specs.Marks.{Mark, anchor_at, anchor_covered, anchor_in, attached, mark_covered, mark_in, met}
+use Rattle.postscript_layout_write.specs.Marks.{Mark, anchor_at, anchor_covered, anchor_in, mark_covered, mark_in, met}
 use Rattle.postscript_layout_write.specs.Ranges.{coverage_index, index_in, range_of}
 use Rattle.postscript_layout_write.specs.Sets.{AreOffsets}
-use Rattle.postscript_layout_write.specs.Text.{array_text, coverage_text, offsets_text, uint16}
+use Rattle.postscript_layout_write.specs.Text.{coverage_text, offsets_text, uint16}
 use Rattle.postscript_layout_write.specs.declared.anchors.Anchor.{Anchor}
 use Rattle.postscript_layout_write.specs.declared.anchors.Cell.{Cell}
-use Rattle.postscript_layout_write.specs.declared.anchors.Cell.TheVariants.{At, Number}
-use Rattle.postscript_layout_write.specs.declared.anchors.Side.TheVariants.{Bases, Marks}
 use Rattle.postscript_layout_write.proofs.Firsts.{nat_cases}
-use Rattle.postscript_layout_write.proofs.Holding.{holds-array, holds-first, holds-in, holds-second, holds-word, length-array, length-uint16}
+use Rattle.postscript_layout_write.proofs.Holding.{holds-array, holds-first, holds-second, holds-word, length-uint16}
 use Rattle.postscript_layout_write.proofs.Reading.{Searched, any-default, length-offsets, missing, offsets-read, present, searched}
 use Rattle.postscript_layout_write.proofs.Rows.{anchor-read, cells-within, count-read, number-read, option-read}
 

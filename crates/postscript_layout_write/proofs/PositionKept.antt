@@ -2,16 +2,15 @@
 use Rattle.std.proofs.Common.{◌≡◌, refl, sym, ap, subst, ◌∙◌, ℕ, ◌+◌, ◌*◌, ◌%◌, ◌≤◌, ◌<◌, ◌==◌, ◌&&◌, List, ◌++◌, length, get_or, arith, Bool, true, false}
 use Rattle.std.specs.Prelude.{Option, None, Some, is_none, nat_eq, nat_lt, if◌then◌else◌}
 use Rattle.postscript_layout.specs.Numbers.{word, long}
-use Rattle.postscript_layout_write.specs.Entries.{kept_by}
 use Rattle.postscript_layout_write.specs.First.{first_some}
 use Rattle.postscript_layout_write.specs.Holds.{Holds}
 use Rattle.postscript_layout_write.specs.Kerning.{KeepsKerning, kept_pair}
-use Rattle.postscript_layout_write.specs.Lookups.{HasLookup, HasLookups, HasPosition, Keeps, has_marks, has_pairs}
+use Rattle.postscript_layout_write.specs.Lookups.{HasLookups, HasPosition, Keeps, has_marks, has_pairs}
 use Rattle.postscript_layout_write.specs.Ligatures.{by_lookup as ligature_by_lookup, by_subtables as ligatures_by}
 use Rattle.postscript_layout_write.specs.Marks.{attaches, by_subtables, type_at}
 use Rattle.postscript_layout_write.specs.Marks.{by_lookup as attached_by}
-use Rattle.postscript_layout_write.specs.Pairs.{adjustment, by_lookup, by_part, flag_of, lookup_at, lookups_of, or_nothing, pairs_at}
-use Rattle.postscript_layout_write.specs.Positions.{KeepsPositions, has_no_pairs, is_marks, kept_attachment, kept_to_component, keeps_marks}
+use Rattle.postscript_layout_write.specs.Pairs.{by_lookup, by_part, lookup_at, lookups_of, or_nothing, pairs_at}
+use Rattle.postscript_layout_write.specs.Positions.{has_no_pairs, is_marks, kept_attachment, kept_to_component, keeps_marks}
 use Rattle.postscript_layout_write.specs.ScriptLists.{ListsEnd}
 use Rattle.postscript_layout_write.specs.Sets.{AreOffsets}
 use Rattle.postscript_layout_write.specs.Text.{front_text, list_text}

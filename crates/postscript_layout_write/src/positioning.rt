@@ -287,17 +287,21 @@ pub fn kerning(alloc: Global, gpos: &[u8], kept: &[u16], limit: &mut u64) -> Res
 ///
 /// `kept` has the old numbers of the glyphs. The new number of a glyph is its index there. The new table has version 1.0,
 /// the script list and the feature list of the old one, and as many lookups in the same order. Lookups of pair
-/// adjustments are kept as by `kerning`. A lookup that attaches marks to bases or to other marks (type 4 or 6, also by
-/// extensions) keeps its type, and has a subtable for each old one. All other lookups have no subtables, and neither has a
-/// lookup with a flag above bit 3.
+/// adjustments are kept as by `kerning`. A lookup that attaches marks to bases, to ligatures or to other marks (types 4 to
+/// 6, also by extensions) keeps its type, and has a subtable for each old one. All other lookups have no subtables, and
+/// neither has a lookup with a flag above bit 3.
 ///
-/// One unit of the limit is paid as for `kerning`. In a lookup that attaches marks, one unit is paid for each subtable,
-/// for each kept glyph among its marks and bases, for each class of marks of a base, and for each covered glyph and range
+/// Units of the limit are paid as by `kerning`. In a lookup of marks, one unit is paid for each subtable, twice for each
+/// kept glyph in a subtable, for each class of marks of a base or of a component, and for each covered glyph and range
 /// that is looked at.
 ///
 /// # Errors
 ///
-/// As for `kerning`.
+/// - `ListsTooLong`: the script list and the feature list, with the tables that they name, do not end within the table,
+///   or within its first 65,535 bytes.
+/// - `TooLarge`: an offset or a count would exceed 16 bits.
+/// - `TooLong`: the table costs more than the limit.
+/// - `Memory`: out of memory.
 pub fn positions(alloc: Global, gpos: &[u8], kept: &[u16], limit: &mut u64) -> Result<Vec<u8>>
     // Each lookup adjusts the kept glyphs and attaches kept marks as before, for the same scripts and features.
     ensures kept { IfOk result (λ new. KeepsPositions gpos.now kept.now new.items) }

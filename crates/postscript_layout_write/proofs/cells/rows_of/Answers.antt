@@ -1,6 +1,6 @@
-use Rattle.std.proofs.Common.{◌≡◌, ◌+◌, ◌++◌, ◌∷◌, [], ◌∙◌, ap, sym, subst, arith, ℕ, List, length, None, Some, Vec, Global}
+use Rattle.std.proofs.Common.{◌≡◌, ◌+◌, ◌++◌, ◌∷◌, [], ◌∙◌, ap, sym, subst, arith, ℕ, List, None, Some, Vec, Global}
 use Rattle.std.specs.Prelude.{Option, slice_index}
-use Rattle.postscript_layout_write.specs.Attaching.{AreRows, IsNewRow, IsWhole, classes_of, row_of, width_of}
+use Rattle.postscript_layout_write.specs.Attaching.{AreRows, IsNewRow, classes_of, row_of, width_of}
 use Rattle.postscript_layout_write.specs.declared.anchors.Cell.{Cell}
 use Rattle.postscript_layout_write.specs.declared.cells.Rows.{Rows}
 use Rattle.postscript_layout_write.proofs.Rows.{rows-less, rows-more}

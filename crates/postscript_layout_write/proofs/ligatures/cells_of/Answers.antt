@@ -1,4 +1,4 @@
-use Rattle.std.proofs.Common.{◌≡◌, ◌+◌, ◌<◌, ◌/◌, ◌%◌, ◌++◌, ◌∷◌, [], ◌∙◌, ap, sym, subst, arith, ℕ, List, length, length-append, get_or}
+use Rattle.std.proofs.Common.{◌≡◌, ◌+◌, ◌<◌, ◌/◌, ◌%◌, ◌∷◌, [], ◌∙◌, ap, sym, subst, arith, ℕ, List, length, length-append, get_or}
 use Rattle.postscript_layout_write.specs.Attaching.{cell_of, no_cell}
 use Rattle.postscript_layout_write.specs.Marks.{anchor_in}
 use Rattle.postscript_layout_write.specs.declared.anchors.Cell.{Cell}

@@ -1,6 +1,6 @@
-use Rattle.std.proofs.Common.{◌≡◌, ◌+◌, ◌++◌, ◌∷◌, [], ◌∙◌, ap, sym, subst, arith, ℕ, List, length, None, Some}
-use Rattle.std.specs.Prelude.{Option, slice_index}
-use Rattle.postscript_layout_write.specs.Attaching.{AddsLigature, AreLigatures, HasLigature, classes_of, ligature_at}
+use Rattle.std.proofs.Common.{◌≡◌, ◌+◌, ◌∙◌, sym, subst, arith, ℕ, List}
+use Rattle.std.specs.Prelude.{slice_index}
+use Rattle.postscript_layout_write.specs.Attaching.{AddsLigature, AreLigatures, HasLigature, ligature_at}
 use Rattle.postscript_layout_write.specs.declared.subtables.Sets.{Sets}
 use Rattle.postscript_layout_write.proofs.LigatureRows.{ligatures-less, ligatures-more}
 use Rattle.postscript_layout_write.proofs.ligatures.ligatures_of.Goals.{in-Some+in_ok-text+in_ok-add, in_default}

@@ -1,4 +1,4 @@
-use Rattle.std.proofs.Common.{◌≡◌, ◌∙◌, ap, sym, subst, ℕ, List}
+use Rattle.std.proofs.Common.{subst, ℕ, List}
 use Rattle.postscript_layout_write.specs.Attaching.{HasSecondArray, PutsAttaching}
 use Rattle.postscript_layout_write.proofs.MarkWriting.{adds-attaching}
 use Rattle.postscript_layout_write.proofs.marks.add_subtable.Goals as goal

@@ -1,4 +1,4 @@
-use Rattle.std.proofs.Common.{◌≡◌, ◌+◌, ◌*◌, ◌<◌, ◌∙◌, sym, ap, subst, inl, inr, ℕ, None, Some, Bool, true, false}
+use Rattle.std.proofs.Common.{◌≡◌, ◌<◌, ◌∙◌, sym, ap, subst, inl, inr, ℕ, None, true, false}
 use Rattle.std.specs.Prelude.{Option, is_none, is_some}
 use Rattle.postscript_layout_write.specs.Pairs.{pairs_at}
 use Rattle.postscript_layout_write.proofs.Firsts.{first-found, option_cases}

@@ -1,4 +1,4 @@
-use Rattle.std.proofs.Common.{◌≡◌, sym, subst, ℕ, List, length}
+use Rattle.std.proofs.Common.{sym, subst, ℕ, List, length}
 use Rattle.std.specs.Prelude.{slice_index}
 use Rattle.postscript_layout_write.specs.Attaching.{AreRows, HasCells, row_of}
 use Rattle.postscript_layout_write.specs.declared.anchors.Side.TheVariants.{Marks}

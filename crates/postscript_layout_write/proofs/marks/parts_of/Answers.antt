@@ -1,4 +1,4 @@
-use Rattle.std.proofs.Common.{◌≡◌, ◌++◌, ◌∷◌, [], ◌∙◌, ap, sym, subst, ℕ, List, length, arith, rules, Option}
+use Rattle.std.proofs.Common.{subst, ℕ, arith, rules, Option}
 use Rattle.postscript_layout_write.specs.Attaching.{AddsAttaching}
 use Rattle.postscript_layout_write.proofs.MarkWriting.{parts-more}
 use Rattle.postscript_layout_write.proofs.marks.parts_of.Goals as goal

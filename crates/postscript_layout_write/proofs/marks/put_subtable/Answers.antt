@@ -1,4 +1,4 @@
-use Rattle.std.proofs.Common.{◌≡◌, ◌++◌, ◌∙◌, ap, ℕ, List, arith}
+use Rattle.std.proofs.Common.{◌++◌, ◌∙◌, ap, ℕ, List, arith}
 use Rattle.postscript_layout_write.specs.Text.{coverage_text}
 use Rattle.postscript_layout_write.proofs.MarkWriting.{attaching-joined}
 use Rattle.postscript_layout_write.proofs.marks.put_subtable.Goals as goal

@@ -1,6 +1,5 @@
-use Rattle.std.proofs.Common.{◌≡◌, ◌∙◌, ◌%◌, ◌&&◌, sym, ℕ, ap, subst, arith, true, false}
+use Rattle.std.proofs.Common.{◌∙◌, ◌%◌, sym, ℕ, subst}
 use Rattle.postscript_layout_write.specs.Lookups.{PutsLookup}
-use Rattle.postscript_layout_write.specs.Positions.{keeps_marks}
 use Rattle.postscript_layout_write.proofs.Collecting.{marks-added, pairs-added}
 use Rattle.postscript_layout_write.proofs.positioning.put_any.Goals as goal
 
