@@ -5,11 +5,14 @@ use Rattle.std.specs.List.{All, Contains}
 use Rattle.std.proofs.lemmas.Bool.{le-ltb, lt-ltb}
 use Rattle.std.proofs.lemmas.List.{get_or_append_left, get_or_push}
 use Rattle.std.proofs.lemmas.List.Elements.{All-contains, All-weaker, Contains-append_left, Contains-push}
+use Rattle.postscript_layout.specs.Numbers.{word}
+use Rattle.postscript_layout_write.specs.Attaching.{AddsMarks}
 use Rattle.postscript_layout_write.specs.Entries.{AreEntries, entry, form_of, kept_by}
 use Rattle.postscript_layout_write.specs.Holds.{Holds}
 use Rattle.postscript_layout_write.specs.Kerning.{kept_pair}
-use Rattle.postscript_layout_write.specs.Lookups.{AddsForms, AreForms, HasLookup, HasLookups, PutsLookup}
-use Rattle.postscript_layout_write.specs.Pairs.{flag_of, lookup_at}
+use Rattle.postscript_layout_write.specs.Lookups.{AddsForms, AddsPosition, AreForms, HasLookup, HasLookups, HasPosition, PutsLookup, has_marks, has_pairs}
+use Rattle.postscript_layout_write.specs.Pairs.{lookup_at}
+use Rattle.postscript_layout_write.specs.Positions.{keeps_marks}
 use Rattle.postscript_layout_write.specs.Sets.{Adds, AddsSubtable, AreOffsets, AreSets, HasSet, HasSubtable, no_pairs, some_pairs, no_subtable, one_subtable}
 use Rattle.postscript_layout_write.specs.Text.{AreOfForm, EntryFits, lookup_text, set_text, subtable_text}
 use Rattle.postscript_layout_write.specs.Values.{nothing}
@@ -22,6 +25,8 @@ use Rattle.postscript_layout_write.specs.declared.values.Adjustment.{Adjustment}
 use Rattle.postscript_layout_write.proofs.Firsts.{nat_cases}
 use Rattle.postscript_layout_write.proofs.Holding.{holds-last, holds-on}
 use Rattle.postscript_layout_write.proofs.Listing.{entries-as}
+use Rattle.postscript_layout_write.proofs.Lists.{push-each}
+use Rattle.postscript_layout_write.proofs.MarkWriting.{marks-on}
 
 -- a set and a subtable, with more bytes after them
 set-on : (form : Form) (g : ℕ → Adjustment) (bytes more : List ℕ) (at : ℕ) → HasSet form g bytes at → HasSet form g (bytes ++ more) at
@@ -248,6 +253,10 @@ pair-kept gpos kept lookup x y a b =
     sym (ap (λ (t : Bool). if t && nat_lt y (length kept) then kept_by gpos lookup (get_or kept x 0) (get_or kept y 0) else nothing) (lt-ltb x (length kept) a)
     ∙ ap (λ (t : Bool). if t then kept_by gpos lookup (get_or kept x 0) (get_or kept y 0) else nothing) (lt-ltb y (length kept) b))
 
+and-second : (a b : Bool) → (a && b) ≡ true → b ≡ true
+and-second true b is = is
+and-second false b is = absurd (cc)
+
 and-false : (b : Bool) → (b && false) ≡ false
 and-false true = refl
 and-false false = refl
@@ -288,23 +297,37 @@ lookup-on flag f bytes more at h = record {
   there = holds-on more h.there;
 }
 
-pub lookups-more : (gpos kept : List ℕ) (i : ℕ) (forms : Forms) (offsets bytes newoffsets newbytes : List ℕ) → HasLookups gpos kept i offsets bytes →
-    AreForms (kept_pair gpos kept (lookup_at gpos i)) (length kept) forms → PutsLookup (flag_of gpos i % 16) forms bytes newbytes →
-    newoffsets ≡ offsets ++ length bytes ∷ [] → HasLookups gpos kept (i + 1) newoffsets newbytes
-lookups-more gpos kept i forms offsets bytes newoffsets newbytes has are puts is =
-    subst (λ (xs : List ℕ). HasLookups gpos kept (i + 1) xs newbytes) (sym is) (record {
+position-on : (marks : Bool) (gpos kept : List ℕ) (lookup : ℕ) (bytes more : List ℕ) (at : ℕ) → HasPosition marks gpos kept lookup bytes at →
+    HasPosition marks gpos kept lookup (bytes ++ more) at
+position-on marks gpos kept lookup bytes more at (has_pairs never h) =
+    has_pairs never (lookup-on (word gpos (lookup + 2) % 16) (kept_pair gpos kept lookup) bytes more at h)
+position-on marks gpos kept lookup bytes more at (has_marks keeps h) = has_marks keeps (marks-on gpos kept lookup bytes more at h)
+
+pub pairs-added : (marks : Bool) (gpos kept : List ℕ) (lookup : ℕ) (forms : Forms) (old new : List ℕ) → (marks && keeps_marks gpos lookup) ≡ false →
+    AreForms (kept_pair gpos kept lookup) (length kept) forms → PutsLookup (word gpos (lookup + 2) % 16) forms old new → AddsPosition marks gpos kept lookup old new
+pairs-added marks gpos kept lookup forms old new never are puts = record {
+  more = lookup_text (word gpos (lookup + 2) % 16) puts.offsets puts.bytes;
+  bytes = puts.text;
+  has = has_pairs never (lookup-made (kept_pair gpos kept lookup) (length kept) (λ x y far. ap form_of (first-far gpos kept lookup x y far))
+      (word gpos (lookup + 2) % 16) forms old new puts are);
+}
+
+pub marks-added : (marks : Bool) (gpos kept : List ℕ) (lookup : ℕ) (old new : List ℕ) → (marks && keeps_marks gpos lookup) ≡ true →
+    AddsMarks gpos kept lookup old new → AddsPosition marks gpos kept lookup old new
+marks-added marks gpos kept lookup old new keeps adds = record {
+  more = adds.more;
+  bytes = adds.bytes;
+  has = has_marks (and-second marks (keeps_marks gpos lookup) keeps) adds.has;
+}
+
+pub lookups-more : (marks : Bool) (gpos kept : List ℕ) (i : ℕ) (offsets bytes newoffsets newbytes : List ℕ) → HasLookups marks gpos kept i offsets bytes →
+    AddsPosition marks gpos kept (lookup_at gpos i) bytes newbytes → newoffsets ≡ offsets ++ length bytes ∷ [] →
+    HasLookups marks gpos kept (i + 1) newoffsets newbytes
+lookups-more marks gpos kept i offsets bytes newoffsets newbytes has adds is =
+    subst (λ (xs : List ℕ). HasLookups marks gpos kept (i + 1) xs newbytes) (sym is) (record {
       many = (let many = has.many in omega (arith, many, length-append offsets (length bytes ∷ [])));
-      each = λ k less. elim (nat_cases k i) [
-        | inl early ↦ subst (λ w. HasLookup (flag_of gpos k % 16) (kept_pair gpos kept (lookup_at gpos k)) newbytes w)
-            (sym (get_or_append_left offsets (length bytes ∷ []) 0 k (let many = has.many in omega (arith, many, early))))
-            (subst (λ (xs : List ℕ). HasLookup (flag_of gpos k % 16) (kept_pair gpos kept (lookup_at gpos k)) xs (get_or offsets k 0)) (sym puts.text)
-            (lookup-on (flag_of gpos k % 16) (kept_pair gpos kept (lookup_at gpos k)) bytes (lookup_text (flag_of gpos i % 16) puts.offsets puts.bytes) _
-            (has.each k early)))
-        | inr late ↦ (let same : i ≡ k = omega (arith, less, late) in
-            subst (λ j. HasLookup (flag_of gpos j % 16) (kept_pair gpos kept (lookup_at gpos j)) newbytes (get_or (offsets ++ length bytes ∷ []) j 0)) same
-            (subst (λ w. HasLookup (flag_of gpos i % 16) (kept_pair gpos kept (lookup_at gpos i)) newbytes w)
-            (sym (get_or_push offsets (length bytes) 0 i has.many))
-            (lookup-made (kept_pair gpos kept (lookup_at gpos i)) (length kept)
-            (λ x y far. ap form_of (first-far gpos kept (lookup_at gpos i) x y far)) (flag_of gpos i % 16) forms bytes newbytes puts are)))
-      ];
+      each = push-each (λ k o. HasPosition marks gpos kept (lookup_at gpos k) newbytes o) offsets (length bytes) 0 i has.many
+          (λ k less. subst (λ (xs : List ℕ). HasPosition marks gpos kept (lookup_at gpos k) xs (get_or offsets k 0)) (sym adds.bytes)
+          (position-on marks gpos kept (lookup_at gpos k) bytes adds.more (get_or offsets k 0) (has.each k less)))
+          adds.has;
     })

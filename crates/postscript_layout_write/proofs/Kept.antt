@@ -1,5 +1,5 @@
 -- Lookups that were written are read as their pairs, and the whole table.
-use Rattle.std.proofs.Common.{◌≡◌, refl, sym, ap, subst, ◌∙◌, inl, inr, ℕ, ◌+◌, ◌-◌, ◌*◌, ◌%◌, ◌≤◌, ◌<◌, ◌==◌, List, [], ◌++◌, length, length-append, length-drop, get_or, take, drop, arith, Bool}
+use Rattle.std.proofs.Common.{◌≡◌, refl, sym, ap, subst, ◌∙◌, inl, inr, ℕ, ◌+◌, ◌-◌, ◌*◌, ◌≤◌, ◌<◌, ◌==◌, List, [], ◌++◌, length, length-append, length-drop, get_or, take, drop, arith, Bool}
 use Rattle.std.specs.Prelude.{Option, None, Some, slice_range, if◌then◌else◌}
 use Rattle.std.proofs.lemmas.Bool.{eq-eqb}
 use Rattle.std.proofs.lemmas.List.{length-take-le}
@@ -7,9 +7,9 @@ use Rattle.std.proofs.Math.Seq.{drop-append_seam, take-append_seam}
 use Rattle.postscript_layout.specs.Numbers.{word, long}
 use Rattle.postscript_layout_write.specs.Entries.{form_of}
 use Rattle.postscript_layout_write.specs.Holds.{Holds}
-use Rattle.postscript_layout_write.specs.Kerning.{KeepsKerning, KeepsLists, kept_pair}
-use Rattle.postscript_layout_write.specs.Lookups.{HasLookup, HasLookups}
-use Rattle.postscript_layout_write.specs.Pairs.{by_lookup, by_part, flag_of, found_in, lookup_at, lookups_of, or_nothing, pairs_at}
+use Rattle.postscript_layout_write.specs.Kerning.{KeepsLists}
+use Rattle.postscript_layout_write.specs.Lookups.{HasLookup}
+use Rattle.postscript_layout_write.specs.Pairs.{by_lookup, by_part, found_in, lookup_at, lookups_of, or_nothing, pairs_at}
 use Rattle.postscript_layout_write.specs.ScriptLists.{ListsEnd}
 use Rattle.postscript_layout_write.specs.Sets.{AreOffsets, HasSubtable}
 use Rattle.postscript_layout_write.specs.Text.{front_text, list_text, lookup_text, offsets_text, uint16}
@@ -33,7 +33,7 @@ subtable-in form f t bytes at offset h s = record {
   there = holds-in h s.there;
 }
 
-lookup-in : (flag : ℕ) (f : (x y : ℕ) → Adjustment) (t bytes : List ℕ) (at offset : ℕ) → Holds bytes t at → HasLookup flag f bytes offset →
+pub lookup-in : (flag : ℕ) (f : (x y : ℕ) → Adjustment) (t bytes : List ℕ) (at offset : ℕ) → Holds bytes t at → HasLookup flag f bytes offset →
     HasLookup flag f t (at + offset)
 lookup-in flag f t bytes at offset h l = record {
   offsets = l.offsets;
@@ -55,7 +55,7 @@ module _ (flag : ℕ) (f : (x y : ℕ) → Adjustment) (t : List ℕ) (l : ℕ) 
   unfolding lookup_text
   head = holds-first _ _ has.there
 
-  type-read : word t l ≡ 2
+  pub type-read : word t l ≡ 2
   type-read = holds-word 2 (omega arith) (holds-first (uint16 2) _ head)
 
   rest : Holds (uint16 flag ++ uint16 (length has.offsets)) t (l + 2)
@@ -198,18 +198,3 @@ module _ (old new offsets bytes : List ℕ) (end : ℕ) (lists : ListsEnd old en
 
   pub count-held : lookups_of new ≡ length offsets
   count-held = ap (word new) list-at ∙ many-read
-
-  lookup-held : (kept : List ℕ) → HasLookups old kept (lookups_of old) offsets bytes → (i : ℕ) → i < lookups_of old →
-      HasLookup (flag_of old i % 16) (kept_pair old kept (lookup_at old i)) new (lookup_at new i)
-  lookup-held kept has i less = subst (HasLookup (flag_of old i % 16) (kept_pair old kept (lookup_at old i)) new)
-      (sym (place-read i (let many = has.many in omega (arith, less, many))))
-      (lookup-in (flag_of old i % 16) (kept_pair old kept (lookup_at old i)) new bytes (end + 2 + length offsets * 2) (get_or offsets i 0) lookups-held
-      (has.each i less))
-
-  pub keeps : (kept : List ℕ) → HasLookups old kept (lookups_of old) offsets bytes → KeepsKerning old kept new
-  keeps kept has = record {
-    lists = keeps-lists;
-    lookups = count-held ∙ has.many;
-    flags = λ i less. flag-read (flag_of old i % 16) (kept_pair old kept (lookup_at old i)) new (lookup_at new i) (lookup-held kept has i less);
-    pairs = λ i x y less. lookup-read (flag_of old i % 16) (kept_pair old kept (lookup_at old i)) new (lookup_at new i) (lookup-held kept has i less) x y;
-  }

@@ -19,3 +19,9 @@ pub mod Covering
 pub mod ContextCollecting
 pub mod ContextReading
 pub mod Reaching
+pub mod Rows
+pub mod LigatureRows
+pub mod MarkWriting
+pub mod MarkReading
+pub mod MarkKept
+pub mod PositionKept

@@ -23,12 +23,12 @@ use Rattle.postscript_layout_write.proofs.RuleCollecting.{new-in}
 use Rattle.postscript_layout_write.proofs.RuleReading.{subtable-rules}
 
 -- the numbers of a lookup
-record IsHead (t : List ℕ) (l type flag count : ℕ) : Type 0 where
-  type-is : word t l ≡ type
-  flag-is : word t (l + 2) ≡ flag
-  count-is : word t (l + 4) ≡ count
+pub record IsHead (t : List ℕ) (l type flag count : ℕ) : Type 0 where
+  pub type-is : word t l ≡ type
+  pub flag-is : word t (l + 2) ≡ flag
+  pub count-is : word t (l + 4) ≡ count
 
-head-read : (t : List ℕ) (l type flag count : ℕ) → type < 65536 → flag < 65536 → count < 65536 → Holds (rule_head_text type flag count) t l → IsHead t l type flag count
+pub head-read : (t : List ℕ) (l type flag count : ℕ) → type < 65536 → flag < 65536 → count < 65536 → Holds (rule_head_text type flag count) t l → IsHead t l type flag count
 unfolding rule_head_text
 head-read t l type flag count a b c h =
     let h2 = holds-second (uint16 type) (uint16 flag ++ uint16 count) 2 (length-uint16 type) h in
@@ -39,7 +39,7 @@ head-read t l type flag count a b c h =
       count-is = ap (word t) (omega arith) ∙ holds-word count c h4;
     }
 
-length-rule-head : (type flag count : ℕ) → length (rule_head_text type flag count) ≡ 6
+pub length-rule-head : (type flag count : ℕ) → length (rule_head_text type flag count) ≡ 6
 unfolding rule_head_text uint16
 length-rule-head type flag count = refl
 

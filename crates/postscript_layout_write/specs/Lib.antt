@@ -22,3 +22,7 @@ pub mod Contexts
 pub mod Coverages
 pub mod Calls
 pub mod Reaching
+pub mod Marks
+pub mod Ligatures
+pub mod Positions
+pub mod Attaching

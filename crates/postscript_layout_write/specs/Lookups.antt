@@ -1,9 +1,12 @@
 -- Lookups as they are written. Only contracts of private functions and proofs name this.
-use Rattle.std.specs.Prelude.{◌≡◌, ℕ, ◌+◌, ◌*◌, ◌%◌, ◌<◌, ◌≤◌, List, [], ◌++◌, Some, length, slice_index}
+use Rattle.std.specs.Prelude.{◌≡◌, ℕ, Bool, true, false, ◌+◌, ◌*◌, ◌%◌, ◌<◌, ◌≤◌, ◌&&◌, List, [], ◌++◌, Some, length, slice_index}
+use Rattle.postscript_layout.specs.Numbers.{word}
+use Rattle.postscript_layout_write.specs.Attaching.{HasMarks}
 use Rattle.postscript_layout_write.specs.Entries.{form_of}
 use Rattle.postscript_layout_write.specs.Holds.{Holds}
-use Rattle.postscript_layout_write.specs.Kerning.{kept_pair}
-use Rattle.postscript_layout_write.specs.Pairs.{flag_of, lookup_at, lookups_of}
+use Rattle.postscript_layout_write.specs.Kerning.{KeepsKerning, kept_pair}
+use Rattle.postscript_layout_write.specs.Pairs.{lookup_at, lookups_of}
+use Rattle.postscript_layout_write.specs.Positions.{KeepsPositions, keeps_marks}
 use Rattle.postscript_layout_write.specs.Sets.{Adds, AddsSubtable, AreOffsets, AreSets, HasSubtable}
 use Rattle.postscript_layout_write.specs.Text.{list_text, lookup_text}
 use Rattle.postscript_layout_write.specs.declared.entries.Entry.{Entry}
@@ -50,16 +53,32 @@ pub record HasLookup (flag : ℕ) (f : (x y : ℕ) → Adjustment) (bytes : List
   pub small : flag < 65536
   pub there : Holds (lookup_text flag offsets subtables) bytes offset
 
+-- the lookup at an offset has the pairs of a lookup of the old table, or attaches its marks; if marks are left out, it has the pairs
+pub data HasPosition (marks : Bool) (gpos kept : List ℕ) (lookup : ℕ) (bytes : List ℕ) (offset : ℕ) : Type 0 where
+  has_pairs : (marks && keeps_marks gpos lookup) ≡ false → HasLookup (word gpos (lookup + 2) % 16) (kept_pair gpos kept lookup) bytes offset →
+      HasPosition marks gpos kept lookup bytes offset
+  has_marks : keeps_marks gpos lookup ≡ true → HasMarks gpos kept lookup bytes offset → HasPosition marks gpos kept lookup bytes offset
+
+pub record AddsPosition (marks : Bool) (gpos kept : List ℕ) (lookup : ℕ) (old new : List ℕ) : Type 0 where
+  pub more : List ℕ
+  pub bytes : new ≡ old ++ more
+  pub has : HasPosition marks gpos kept lookup new (length old)
+
 -- the first lookups are there
-pub record HasLookups (gpos kept : List ℕ) (count : ℕ) (offsets bytes : List ℕ) : Type 0 where
+pub record HasLookups (marks : Bool) (gpos kept : List ℕ) (count : ℕ) (offsets bytes : List ℕ) : Type 0 where
   pub many : length offsets ≡ count
-  pub each : (i : ℕ) → i < count → HasLookup (flag_of gpos i % 16) (kept_pair gpos kept (lookup_at gpos i)) bytes (slice_index offsets i)
+  pub each : (i : ℕ) → i < count → HasPosition marks gpos kept (lookup_at gpos i) bytes (slice_index offsets i)
 
 -- a lookup list is appended
-pub record PutsList (gpos kept : List ℕ) (old new : List ℕ) : Type 0 where
+pub record PutsList (marks : Bool) (gpos kept : List ℕ) (old new : List ℕ) : Type 0 where
   pub offsets : List ℕ
   pub bytes : List ℕ
-  pub are : HasLookups gpos kept (lookups_of gpos) offsets bytes
+  pub are : HasLookups marks gpos kept (lookups_of gpos) offsets bytes
   pub few : length offsets ≤ 32766
   pub fit : AreOffsets (2 + length offsets * 2) offsets
   pub text : new ≡ old ++ list_text offsets bytes
+
+-- the table keeps kerning, or kerning and marks
+abbrev pub Keeps : (marks : Bool) → (old kept new : List ℕ) → Type 0
+Keeps true old kept new = KeepsPositions old kept new
+Keeps false old kept new = KeepsKerning old kept new

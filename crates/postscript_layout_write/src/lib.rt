@@ -1,11 +1,16 @@
 //! Writes OpenType layout tables for the glyphs of a subset, which have new numbers (OpenType 1.9; ISO/IEC 14496-22, 6):
-//! a `GPOS` table with pair adjustments (kerning), a `GDEF` table with glyph classes, and a `GSUB` table with substitutions.
+//! a `GPOS` table with pair adjustments (kerning) and with marks, a `GDEF` table with glyph classes, and a `GSUB` table with
+//! substitutions.
 //!
 //! It is proved that each lookup of the new `GPOS` table adjusts each pair of kept glyphs exactly as the lookup of the
 //! same index of the old table, and no other pair (`KeepsKerning` in specs/Kerning.antt). The first subtable that applies
 //! to a pair counts, in both formats, and extensions are followed (specs/Pairs.antt). The script list and the feature list
 //! have the same bytes at the same offsets, with all tables that they name (specs/ScriptLists.antt). Each kept glyph has
 //! its class (specs/Classes.antt).
+//!
+//! With `positions`, each lookup also attaches each kept mark to each kept base, mark or component of a ligature at the
+//! same anchors as before, and nothing else (`KeepsPositions` in specs/Positions.antt). The first subtable with an anchor
+//! for the class of the mark counts (specs/Marks.antt, specs/Ligatures.antt).
 //!
 //! Each lookup of the new `GSUB` table has the rules of the old one whose glyphs are all kept, under new numbers and in the
 //! same order (`KeepsSubstitutions` in specs/Substituting.antt). A rule is the result of a single substitution, a sequence,
@@ -14,26 +19,32 @@
 //!
 //! What is left out:
 //!
-//! - Only pair adjustments are kept. Other lookups have no subtables, so the lookup indices of features stay valid.
+//! - Of `GPOS`, `kerning` keeps only pair adjustments (type 2). `positions` also keeps marks (types 4 to 6). Other lookups
+//!   have no subtables, so the lookup indices of features stay valid.
 //! - Of `GSUB`, single, multiple, alternate and ligature substitutions are kept, also in extensions. Contexts and reverse
 //!   chaining (types 5, 6 and 8) are not, and lookups that are not chosen have no subtables.
-//! - A lookup with a flag above bit 3, which uses a set or a class of marks, keeps no pairs or rules, since the new `GDEF`
-//!   table has neither.
-//! - Device tables, variation indexes and feature variations are dropped: the new table has version 1.0.
+//! - A lookup with a flag above bit 3, which uses a set or a class of marks, keeps no pairs, marks or rules, since the new
+//!   `GDEF` table has neither sets nor classes of marks.
+//! - An extension whose subtables have several types, which is malformed, keeps its pairs and no marks.
+//! - Contour points, device tables, variation indexes and feature variations are dropped: the new table has version 1.0.
 //! - Numbers past the end of the old table are 0. If a coverage table, a class definition or a set of pairs is not in
 //!   order, its first entry counts. Readers that search by halves may find another entry there.
 //! - No clause says when `TooLarge` comes, how small the new table is, or which limit suffices.
 #![tactic(auto)]
 
+mod anchors;
 mod called;
+mod cells;
 mod classes;
 mod contexts;
 mod coverages;
 mod entries;
 mod error;
 mod leaving;
+mod ligatures;
 mod limit;
 mod lookups;
+mod marks;
 mod numbers;
 mod pairs;
 mod positioning;
@@ -52,5 +63,5 @@ pub use called::with_called;
 pub use classes::glyph_classes;
 pub use error::{Error, Result};
 pub use leaving::left_out;
-pub use positioning::kerning;
+pub use positioning::{kerning, positions};
 pub use substituting::substitutions;

@@ -15,7 +15,7 @@ use std::alloc::Global;
 
 /// Returns the offset of subtable `j` of a lookup, or of the subtable that its extension names, if that is a subtable of
 /// pair adjustments.
-fn pairs_at(gpos: &[u8], lookup: usize, j: usize) -> Option<usize>
+pub(crate) fn pairs_at(gpos: &[u8], lookup: usize, j: usize) -> Option<usize>
     requires near { lookup < 2 ^ 31 }
     requires few { j < 65536 }
     ensures exact { result ≡ the_pairs gpos.now lookup j }

@@ -1,8 +1,9 @@
-//! Writes a `GPOS` table with pair adjustments.
-ghost use Rattle.std.specs.Prelude.{◌≡◌, ◌⊎◌, true, false, ◌%◌, ◌^◌, ◌<◌, ◌≤◌, ◌++◌, length, slice_range, IfErr, IfOk, OnOk};
+//! Writes a `GPOS` table with pair adjustments, and with marks.
+ghost use Rattle.std.specs.Prelude.{◌≡◌, ◌⊎◌, true, false, ◌%◌, ◌^◌, ◌<◌, ◌≤◌, ◌&&◌, ◌++◌, length, slice_range, IfErr, IfOk, OnOk};
 ghost use Rattle.postscript_layout_write.specs.Kerning.{KeepsKerning, kept_pair};
-ghost use Rattle.postscript_layout_write.specs.Lookups.{AddsForms, AreForms, HasLookups, PutsList, PutsLookup};
-ghost use Rattle.postscript_layout_write.specs.Pairs.{flag_of, lookup_at as the_lookup, lookups_of};
+ghost use Rattle.postscript_layout_write.specs.Lookups.{AddsForms, AddsPosition, AreForms, HasLookups, Keeps, PutsList, PutsLookup};
+ghost use Rattle.postscript_layout_write.specs.Pairs.{lookups_of};
+ghost use Rattle.postscript_layout_write.specs.Positions.{KeepsPositions, keeps_marks as the_keeps};
 ghost use Rattle.postscript_layout_write.specs.Refusals.{Fails, Refuses};
 ghost use Rattle.postscript_layout_write.specs.Sets.{AddsSubtable};
 ghost use Rattle.postscript_layout_write.specs.Text.{front_text, uint16 as the_uint16};
@@ -11,6 +12,7 @@ ghost use Rattle.postscript_layout_write.specs.declared.error.Error.TheVariants 
 use crate::entries::{Entry, Form, entries_of};
 use crate::error::{Error, Result};
 use crate::limit::pay;
+use crate::marks::{keeps_marks, put_marks};
 use crate::numbers::{put_uint16, word};
 use crate::script_lists::lists_end;
 use crate::subtables::{Sets, put_offsets, put_subtable};
@@ -109,19 +111,61 @@ fn put_lookup(alloc: Global, out: &mut Vec<u8>, flag: u16, forms: &Forms) -> Res
     Ok(())
 }
 
+/// Whether marks are kept, and a lookup keeps its marks.
+fn keeps(gpos: &[u8], lookup: usize, marks: bool, limit: &mut u64) -> Result<bool>
+    requires near { lookup < 2 ^ 31 }
+    ensures exact { IfOk result (λ keeps. keeps ≡ marks && the_keeps gpos.now lookup) }
+    ensures spends { limit.new ≤ limit.old }
+    ensures why { IfErr result (λ e. Fails limit.new e) }
+{
+    if !marks {
+        return Ok(false);
+    }
+    let keeps = keeps_marks(gpos, lookup, limit)?;
+    Ok(keeps)
+}
+
+/// Appends a lookup: one that attaches marks, if it keeps them, or else one of pair adjustments.
+fn put_any(
+    alloc: Global,
+    out: &mut Vec<u8>,
+    gpos: &[u8],
+    lookup: usize,
+    marks: bool,
+    kept: &[u16],
+    limit: &mut u64,
+) -> Result<()>
+    requires near { lookup < 2 ^ 31 }
+    requires few { length kept.now < 65536 }
+    ensures done { OnOk result (AddsPosition marks gpos.now kept.now lookup out.old.items out.new.items) }
+    ensures spends { limit.new ≤ limit.old }
+    ensures why { IfErr result (λ e. Fails limit.new e) }
+{
+    let attaching = keeps(gpos, lookup, marks, limit)?;
+    if attaching {
+        put_marks(alloc, out, gpos, lookup, kept, limit)?;
+        return Ok(());
+    }
+    let forms = forms_of(alloc, gpos, lookup, kept, limit)?;
+    let flag = word(gpos, lookup + 2) % 16;
+    put_lookup(alloc, out, flag as u16, &forms)?;
+    Ok(())
+}
+
 /// Appends the lookups of a table one after the other, and collects their offsets.
 fn put_each(
     alloc: Global,
     bytes: &mut Vec<u8>,
     offsets: &mut Vec<usize>,
     gpos: &[u8],
+    marks: bool,
     kept: &[u16],
     limit: &mut u64,
 ) -> Result<()>
     requires few { length kept.now < 65536 }
     requires bytes { length bytes.old.items ≡ 0 }
     requires offsets { length offsets.old.items ≡ 0 }
-    ensures done { OnOk result (HasLookups gpos.now kept.now (lookups_of gpos.now) offsets.new.items bytes.new.items) }
+    ensures done { OnOk result (HasLookups marks gpos.now kept.now (lookups_of gpos.now) offsets.new.items bytes.new.items) }
     ensures spends { limit.new ≤ limit.old }
     ensures why { IfErr result (λ e. Fails limit.new e) }
 {
@@ -133,10 +177,8 @@ fn put_each(
         if bytes.len() > 65535 {
             return Err(Error::TooLarge);
         }
-        let forms = forms_of(alloc, gpos, lookup, kept, limit)?;
         offsets.push(bytes.len())?;
-        let flag = word(gpos, lookup + 2) % 16;
-        put_lookup(alloc, bytes, flag as u16, &forms)?;
+        put_any(alloc, bytes, gpos, lookup, marks, kept, limit)?;
     }
     Ok(())
 }
@@ -147,17 +189,18 @@ fn put_list(
     alloc: Global,
     out: &mut Vec<u8>,
     gpos: &[u8],
+    marks: bool,
     kept: &[u16],
     limit: &mut u64,
 ) -> Result<()>
     requires few { length kept.now < 65536 }
-    ensures done { OnOk result (PutsList gpos.now kept.now out.old.items out.new.items) }
+    ensures done { OnOk result (PutsList marks gpos.now kept.now out.old.items out.new.items) }
     ensures spends { limit.new ≤ limit.old }
     ensures why { IfErr result (λ e. Fails limit.new e) }
 {
     let mut bytes = Vec::new(alloc);
     let mut offsets = Vec::new(alloc);
-    put_each(alloc, &mut bytes, &mut offsets, gpos, kept, limit)?;
+    put_each(alloc, &mut bytes, &mut offsets, gpos, marks, kept, limit)?;
     let count = offsets.len();
     if count > 32766 {
         return Err(Error::TooLarge);
@@ -187,6 +230,31 @@ pub(crate) fn put_front(
     out.extend_from_slice(&gpos[10..end])
 }
 
+/// Returns a `GPOS` table with the pair adjustments of the kept glyphs, and with their marks, if these are kept.
+fn written(
+    alloc: Global,
+    gpos: &[u8],
+    marks: bool,
+    kept: &[u16],
+    limit: &mut u64,
+) -> Result<Vec<u8>>
+    ensures kept { IfOk result (λ new. Keeps marks gpos.now kept.now new.items) }
+    ensures spends { limit.new ≤ limit.old }
+    ensures why { IfErr result (λ e. Refuses e gpos.now limit.new) }
+{
+    if kept.len() > 65535 {
+        return Err(Error::TooLarge);
+    }
+    let end = lists_end(gpos, limit)?;
+    if end > 65535 || end > gpos.len() {
+        return Err(Error::ListsTooLong);
+    }
+    let mut out = Vec::new(alloc);
+    put_front(&mut out, gpos, end)?;
+    put_list(alloc, &mut out, gpos, marks, kept, limit)?;
+    Ok(out)
+}
+
 /// Returns a `GPOS` table with the pair adjustments of the kept glyphs.
 ///
 /// `kept` has the old numbers of the glyphs. The new number of a glyph is its index there. The new table has version 1.0,
@@ -211,15 +279,37 @@ pub fn kerning(alloc: Global, gpos: &[u8], kept: &[u16], limit: &mut u64) -> Res
     // `TooLong` leaves nothing of the limit. `ListsTooLong` means that the lists do not end in time.
     ensures why { IfErr result (λ e. Refuses e gpos.now limit.new) }
 {
-    if kept.len() > 65535 {
-        return Err(Error::TooLarge);
-    }
-    let end = lists_end(gpos, limit)?;
-    if end > 65535 || end > gpos.len() {
-        return Err(Error::ListsTooLong);
-    }
-    let mut out = Vec::new(alloc);
-    put_front(&mut out, gpos, end)?;
-    put_list(alloc, &mut out, gpos, kept, limit)?;
-    Ok(out)
+    let new = written(alloc, gpos, false, kept, limit)?;
+    Ok(new)
+}
+
+/// Returns a `GPOS` table with the pair adjustments and the marks of the kept glyphs.
+///
+/// `kept` has the old numbers of the glyphs. The new number of a glyph is its index there. The new table has version 1.0,
+/// the script list and the feature list of the old one, and as many lookups in the same order. Lookups of pair
+/// adjustments are kept as by `kerning`. A lookup that attaches marks to bases, to ligatures or to other marks (types 4 to
+/// 6, also by extensions) keeps its type, and has a subtable for each old one. All other lookups have no subtables, and
+/// neither has a lookup with a flag above bit 3.
+///
+/// Units of the limit are paid as by `kerning`. In a lookup of marks, one unit is paid for each subtable, twice for each
+/// kept glyph in a subtable, for each class of marks of a base or of a component, and for each covered glyph and range
+/// that is looked at.
+///
+/// # Errors
+///
+/// - `ListsTooLong`: the script list and the feature list, with the tables that they name, do not end within the table,
+///   or within its first 65,535 bytes.
+/// - `TooLarge`: an offset or a count would exceed 16 bits.
+/// - `TooLong`: the table costs more than the limit.
+/// - `Memory`: out of memory.
+pub fn positions(alloc: Global, gpos: &[u8], kept: &[u16], limit: &mut u64) -> Result<Vec<u8>>
+    // Each lookup adjusts the kept glyphs and attaches kept marks as before, for the same scripts and features.
+    ensures kept { IfOk result (λ new. KeepsPositions gpos.now kept.now new.items) }
+    // The limit never grows.
+    ensures spends { limit.new ≤ limit.old }
+    // `TooLong` leaves nothing of the limit. `ListsTooLong` means that the lists do not end in time.
+    ensures why { IfErr result (λ e. Refuses e gpos.now limit.new) }
+{
+    let new = written(alloc, gpos, true, kept, limit)?;
+    Ok(new)
 }

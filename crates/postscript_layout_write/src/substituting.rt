@@ -123,7 +123,7 @@ fn kept_sets(
 
 /// Appends the header of a lookup.
 #[tactic(auto, unfolding(crate::specs::RuleSets::rule_head_text))]
-fn put_head(
+pub(crate) fn put_head(
     out: &mut Vec<u8>,
     kind: u16,
     flag: u16,

@@ -1,5 +1,5 @@
 //! Tables whose pairs are computed by hand from the specification. All numbers are of two bytes.
-use crate::{Error, glyph_classes, kerning, substitutions};
+use crate::{Error, glyph_classes, kerning, positions, substitutions};
 use std::alloc::{AllocError, Global};
 use std::process::Abort;
 
@@ -156,6 +156,111 @@ const RULES: &[Row] = &[
     },
 ];
 
+const MARKS: &[Row] = &[
+    Row {
+        what: "an anchor that is NULL, and one of an unknown format: at the origin",
+        old: &[
+            1, 4, 4, 0, 1, 8, 1, 12, 20, 1, 26, 42, 1, 2, 5, 6, 1, 1, 1, 2, 0, 0, 0, 10, 4, 7, 8,
+            1, 4, 1, 30, 40,
+        ],
+        new: &[
+            1, 4, 4, 0, 1, 8, 1, 12, 20, 1, 26, 42, 1, 2, 1, 2, 1, 1, 0, 2, 0, 10, 0, 10, 1, 0, 0,
+            1, 4, 1, 30, 40,
+        ],
+    },
+    Row {
+        what: "two subtables: no anchor in the first one, so that the second one counts; formats 2 and 3",
+        old: &[
+            1, 4, 6, 8, 2, 10, 60, 1, 12, 18, 1, 26, 38, 1, 1, 5, 1, 2, 1, 2, 1, 0, 6, 1, 1, 2, 2,
+            0, 6, 1, 9, 9, 1, 12, 18, 1, 24, 38, 1, 1, 5, 1, 1, 1, 1, 0, 6, 2, 3, 4, 0, 1, 4, 3, 5,
+            6, 0, 0,
+        ],
+        new: &[
+            1, 4, 6, 8, 2, 10, 50, 1, 12, 18, 1, 24, 36, 1, 1, 1, 1, 1, 0, 1, 0, 6, 1, 1, 2, 1, 0,
+            1, 12, 18, 1, 24, 36, 1, 1, 1, 1, 1, 0, 1, 0, 6, 1, 3, 4, 1, 4, 1, 5, 6,
+        ],
+    },
+    Row {
+        what: "a class that the subtable does not have, and a base past the end of the array",
+        old: &[
+            1, 4, 4, 0, 1, 8, 1, 12, 20, 1, 28, 44, 1, 2, 5, 6, 1, 2, 1, 5, 2, 1, 10, 0, 10, 1, 1,
+            2, 1, 4, 1, 7, 8,
+        ],
+        new: &[
+            1, 4, 4, 0, 1, 8, 1, 12, 20, 1, 26, 42, 1, 2, 1, 2, 1, 1, 0, 2, 1, 10, 0, 10, 1, 1, 2,
+            1, 4, 1, 7, 8,
+        ],
+    },
+    Row {
+        what: "an extension",
+        old: &[
+            1, 4, 9, 0, 1, 8, 1, 4, 0, 8, 1, 12, 20, 1, 28, 44, 1, 2, 5, 6, 1, 2, 1, 5, 2, 1, 10,
+            0, 10, 1, 1, 2, 1, 4, 1, 7, 8,
+        ],
+        new: &[
+            1, 4, 4, 0, 1, 8, 1, 12, 20, 1, 26, 42, 1, 2, 1, 2, 1, 1, 0, 2, 1, 10, 0, 10, 1, 1, 2,
+            1, 4, 1, 7, 8,
+        ],
+    },
+    Row {
+        what: "an extension with marks and pairs: only the pairs",
+        old: &[
+            1, 4, 9, 0, 2, 10, 18, 1, 4, 0, 16, 1, 2, 0, 62, 1, 12, 20, 1, 28, 44, 1, 2, 5, 6, 1,
+            2, 1, 5, 2, 1, 10, 0, 10, 1, 1, 2, 1, 4, 1, 7, 8, 1, 12, 4, 0, 1, 18, 1, 1, 1, 1, 6,
+            33,
+        ],
+        new: &[1, 4, 2, 0, 1, 8, 1, 12, 4, 0, 1, 18, 1, 1, 0, 1, 2, 33],
+    },
+    Row {
+        what: "a set of marks: no marks",
+        old: &[
+            1, 4, 4, 16, 1, 10, 0, 1, 12, 20, 1, 28, 44, 1, 2, 5, 6, 1, 2, 1, 5, 2, 1, 10, 0, 10,
+            1, 1, 2, 1, 4, 1, 7, 8,
+        ],
+        new: &[1, 4, 2, 0, 0],
+    },
+    Row {
+        what: "no kept marks: no bases",
+        old: &[
+            1, 4, 4, 0, 1, 8, 1, 12, 18, 1, 24, 36, 1, 1, 7, 1, 1, 1, 1, 0, 6, 1, 1, 2, 1, 4, 1, 7,
+            8,
+        ],
+        new: &[1, 4, 4, 0, 1, 8, 1, 12, 16, 1, 20, 22, 1, 0, 1, 0, 0, 0],
+    },
+    Row {
+        what: "an unknown format: nothing",
+        old: &[
+            1, 4, 4, 0, 1, 8, 2, 12, 20, 1, 28, 44, 1, 2, 5, 6, 1, 2, 1, 5, 2, 1, 10, 0, 10, 1, 1,
+            2, 1, 4, 1, 7, 8,
+        ],
+        new: &[1, 4, 4, 0, 1, 8, 1, 12, 16, 0, 20, 22, 1, 0, 1, 0, 0, 0],
+    },
+];
+
+/// A table that fontTools made of a feature file. Marks 3, 4 and 9 are attached on top and 5 below, to the bases 1, 2 and
+/// 7, and to the two components of the ligature 6; 3 and 9 have marks on top of them.
+const STACKED: &[u16] = &[
+    1, 0, 10, 32, 60, 1, 17478, 19540, 8, 4, 0, 0, 65535, 2, 0, 1, 2, 28001, 29291, 14, 28011,
+    28011, 22, 0, 2, 0, 1, 0, 1, 2, 3, 8, 70, 164, 4, 0, 1, 8, 1, 74, 12, 2, 92, 22, 1, 3, 1, 2, 7,
+    3, 26, 14, 20, 0, 26, 0, 1, 310, 0, 1, 200, 650, 1, 300, 700, 5, 0, 1, 8, 1, 12, 24, 2, 30, 54,
+    1, 4, 3, 4, 5, 9, 1, 1, 6, 4, 0, 108, 0, 114, 1, 18, 0, 120, 1, 90, 65516, 1, 4, 2, 10, 16, 22,
+    0, 1, 150, 720, 1, 140, 0, 1, 420, 690, 6, 0, 1, 8, 1, 12, 22, 1, 30, 62, 1, 3, 3, 4, 9, 1, 2,
+    3, 9, 3, 0, 14, 0, 20, 0, 26, 1, 100, 500, 1, 110, 510, 1, 120, 490, 2, 6, 12, 1, 105, 800, 1,
+    125, 760,
+];
+
+/// The same table for the glyphs 0, 5, 6, 1, 9, 7, 3 and 8. FontTools reads the same anchors of these glyphs in both
+/// tables, and HarfBuzz puts their marks at the same positions.
+const LEFT: &[u16] = &[
+    1, 0, 10, 32, 60, 1, 17478, 19540, 8, 4, 0, 0, 65535, 2, 0, 1, 2, 28001, 29291, 14, 28011,
+    28011, 22, 0, 2, 0, 1, 0, 1, 2, 3, 8, 100, 200, 4, 0, 1, 8, 1, 12, 22, 2, 30, 62, 1, 3, 1, 4,
+    6, 1, 2, 3, 5, 3, 1, 14, 0, 20, 0, 26, 1, 90, 65516, 1, 120, 490, 1, 100, 500, 2, 10, 16, 10,
+    0, 1, 300, 700, 1, 310, 0, 5, 0, 1, 8, 1, 12, 22, 2, 28, 60, 1, 3, 1, 4, 6, 1, 1, 2, 3, 1, 14,
+    0, 20, 0, 26, 1, 90, 65516, 1, 120, 490, 1, 100, 500, 1, 4, 2, 10, 16, 22, 0, 1, 150, 720, 1,
+    140, 0, 1, 420, 690, 6, 0, 1, 8, 1, 12, 20, 1, 28, 50, 1, 2, 4, 6, 1, 2, 4, 6, 2, 0, 10, 0, 16,
+    1, 120, 490, 1, 100, 500, 2, 6, 12, 1, 125, 760, 1, 105, 800,
+];
+
 /// Appends numbers of two bytes.
 fn put(bytes: &mut Vec<u8>, words: &[u16]) -> Result<(), AllocError> {
     for word in words {
@@ -248,4 +353,42 @@ fn chosen(rt: HostRuntime) {
         &rt, "a table",
     );
     assert_eq!(rt; written.as_slice(), new.as_slice());
+}
+
+#[test]
+fn marks(rt: HostRuntime) {
+    for row in MARKS {
+        let old = table(rt.alloc(), HEAD, row.old).expect(&rt, "memory");
+        let new = table(rt.alloc(), HEAD, row.new).expect(&rt, "memory");
+        let mut limit = 1000;
+        let written = positions(rt.alloc(), &old, &[1, 5, 6], &mut limit).expect(&rt, row.what);
+        assert_eq!(rt; written.as_slice(), new.as_slice(), "{}", row.what);
+    }
+}
+
+#[test]
+fn stacked(rt: HostRuntime) {
+    let old = table(rt.alloc(), STACKED, &[]).expect(&rt, "memory");
+    let new = table(rt.alloc(), LEFT, &[]).expect(&rt, "memory");
+    let mut limit = 1000;
+    let kept = [0, 5, 6, 1, 9, 7, 3, 8];
+    let written = positions(rt.alloc(), &old, &kept, &mut limit).expect(&rt, "a table");
+    assert_eq!(rt; written.as_slice(), new.as_slice());
+    let mut limit = 20;
+    let long = positions(rt.alloc(), &old, &kept, &mut limit);
+    assert!(rt; long == Err(Error::TooLong) && limit == 0);
+}
+
+/// Lookups of pairs are the same as by `kerning`.
+#[test]
+fn pairs_and_marks(rt: HostRuntime) {
+    for row in ROWS {
+        if row.old.len() > 2 && row.old[2] != 4 {
+            let old = table(rt.alloc(), HEAD, row.old).expect(&rt, "memory");
+            let new = table(rt.alloc(), HEAD, row.new).expect(&rt, "memory");
+            let mut limit = 1000;
+            let written = positions(rt.alloc(), &old, &[1, 5, 6], &mut limit).expect(&rt, row.what);
+            assert_eq!(rt; written.as_slice(), new.as_slice(), "{}", row.what);
+        }
+    }
 }
