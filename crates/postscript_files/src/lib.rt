@@ -1,7 +1,8 @@
 //! Writes whole OpenType files (ISO/IEC 14496-22): desubroutinized, or with only some characters and glyphs.
 //!
 //! [`Face::open`] opens a face with its `CFF ` table, its best character map and its advance widths. [`flat_file`] writes
-//! the face again without subroutines. [`subset_file`] writes only the characters, glyphs and tables of a [`Choice`].
+//! the face again without subroutines. [`subset_file`] and [`Face::subset`] write only the
+//! characters, glyphs and tables of a [`Choice`].
 //!
 //! # What is proved
 //!
@@ -13,7 +14,8 @@
 //! - `subset_file`: the best map has a glyph for each kept character, and no glyph for other characters. This glyph is
 //!   drawn as the old one. It has the same name or CID, the same advance width and the same left side bearing. `CFF `,
 //!   `maxp`, `hhea` and `hmtx` have the same number of glyphs. Tables of the choice are copied byte for byte, apart from
-//!   `checkSumAdjustment`. There are no other tables.
+//!   `checkSumAdjustment`. There are no other tables. New glyph `i` is the old glyph at index `i` of the list that
+//!   [`Face::origins`] returns.
 //! - Errors of `subset_file`: `MissingCharacter`, `Font`, `Cut` and `SameTag`, and the errors of `Face::open`, come only
 //!   if the old file or the choice has that fault.
 //! - Errors of `flat_file`: `File`, `MissingTable` and `Font` come only if the old file has that fault. `Overlap` comes only
@@ -25,7 +27,7 @@
 //! - That there is enough memory.
 //! - That `TooLarge` of `subset_file` comes only if the tables are too large.
 //! - That text is shaped as before: `GSUB`, `GPOS` and `kern` are not written unless the choice has them, and a copied
-//!   `GSUB` or `GPOS` has the old glyph numbers.
+//!   `GSUB` or `GPOS` has the old glyph numbers. `postscript_subset` writes these tables under the new numbers.
 #![tactic(auto)]
 
 mod choice;

@@ -1,6 +1,8 @@
 -- The file of a choice with further glyphs and tables.
-use Rattle.std.proofs.Common.{◌≡◌, refl, sym, ap, ◌∙◌, subst, inl, inr, ℕ, zero, suc, ◌≤◌, List, [], ◌∷◌, ◌++◌, Bool, false, length, arith, append-nil}
+use Rattle.std.proofs.Common.{◌≡◌, refl, sym, ap, ◌∙◌, subst, inl, inr, ℕ, zero, suc, ◌≤◌, List, [], ◌∷◌, ◌++◌, Bool, true, false, length, arith, append-nil}
 use Rattle.std.specs.Prelude.{Some, map, slice_get, Result, Ok, Err, IfOk, IfErr}
+use Rattle.std.specs.List.{Contains}
+use Rattle.std.proofs.lemmas.List.Elements.{Contains-append_right}
 use Rattle.postscript_files.specs.Copies.{HasCopy}
 use Rattle.postscript_files.specs.Faces.{IsFaceIn}
 use Rattle.postscript_files.specs.Origins.{AreOriginsOf, NoOriginsOf}
@@ -11,18 +13,20 @@ use Rattle.postscript_files.specs.declared.error.Error.{Error as Cause}
 use Rattle.postscript_files.specs.declared.error.Error.TheVariants as causes
 use Rattle.postscript_files.specs.declared.face.Face.{Face}
 use Rattle.postscript_files.proofs.Ordering.{origins-alike}
+use Rattle.postscript_sfnt.specs.Lent.{IsTableOf}
 use Rattle.postscript_subset.specs.Closing.{AreClosed, AreExtended, IsClosingError, IsTableOrNone, IsUnopenedFace, below}
 use Rattle.postscript_subset.specs.Layering.{tables_of}
-use Rattle.postscript_subset.specs.Layers.{all_tables, gsub_tag}
-use Rattle.postscript_subset.specs.Planning.{HasTables, IsCutBy, IsCutFace, IsUnfinished, NoCutBy, NoCutFace}
-use Rattle.postscript_subset.specs.Subsets.{IsBy, IsCutWithLayout, IsWidened, NoCutWithLayout, NoFileFrom, copied_by, features_by, shown}
+use Rattle.postscript_subset.specs.Layers.{IsCopiedAs, all_tables, gdef_tag, gpos_tag, gsub_tag}
+use Rattle.postscript_subset.specs.Planning.{HasTables, IsCutBy, IsCutFace, IsPlaced, IsUnfinished, NoCutBy, NoCutFace}
+use Rattle.postscript_subset.specs.Subsets.{IsBy, IsCutInPlace, IsCutWithLayout, IsWidened, NoCutWithLayout, NoFileFrom, copied_by, features_by, shown}
 use Rattle.postscript_subset.specs.declared.error.Error.{Error}
 use Rattle.postscript_subset.specs.declared.error.Error.TheVariants as errors
 use Rattle.postscript_subset.specs.declared.features.Features.{Features}
+use Rattle.postscript_subset.specs.declared.features.Features.TheVariants as kinds
 use Rattle.postscript_subset.specs.declared.layers.Layers.{Layers}
 use Rattle.postscript_subset.specs.declared.layers.Outcome.TheVariants as outcomes
 use Rattle.postscript_subset.specs.declared.subset.Subset.{Subset}
-use Rattle.postscript_subset.proofs.Staying.{text-stays}
+use Rattle.postscript_subset.proofs.Staying.{text-stays, text-stays-same}
 
 later-get : (xs ys : List (ℕ × List ℕ)) (i : ℕ) (x : ℕ × List ℕ) → slice_get ys i ≡ Some x → (k : ℕ) × (slice_get (xs ++ ys) k ≡ Some x)
 later-get [] ys i x h = (i, h)
@@ -83,6 +87,29 @@ known-anew choice features face by gsub lookups glyphs unmapped anew is are exte
     lenient = lenient;
     retain_gids = retain;
     copied = subst (λ (r : Bool). by.copied.now ≡ choice.copied.now ++ copied_by r) (sym anew) (copied ∙ sym (append-nil choice.copied.now));
+    given = ap (map shown) given ∙ sym (append-nil (map shown choice.given.now));
+  };
+}
+
+-- glyphs keep their numbers
+pub known-in-place : (choice : Choice) (features : Features) (face : Face) (by : Choice) (gsub lookups glyphs : List ℕ)
+    (unmapped : List ℕ) → choice.retain_gids ≡ true → IsTableOrNone face.file gsub_tag gsub →
+    AreClosed choice kinds.All face gsub lookups glyphs → AreExtended face choice.unmapped.now glyphs unmapped →
+    by.chars.now ≡ choice.chars.now → by.glyphs.now ≡ choice.glyphs.now → by.unmapped.now ≡ unmapped → by.lenient ≡ choice.lenient →
+    by.retain_gids ≡ choice.retain_gids → by.copied.now ≡ choice.copied.now ++ copied_by true → by.given.now ≡ choice.given.now →
+    Known choice features face by gsub lookups glyphs
+known-in-place choice features face by gsub lookups glyphs unmapped retain is are extended chars numbers further lenient same copied given = record {
+  is = is;
+  are = subst (λ (r : Bool). AreClosed choice (features_by r features) face gsub lookups glyphs) (sym retain) are;
+  unmapped = unmapped;
+  extended = extended;
+  widened = record {
+    chars = chars;
+    glyphs = numbers;
+    unmapped = further ∙ extended.2;
+    lenient = lenient;
+    retain_gids = same;
+    copied = subst (λ (r : Bool). by.copied.now ≡ choice.copied.now ++ copied_by r) (sym retain) copied;
     given = ap (map shown) given ∙ sym (append-nil (map shown choice.given.now));
   };
 }
@@ -260,7 +287,6 @@ subset-so (Err e) choice features bytes number left face was h = tt
 
 no-subset : (e : Error) (choice : Choice) (features : Features) (bytes : List ℕ) (number left : ℕ) (face : Face) → IsFaceIn bytes number face →
     NoCutFace choice features face left e → NoCutWithLayout choice features bytes number left e
-no-subset errors.RetainGids choice features bytes number left face was h = absurd h
 no-subset errors.TooLong choice features bytes number left face was h = h
 no-subset (errors.LargeGlyph glyph) choice features bytes number left face was h = (face, was, h.0, h.1)
 no-subset (errors.File e) choice features bytes number left face was h = inr (face, was, h)
@@ -274,3 +300,69 @@ no-subset-so (Err e) choice features bytes number left face was h = no-subset e 
 pub unfinished-so : (cause : Cause) (by with : Choice) (face : Face) (layers : Layers) → NoSubsetBy with face cause →
     HasTables by (tables_of layers) with → IsUnfinished by face layers (errors.File cause)
 unfinished-so cause by with face layers h has = (cause, refl, inr (with, has, h))
+
+pub placed-so : (choice : Choice) (features : Features) (face : Face) (by : Choice) (gsub lookups glyphs : List ℕ) (subset : Subset) →
+    choice.retain_gids ≡ true → Known choice features face by gsub lookups glyphs → IsSubsetFile by face subset.file.items →
+    IsCopiedAs subset.gdef face.file gdef_tag → IsCopiedAs subset.gsub face.file gsub_tag → IsCopiedAs subset.gpos face.file gpos_tag →
+    subset.left_out.items ≡ [] → IsPlaced choice features face subset
+unfolding is-by
+placed-so choice features face by gsub lookups glyphs subset retain k file gdef gsub-is gpos none =
+    let is : IsBy choice features face [] by = is-by choice features face by by gsub lookups glyphs [] k (no-tables by) in
+    record {
+      by = by;
+      file = file;
+      is = is-by choice features face by by gsub lookups glyphs [] k (no-tables by);
+      gdef = gdef;
+      gsub = gsub-is;
+      gpos = gpos;
+      stays = text-stays-same choice features face [] by subset.file.items is (k.widened.retain_gids ∙ retain) file;
+      left_out = none;
+    }
+
+-- the copies are those of the face
+copied-there : (choice : Choice) (features : Features) (face : Face) (by : Choice) (file : List ℕ) → choice.retain_gids ≡ true →
+    IsBy choice features face [] by → IsSubsetFile by face file → (tag : ℕ) (table : List ℕ) → Contains (copied_by true) tag →
+    IsTableOf face.file tag table → (new : Face) → IsFaceIn file 0 new → HasCopy new.file tag table
+copied-there choice features face by file retain is cut tag table listed has new read =
+    let all : by.copied.now ≡ choice.copied.now ++ copied_by true =
+    subst (λ (r : Bool). by.copied.now ≡ choice.copied.now ++ copied_by r) retain is.widened.copied in
+    (cut.is new read).copied tag table (subst (λ (xs : List ℕ). Contains xs tag) (sym all)
+    (Contains-append_right choice.copied.now (copied_by true) tag listed)) has
+
+pub in-place-so : (r : Result Subset Error) (choice : Choice) (features : Features) (bytes : List ℕ) (number : ℕ) (face : Face) →
+    IsFaceIn bytes number face → choice.retain_gids ≡ true → IfOk r (λ subset. IsPlaced choice features face subset) →
+    IfOk r (λ subset. IsCutInPlace choice features bytes number subset)
+in-place-so (Ok subset) choice features bytes number face was retain h = record {
+  by = h.by;
+  cut = record {
+    old = face;
+    was = was;
+    opens = h.file.opens;
+    all = h.file.all;
+    there = h.file.there;
+    is = h.file.is;
+  };
+  is = h.is;
+  gdef = h.gdef;
+  gsub = h.gsub;
+  gpos = h.gpos;
+  copied = copied-there choice features face h.by subset.file.items retain h.is h.file;
+  stays = h.stays;
+  left_out = h.left_out;
+}
+in-place-so (Err e) choice features bytes number face was retain h = tt
+
+pub no-placed : (cause : Cause) (choice : Choice) (features : Features) (face : Face) (by : Choice) (gsub lookups glyphs : List ℕ)
+    (left : ℕ) → 36 ≤ length face.hhea.now → Known choice features face by gsub lookups glyphs → NoSubsetBy by face cause →
+    NoCutFace choice features face left (errors.File cause)
+no-placed cause choice features face by gsub lookups glyphs left room k h = inr (
+  by,
+  outcomes.Absent,
+  outcomes.Absent,
+  outcomes.Absent,
+  [],
+  [],
+  [],
+  is-by choice features face by by gsub lookups glyphs [] k (no-tables by),
+  subset-from cause by face room h,
+)

@@ -4,14 +4,17 @@ use Rattle.std.specs.Prelude.{if◌then◌else◌, nat_lt}
 use Rattle.std.specs.List.{All, Contains}
 use Rattle.std.proofs.lemmas.Bool.{lt-ltb}
 use Rattle.std.proofs.lemmas.List.Elements.{All-contains, All-weaker, Contains-append_left, Contains-append_right}
+use Rattle.postscript_layout.specs.Texts.{ComesTo}
 use Rattle.postscript_layout.proofs.Stays.{stays}
 use Rattle.postscript_files.specs.Origins.{AreAllNamed, AreOriginsOf, IsNamed}
+use Rattle.postscript_files.specs.Choices.{glyphs_of}
+use Rattle.postscript_files.specs.Subsets.{HasSame, IsSame, IsSubsetFile, KeepsNumber}
 use Rattle.postscript_files.specs.declared.choice.Choice.{Choice}
 use Rattle.postscript_files.specs.declared.face.Face.{Face}
 use Rattle.postscript_files.proofs.Ordering.{unmapped-there}
 use Rattle.postscript_subset.specs.Closing.{IsClosingError, below}
 use Rattle.postscript_subset.specs.Refusals.{IsWide}
-use Rattle.postscript_subset.specs.Subsets.{IsBy, TextStaysIn}
+use Rattle.postscript_subset.specs.Subsets.{IsBy, TextStaysIn, TextStaysSame}
 use Rattle.postscript_subset.specs.declared.error.Error.{Error}
 use Rattle.postscript_subset.specs.declared.features.Features.{Features}
 
@@ -35,21 +38,41 @@ below-at count (one ∷ glyphs) (suc i) glyph within is less =
 below-there : (count : ℕ) (glyphs : List ℕ) (glyph : ℕ) → Contains glyphs glyph → glyph < count → Contains (below count glyphs) glyph
 below-there count glyphs glyph h less = below-at count glyphs h.0 glyph h.1 h.2 less
 
--- a text of named glyphs stays among the new ones
-pub text-stays : (choice : Choice) (features : Features) (old : Face) (tables : List (ℕ × List ℕ)) (by : Choice) (origins : List ℕ)
-    (is : IsBy choice features old tables by) → by.retain_gids ≡ false → AreOriginsOf by old origins →
-    TextStaysIn choice old is.count is.gsub is.lookups origins
-text-stays choice features old tables by origins is anew are first last named comes glyph there less =
+-- a text of named glyphs stays among the further glyphs of the choice
+further : (choice : Choice) (features : Features) (old : Face) (tables : List (ℕ × List ℕ)) (by : Choice)
+    (is : IsBy choice features old tables by) (first last : List ℕ) → All (IsNamed choice old) first →
+    ComesTo is.gsub is.lookups first last → (glyph : ℕ) → Contains last glyph → glyph < is.count → Contains by.unmapped.now glyph
+further choice features old tables by is first last named comes glyph there less =
     let closed : All (Contains is.closed) first = All-weaker (IsNamed choice old) (Contains is.closed)
     (λ g h. All-contains (Contains is.closed) (is.are.named ++ 0 ∷ []) g is.are.closure.holds
     (Contains-append_left is.are.named (0 ∷ []) g ((is.are.are g).1 h))) first named in
     let stay : All (Contains is.closed) last = stays is.gsub is.lookups is.closed first last is.are.closure.closed closed comes in
     let here : Contains is.closed glyph = All-contains (Contains is.closed) last glyph stay there in
-    let added : Contains (below is.count is.closed) glyph = below-there is.count is.closed glyph here less in
-    let further : Contains by.unmapped.now glyph =
     subst (λ (xs : List ℕ). Contains xs glyph) (sym is.widened.unmapped)
-    (Contains-append_right choice.unmapped.now (below is.count is.closed) glyph added) in
-    unmapped-there by old origins is.count anew is.counted are glyph further less
+    (Contains-append_right choice.unmapped.now (below is.count is.closed) glyph (below-there is.count is.closed glyph here less))
+
+same-number : (by : Choice) (old new : Face) (glyph i : ℕ) → by.retain_gids ≡ true → HasSame by old new glyph i → IsSame old new glyph glyph
+same-number by old new glyph i retain h =
+    let number : i ≡ glyph = subst (λ (r : Bool). KeepsNumber r glyph i) retain h.1 in
+    subst (λ n. IsSame old new glyph n) number h.0
+
+-- a text of named glyphs stays among glyphs that are the same in the new face
+pub text-stays-same : (choice : Choice) (features : Features) (old : Face) (tables : List (ℕ × List ℕ)) (by : Choice) (file : List ℕ)
+    (is : IsBy choice features old tables by) → by.retain_gids ≡ true → IsSubsetFile by old file →
+    TextStaysSame choice old is.count is.gsub is.lookups file
+text-stays-same choice features old tables by file is retain cut first last named comes glyph there less new read =
+    let chosen : Contains (glyphs_of by) glyph =
+    Contains-append_right by.glyphs.now by.unmapped.now glyph (further choice features old tables by is first last named comes glyph there less) in
+    let h = (cut.is new read).glyphs glyph chosen in
+    same-number by old new glyph h.0 retain h.1
+
+-- a text of named glyphs stays among the new ones
+pub text-stays : (choice : Choice) (features : Features) (old : Face) (tables : List (ℕ × List ℕ)) (by : Choice) (origins : List ℕ)
+    (is : IsBy choice features old tables by) → by.retain_gids ≡ false → AreOriginsOf by old origins →
+    TextStaysIn choice old is.count is.gsub is.lookups origins
+text-stays choice features old tables by origins is anew are first last named comes glyph there less =
+    unmapped-there by old origins is.count anew is.counted are glyph
+    (further choice features old tables by is first last named comes glyph there less) less
 
 -- a glyph above 65,535 is a named one
 pub wide-named : (e : Error) (choice : Choice) (face : Face) (left : ℕ) (named glyphs : List ℕ) → AreAllNamed choice face named →

@@ -48,6 +48,12 @@ IsGpos Kept file features origins gdef left new = HasKerning features × OfTable
 IsGpos (Lost e) file features origins gdef left new =
     HasKerning features × OfTable file gpos_tag (λ gpos. Refuses e gpos left ⊎ (gdef ≡ Lost e))
 
+-- the outcome for a table that is copied
+abbrev pub IsCopiedAs : Outcome → (file : FontFile) → (tag : ℕ) → Type 0
+IsCopiedAs Kept file tag = OfTable file tag (λ table. Unit {0})
+IsCopiedAs Absent file tag = HasNoTable file tag
+IsCopiedAs _ file tag = ⊥
+
 -- a table with its tag, if it is kept
 abbrev pub table_if : Outcome → (tag : ℕ) → (table : List ℕ) → List (ℕ × List ℕ)
 table_if Kept tag table = (tag, table) ∷ []

@@ -1,5 +1,5 @@
 -- The steps to a file with layout tables. Only private contracts and proofs use these definitions.
-use Rattle.std.specs.Prelude.{◌≡◌, ◌⊎◌, ℕ, ◌<◌, ◌++◌, List, map}
+use Rattle.std.specs.Prelude.{◌≡◌, ◌⊎◌, ℕ, ◌<◌, ◌++◌, List, [], map}
 use Rattle.postscript_files.specs.Origins.{AreOriginsOf, IsNamed, NoOriginsOf}
 use Rattle.postscript_files.specs.Subsets.{IsSubsetFile, NoSubsetBy}
 use Rattle.postscript_files.specs.declared.choice.Choice.{Choice}
@@ -7,8 +7,8 @@ use Rattle.postscript_files.specs.declared.error.Error.{Error as Cause}
 use Rattle.postscript_files.specs.declared.error.Error.TheVariants as causes
 use Rattle.postscript_files.specs.declared.face.Face.{Face}
 use Rattle.postscript_subset.specs.Layering.{tables_of}
-use Rattle.postscript_subset.specs.Layers.{IsGdef, IsGpos, IsGsub, all_tables}
-use Rattle.postscript_subset.specs.Subsets.{IsBy, NoFileFrom, TextStaysIn, left_in, shown}
+use Rattle.postscript_subset.specs.Layers.{IsCopiedAs, IsGdef, IsGpos, IsGsub, all_tables, gdef_tag, gpos_tag, gsub_tag}
+use Rattle.postscript_subset.specs.Subsets.{IsBy, NoFileFrom, TextStaysIn, TextStaysSame, left_in, shown}
 use Rattle.postscript_subset.specs.declared.error.Error.{Error}
 use Rattle.postscript_subset.specs.declared.error.Error.TheVariants as errors
 use Rattle.postscript_subset.specs.declared.features.Features.{Features}
@@ -75,9 +75,19 @@ pub record IsCutFace (choice : Choice) (features : Features) (face : Face) (left
   pub stays : TextStaysIn choice face is.count is.gsub is.lookups origins
   pub left_out : subset.left_out.items ≡ left_in subset.gsub is.gsub is.lookups
 
+-- the file of a face whose glyphs keep their numbers
+pub record IsPlaced (choice : Choice) (features : Features) (face : Face) (subset : Subset) : Type 0 where
+  pub by : Choice
+  pub file : IsSubsetFile by face subset.file.items
+  pub is : IsBy choice features face [] by
+  pub gdef : IsCopiedAs subset.gdef face.file gdef_tag
+  pub gsub : IsCopiedAs subset.gsub face.file gsub_tag
+  pub gpos : IsCopiedAs subset.gpos face.file gpos_tag
+  pub stays : TextStaysSame choice face is.count is.gsub is.lookups subset.file.items
+  pub left_out : subset.left_out.items ≡ []
+
 -- why there is no such file
 abbrev pub NoCutFace : Choice → Features → Face → (left : ℕ) → Error → Type 0
-NoCutFace choice features face left errors.RetainGids = ⊥
 NoCutFace choice features face left errors.TooLong = left ≡ 0
 NoCutFace choice features face left (errors.LargeGlyph glyph) = IsNamed choice face glyph × (65535 < glyph)
 NoCutFace choice features face left (errors.File e) = NoFileFrom choice features face e

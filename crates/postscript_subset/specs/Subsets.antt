@@ -4,7 +4,7 @@ use Rattle.std.specs.List.{All, Contains}
 use Rattle.postscript_files.specs.Copies.{HasCopy}
 use Rattle.postscript_files.specs.Faces.{IsFaceIn, NoFaceIn}
 use Rattle.postscript_files.specs.Origins.{AreOriginsOf, HasGlyphs, IsNamed, IsUnopened}
-use Rattle.postscript_files.specs.Subsets.{IsSubsetOf, NoSubsetFrom}
+use Rattle.postscript_files.specs.Subsets.{IsSame, IsSubsetOf, NoSubsetFrom}
 use Rattle.postscript_files.specs.declared.choice.Choice.{Choice}
 use Rattle.postscript_files.specs.declared.choice.Given.{Given}
 use Rattle.postscript_files.specs.declared.error.Error.{Error as Cause}
@@ -12,10 +12,11 @@ use Rattle.postscript_files.specs.declared.face.Face.{Face}
 use Rattle.postscript_layout.specs.Texts.{ComesTo}
 use Rattle.postscript_layout_write.specs.Leaving.{left_below}
 use Rattle.postscript_layout_write.specs.Pairs.{lookups_of}
+use Rattle.postscript_sfnt.specs.Lent.{IsTableOf}
 use Rattle.postscript_subset.specs.Closing.{AreClosed, IsTableOrNone, below}
-use Rattle.postscript_subset.specs.Layers.{IsGdef, IsGpos, IsGsub, all_tables, gdef_tag, gpos_tag, gsub_tag}
+use Rattle.postscript_subset.specs.Layers.{IsCopiedAs, IsGdef, IsGpos, IsGsub, all_tables, gdef_tag, gpos_tag, gsub_tag}
 use Rattle.postscript_subset.specs.declared.error.Error.{Error}
-use Rattle.postscript_subset.specs.declared.error.Error.TheVariants.{File, LargeGlyph, RetainGids, TooLong}
+use Rattle.postscript_subset.specs.declared.error.Error.TheVariants.{File, LargeGlyph, TooLong}
 use Rattle.postscript_subset.specs.declared.features.Features.{Features}
 use Rattle.postscript_subset.specs.declared.features.Features.TheVariants.{All as AllFeatures}
 use Rattle.postscript_subset.specs.declared.layers.Outcome.{Outcome}
@@ -84,6 +85,25 @@ pub record IsCutWithLayout (choice : Choice) (features : Features) (bytes : List
   pub stays : TextStaysIn choice cut.old is.count is.gsub is.lookups origins
   pub left_out : subset.left_out.items ≡ left_in subset.gsub is.gsub is.lookups
 
+-- A text of named glyphs, after any substitutions by the lookups, has only glyphs that are the same in the new face, apart from glyphs that
+-- the face lacks.
+abbrev pub TextStaysSame : Choice → (old : Face) → (count : ℕ) → (gsub lookups file : List ℕ) → Type 0
+TextStaysSame choice old count gsub lookups file = (first last : List ℕ) → All (IsNamed choice old) first → ComesTo gsub lookups first last →
+    (glyph : ℕ) → Contains last glyph → glyph < count → (new : Face) → IsFaceIn file 0 new → IsSame old new glyph glyph
+
+-- The file is a subset of the face in which glyphs keep their numbers, and it has copies of the layout tables.
+pub record IsCutInPlace (choice : Choice) (features : Features) (bytes : List ℕ) (number : ℕ) (subset : Subset) : Type 0 where
+  pub by : Choice
+  pub cut : IsSubsetOf by bytes number subset.file.items
+  pub is : IsBy choice features cut.old [] by
+  pub gdef : IsCopiedAs subset.gdef cut.old.file gdef_tag
+  pub gsub : IsCopiedAs subset.gsub cut.old.file gsub_tag
+  pub gpos : IsCopiedAs subset.gpos cut.old.file gpos_tag
+  pub copied : (tag : ℕ) (table : List ℕ) → Contains (copied_by true) tag → IsTableOf cut.old.file tag table →
+      (new : Face) → IsFaceIn subset.file.items 0 new → HasCopy new.file tag table
+  pub stays : TextStaysSame choice cut.old is.count is.gsub is.lookups subset.file.items
+  pub left_out : subset.left_out.items ≡ []
+
 -- why no file of the face is written
 abbrev pub NoFileFrom : Choice → Features → (old : Face) → Cause → Type 0
 NoFileFrom choice features old e = IsUnopened old.cff.now e ⊎ ((by : Choice) × (gdef : Outcome) × (gsub : Outcome) × (gpos : Outcome)
@@ -91,7 +111,6 @@ NoFileFrom choice features old e = IsUnopened old.cff.now e ⊎ ((by : Choice) �
 
 -- Why no file is written. Running out of memory may be the error at any time.
 abbrev pub NoCutWithLayout : Choice → Features → (bytes : List ℕ) → (number left : ℕ) → Error → Type 0
-NoCutWithLayout choice features bytes number left RetainGids = choice.retain_gids ≡ true
 NoCutWithLayout choice features bytes number left TooLong = left ≡ 0
 NoCutWithLayout choice features bytes number left (LargeGlyph glyph) =
     (old : Face) × IsFaceIn bytes number old × IsNamed choice old glyph × (65535 < glyph)

@@ -20,9 +20,6 @@ pub enum Error {
     /// A chosen glyph has this number, which is above 65,535.
     #[error("the glyph number {0} is above 65,535")]
     LargeGlyph(usize),
-    /// Glyphs keep their numbers. Layout tables are then copied: see `copied` in `postscript_files::Choice`.
-    #[error("layout tables are written only under new glyph numbers")]
-    RetainGids,
     /// The face is not opened, or no file is written. This includes `Memory`.
     #[error("{0}")]
     File(postscript_files::Error),

@@ -12,6 +12,8 @@
 //! - A text of named glyphs has only glyphs of the subset, after any substitutions by the chosen lookups.
 //! - The `GSUB` table substitutes as the old one (`KeepsSubstitutions` of `postscript_layout_write`), the `GPOS` table adjusts
 //!   pairs as the old one (`KeepsKerning`), and the `GDEF` table has the old classes (`KeepsClasses`).
+//! - If glyphs keep their numbers, the layout tables are copied, and a text of named glyphs has only glyphs that are the same
+//!   in the new face, after any substitutions.
 //! - A table is absent or lost only for the cause that its outcome names. Each error has its cause.
 //!
 //! # What is not proved
@@ -23,6 +25,7 @@
 mod closing;
 mod error;
 mod features;
+mod in_place;
 mod layers;
 mod subset;
 

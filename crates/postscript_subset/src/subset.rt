@@ -1,17 +1,18 @@
 //! Files with only some characters, with layout tables.
-ghost use Rattle.std.specs.Prelude.{◌≡◌, ◌++◌, ◌≤◌, false, length, map, IfOk, IfErr, OnOk};
+ghost use Rattle.std.specs.Prelude.{◌≡◌, ◌++◌, ◌≤◌, true, false, length, map, IfOk, IfErr, OnOk};
 ghost use Rattle.postscript_files.specs.Origins.{AreOriginsOf};
 ghost use Rattle.postscript_files.specs.declared.error.Error.TheVariants as causes;
 ghost use Rattle.postscript_subset.specs.Closing.{IsTableOrNone};
 ghost use Rattle.postscript_subset.specs.Layers.{gsub_tag, table_if};
 ghost use Rattle.postscript_subset.specs.Planning.{IsCutBy, IsCutFace, IsFinished, IsUnfinished, NoCutBy, NoCutFace, NoOriginsBy};
-ghost use Rattle.postscript_subset.specs.Subsets.{IsCutWithLayout, NoCutWithLayout, left_in, shown};
+ghost use Rattle.postscript_subset.specs.Subsets.{IsCutInPlace, IsCutWithLayout, NoCutWithLayout, left_in, shown};
 ghost use Rattle.postscript_subset.specs.Layering.{tables_of};
 ghost use Rattle.postscript_subset.specs.declared.error.Error.TheVariants as errors;
 
 use crate::closing::{close, extended, narrow};
 use crate::error::{Error, Result};
 use crate::features::Features;
+use crate::in_place::cut_in_place;
 use crate::layers::{Layer, Layers, Outcome, layers_of};
 use postscript_files::{Choice, Face, Given};
 use postscript_layout_write::left_out;
@@ -19,11 +20,11 @@ use postscript_sfnt::FontFile;
 use std::alloc::Global;
 
 /// The tags of the layout tables.
-const GDEF: u32 = 0x47444546;
+pub(crate) const GDEF: u32 = 0x47444546;
 
-const GPOS: u32 = 0x47504f53;
+pub(crate) const GPOS: u32 = 0x47504f53;
 
-const GSUB: u32 = 0x47535542;
+pub(crate) const GSUB: u32 = 0x47535542;
 
 /// A file with layout tables.
 #[derive(Drop)]
@@ -41,7 +42,7 @@ pub struct Subset {
 }
 
 /// Returns the `GSUB` table of a face, or no bytes if it has none.
-fn gsub_in<'l>(file: &FontFile<'l>) -> &'l [u8]
+pub(crate) fn gsub_in<'l>(file: &FontFile<'l>) -> &'l [u8]
     ensures { IsTableOrNone file.now gsub_tag result.now }
 {
     match file.table(*b"GSUB") {
@@ -205,6 +206,9 @@ fn cut(
 /// - `GSUB`, with the chosen lookups, if the face has this table;
 /// - `GPOS`, with the kerning, if the face has this table and `kern` is among the features.
 ///
+/// If `choice.retain_gids` is set, glyphs keep their numbers. All lookups of `GSUB` are then chosen, and `GDEF`, `GSUB` and `GPOS`
+/// are copied as far as the face has them.
+///
 /// If `choice.given` or `choice.copied` has one of these tables too, the error is `SameTag`.
 ///
 /// The search for lookups and glyphs and the tables are paid from `limit`, as in `postscript_layout` and
@@ -212,7 +216,6 @@ fn cut(
 ///
 /// # Errors
 ///
-/// - `RetainGids`: `choice.retain_gids` is set.
 /// - `TooLong`: the search for lookups and glyphs costs more than the limit.
 /// - `LargeGlyph`: a chosen glyph has a number above 65,535.
 /// - `File`: as for `subset_file`.
@@ -225,15 +228,18 @@ pub fn subset_with_layout(
     limit: &mut u64,
 ) -> Result<Subset>
     // The file is a subset of the face, has its layout tables, and keeps the glyphs of shaped text.
-    ensures subset { IfOk result (λ subset. IsCutWithLayout choice.now features.entry file.now number limit.new subset) }
+    ensures subset { choice.now.retain_gids ≡ false → IfOk result (λ subset. IsCutWithLayout choice.now features.entry file.now number limit.new subset) }
+    // If glyphs keep their numbers, the file has copies of the layout tables, and keeps the glyphs of shaped text.
+    ensures in_place { choice.now.retain_gids ≡ true → IfOk result (λ subset. IsCutInPlace choice.now features.entry file.now number subset) }
     // The limit never grows.
     ensures spends { limit.new ≤ limit.old }
     // An error is justified by the choice, the limit, the file or the face.
     ensures why { IfErr result (λ e. NoCutWithLayout choice.now features.entry file.now number limit.new e) }
 {
-    if choice.retain_gids {
-        return Err(Error::RetainGids);
-    }
     let face = Face::open(file, number)?;
-    cut(alloc, &face, choice, &features, limit)
+    if choice.retain_gids {
+        cut_in_place(alloc, &face, choice, &features, limit)
+    } else {
+        cut(alloc, &face, choice, &features, limit)
+    }
 }
