@@ -15,7 +15,7 @@ use postscript_sfnt::FontFile;
 use std::alloc::Global;
 
 /// The status of an error.
-fn whole_status(e: &Error) -> i32
+pub(crate) fn whole_status(e: &Error) -> i32
     ensures { result ≡ pos (whole_code e.now) }
 {
     match e {
@@ -34,7 +34,7 @@ fn whole_status(e: &Error) -> i32
 }
 
 /// The glyph, the character or the tag of an error, and the status of its cause.
-fn whole_refusal_of(e: &Error) -> PsfRefusal
+pub(crate) fn whole_refusal_of(e: &Error) -> PsfRefusal
     ensures { result ≡ whole_refusal e.now }
 {
     match e {

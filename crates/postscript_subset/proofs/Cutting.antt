@@ -149,7 +149,7 @@ cut-so (Ok subset) choice features face by gsub lookups glyphs left anew k h =
       are = are;
       classes = h.classes;
       substitutions = h.substitutions;
-      kerning = h.kerning;
+      positions = h.positions;
       stays = text-stays choice features face (all_tables subset.gdef subset.gsub subset.gpos h.gdef h.gsub h.gpos) h.with h.origins is
           (h.has.retain_gids ∙ k.widened.retain_gids ∙ anew) are;
       left_out = h.left_out;
@@ -277,7 +277,7 @@ subset-so (Ok subset) choice features bytes number left face was h = record {
   are = h.are;
   classes = h.classes;
   substitutions = h.substitutions;
-  kerning = h.kerning;
+  positions = h.positions;
   there = tables-there choice h.by face subset.file.items
       (all_tables subset.gdef subset.gsub subset.gpos h.gdef h.gsub h.gpos) h.is.widened.given h.file;
   stays = h.stays;

@@ -2,12 +2,12 @@
 use Rattle.std.specs.Prelude.{◌≡◌, ◌⊎◌, ℕ, ◌<◌, ◌++◌, List, [], ◌∷◌}
 use Rattle.postscript_layout.specs.Numbers.{word}
 use Rattle.postscript_layout_write.specs.Classes.{KeepsClasses, RefusesClasses}
-use Rattle.postscript_layout_write.specs.Kerning.{KeepsKerning}
+use Rattle.postscript_layout_write.specs.Positions.{KeepsPositions}
 use Rattle.postscript_layout_write.specs.Refusals.{Refuses}
 use Rattle.postscript_layout_write.specs.Substituting.{KeepsSubstitutions}
 use Rattle.postscript_sfnt.specs.Lent.{HasNoTable, IsTableOf}
 use Rattle.postscript_sfnt.specs.declared.file.FontFile.{FontFile}
-use Rattle.postscript_subset.specs.Lookups.{HasKerning}
+use Rattle.postscript_subset.specs.Lookups.{HavePositions}
 use Rattle.postscript_subset.specs.declared.features.Features.{Features}
 use Rattle.postscript_subset.specs.declared.layers.Outcome.{Outcome}
 use Rattle.postscript_subset.specs.declared.layers.Outcome.TheVariants.{Absent, Kept, Lost, NotChosen}
@@ -40,13 +40,13 @@ IsGsub NotChosen file lookups origins gdef left new = ⊥
 IsGsub Kept file lookups origins gdef left new = OfTable file gsub_tag (λ gsub. KeepsSubstitutions gsub lookups origins new)
 IsGsub (Lost e) file lookups origins gdef left new = OfTable file gsub_tag (λ gsub. Refuses e gsub left ⊎ (gdef ≡ Lost e))
 
--- The outcome for `GPOS`, and the new table. It is chosen if kerning is.
+-- The outcome for `GPOS`, and the new table. It is chosen if kerning or marks are.
 abbrev pub IsGpos : Outcome → (file : FontFile) → (features : Features) → (origins : List ℕ) → (gdef : Outcome) → (left : ℕ) → (new : List ℕ) → Type 0
 IsGpos Absent file features origins gdef left new = HasNoTable file gpos_tag
-IsGpos NotChosen file features origins gdef left new = (HasKerning features → ⊥) × OfTable file gpos_tag (λ gpos. Unit {0})
-IsGpos Kept file features origins gdef left new = HasKerning features × OfTable file gpos_tag (λ gpos. KeepsKerning gpos origins new)
+IsGpos NotChosen file features origins gdef left new = (HavePositions features → ⊥) × OfTable file gpos_tag (λ gpos. Unit {0})
+IsGpos Kept file features origins gdef left new = HavePositions features × OfTable file gpos_tag (λ gpos. KeepsPositions gpos origins new)
 IsGpos (Lost e) file features origins gdef left new =
-    HasKerning features × OfTable file gpos_tag (λ gpos. Refuses e gpos left ⊎ (gdef ≡ Lost e))
+    HavePositions features × OfTable file gpos_tag (λ gpos. Refuses e gpos left ⊎ (gdef ≡ Lost e))
 
 -- the outcome for a table that is copied
 abbrev pub IsCopiedAs : Outcome → (file : FontFile) → (tag : ℕ) → Type 0

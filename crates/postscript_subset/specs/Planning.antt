@@ -51,7 +51,7 @@ pub record IsCutBy (by : Choice) (features : Features) (face : Face) (was lookup
   pub are : AreOriginsOf by face origins
   pub classes : IsGdef subset.gdef face.file origins left gdef
   pub substitutions : IsGsub subset.gsub face.file lookups origins subset.gdef left gsub
-  pub kerning : IsGpos subset.gpos face.file features origins subset.gdef left gpos
+  pub positions : IsGpos subset.gpos face.file features origins subset.gdef left gpos
   pub left_out : subset.left_out.items ≡ left_in subset.gsub was lookups
 
 abbrev pub NoCutBy : Choice → Face → Error → Type 0
@@ -71,7 +71,7 @@ pub record IsCutFace (choice : Choice) (features : Features) (face : Face) (left
   pub are : AreOriginsOf by face origins
   pub classes : IsGdef subset.gdef face.file origins left gdef
   pub substitutions : IsGsub subset.gsub face.file is.lookups origins subset.gdef left gsub
-  pub kerning : IsGpos subset.gpos face.file features origins subset.gdef left gpos
+  pub positions : IsGpos subset.gpos face.file features origins subset.gdef left gpos
   pub stays : TextStaysIn choice face is.count is.gsub is.lookups origins
   pub left_out : subset.left_out.items ≡ left_in subset.gsub is.gsub is.lookups
 

@@ -1,16 +1,21 @@
 //! Layout features.
 ghost use Rattle.std.specs.Prelude.{◌≡◌, ◌⊎◌, ◌↔◌, ◌≤◌, IfOk, IfErr, IsTrue};
 ghost use Rattle.postscript_files.specs.declared.error.Error.TheVariants as causes;
-ghost use Rattle.postscript_subset.specs.Lookups.{AreLookupsOf, HasKerning};
+ghost use Rattle.postscript_subset.specs.Lookups.{AreLookupsOf, AreNamedBy, HavePositions};
 ghost use Rattle.postscript_subset.specs.Refusals.{IsSearched};
 ghost use Rattle.postscript_subset.specs.declared.error.Error.TheVariants as errors;
 
-use crate::error::Result;
+use crate::error::{Error, Result};
 use postscript_layout::{all_lookups, feature_lookups};
+use postscript_layout_write::{Error as Fault, with_called};
 use std::alloc::Global;
 
-/// The tag of kerning.
+/// The tags of the features for which `GPOS` is written: kerning, marks on bases, and marks on marks.
 const KERN: u32 = 0x6b65726e;
+
+const MARK: u32 = 0x6d61726b;
+
+const MKMK: u32 = 0x6d6b6d6b;
 
 /// The features whose lookups a subset keeps.
 #[derive(Clone, Copy)]
@@ -23,8 +28,8 @@ pub enum Features<'t> {
 
 impl Features<'_> {
     /// Returns the lookups of a `GSUB` table that these features name.
-    pub(crate) fn lookups(&self, alloc: Global, gsub: &[u8], limit: &mut u64) -> Result<Vec<u16>>
-        ensures exact { IfOk result (λ lookups. AreLookupsOf self.now gsub.now lookups.items) }
+    fn named(&self, alloc: Global, gsub: &[u8], limit: &mut u64) -> Result<Vec<u16>>
+        ensures exact { IfOk result (λ lookups. AreNamedBy self.now gsub.now lookups.items) }
         ensures spends { limit.new ≤ limit.old }
         ensures why { IfErr result (λ e. IsSearched limit.new e) }
     {
@@ -34,13 +39,29 @@ impl Features<'_> {
         }
     }
 
-    /// Returns true if `kern` is among the features.
-    pub(crate) fn has_kerning(&self) -> bool
-        ensures { IsTrue result ↔ HasKerning self.now }
+    /// Returns the lookups of a `GSUB` table that these features name, and those that their contexts call.
+    pub(crate) fn lookups(&self, alloc: Global, gsub: &[u8], limit: &mut u64) -> Result<Vec<u16>>
+        ensures exact { IfOk result (λ lookups. AreLookupsOf self.now gsub.now lookups.items) }
+        ensures spends { limit.new ≤ limit.old }
+        ensures why { IfErr result (λ e. IsSearched limit.new e) }
+    {
+        let named = self.named(alloc, gsub, limit)?;
+        match with_called(alloc, gsub, &named, limit) {
+            Ok(lookups) => Ok(lookups),
+            Err(Fault::TooLong) => Err(Error::TooLong),
+            Err(_) => Err(Error::File(postscript_files::Error::Memory)),
+        }
+    }
+
+    /// Returns true if `kern`, `mark` or `mkmk` is among the features.
+    pub(crate) fn has_positions(&self) -> bool
+        ensures { IsTrue result ↔ HavePositions self.now }
     {
         match self {
             Features::All => true,
-            Features::These(tags) => tags.contains(&KERN),
+            Features::These(tags) => {
+                tags.contains(&KERN) || tags.contains(&MARK) || tags.contains(&MKMK)
+            }
         }
     }
 }

@@ -10,7 +10,7 @@ ghost use Rattle.postscript_subset.specs.declared.layers.Outcome.TheVariants as 
 use crate::error::{Error, Result};
 use crate::features::Features;
 use postscript_base::index::number::number_at;
-use postscript_layout_write::{Error as Fault, glyph_classes, kerning, substitutions};
+use postscript_layout_write::{Error as Fault, glyph_classes, positions, substitutions};
 use postscript_sfnt::FontFile;
 use std::alloc::Global;
 
@@ -19,7 +19,7 @@ use std::alloc::Global;
 pub enum Outcome {
     /// The face has no such table, or no glyph classes in its `GDEF` table.
     Absent,
-    /// The face has a `GPOS` table, but `kern` is not among the features.
+    /// The face has a `GPOS` table, but none of `kern`, `mark` and `mkmk` is among the features.
     NotChosen,
     /// The new file has the table.
     Kept,
@@ -119,7 +119,7 @@ fn gsub_of(
     }
 }
 
-/// Returns the `GPOS` table with the pairs of the origins, if kerning is chosen.
+/// Returns the `GPOS` table with the pairs and the marks of the origins, if a feature with these is chosen.
 fn gpos_of(
     alloc: Global,
     file: &FontFile<'_>,
@@ -135,12 +135,12 @@ fn gpos_of(
     match file.table(*b"GPOS") {
         None => Ok(without(alloc, Outcome::Absent)),
         Some(gpos) => {
-            if !features.has_kerning() {
+            if !features.has_positions() {
                 return Ok(without(alloc, Outcome::NotChosen));
             }
             match gdef {
                 Outcome::Lost(fault) => Ok(without(alloc, Outcome::Lost(fault))),
-                _ => layer_of(alloc, kerning(alloc, gpos, origins, limit)),
+                _ => layer_of(alloc, positions(alloc, gpos, origins, limit)),
             }
         }
     }

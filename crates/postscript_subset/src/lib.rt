@@ -11,7 +11,7 @@
 //!   are true of it.
 //! - A text of named glyphs has only glyphs of the subset, after any substitutions by the chosen lookups.
 //! - The `GSUB` table substitutes as the old one (`KeepsSubstitutions` of `postscript_layout_write`), the `GPOS` table adjusts
-//!   pairs as the old one (`KeepsKerning`), and the `GDEF` table has the old classes (`KeepsClasses`).
+//!   pairs and attaches marks as the old one (`KeepsPositions`), and the `GDEF` table has the old classes (`KeepsClasses`).
 //! - If glyphs keep their numbers, the layout tables are copied, and a text of named glyphs has only glyphs that are the same
 //!   in the new face, after any substitutions.
 //! - A table is absent or lost only for the cause that its outcome names. Each error has its cause.
@@ -19,7 +19,7 @@
 //! # What is not proved
 //!
 //! - That there is enough memory, and which limit suffices.
-//! - What `postscript_layout_write` leaves out: contexts, marks, device tables and feature variations.
+//! - What `postscript_layout_write` leaves out, such as contexts by glyphs or by classes, and device tables.
 #![tactic(auto)]
 
 mod closing;

@@ -204,7 +204,7 @@ fn cut(
 ///
 /// - `GDEF`, with the glyph classes, if the face has classes;
 /// - `GSUB`, with the chosen lookups, if the face has this table;
-/// - `GPOS`, with the kerning, if the face has this table and `kern` is among the features.
+/// - `GPOS`, with kerning and marks, if the face has this table and `kern`, `mark` or `mkmk` is among the features.
 ///
 /// If `choice.retain_gids` is set, glyphs keep their numbers. All lookups of `GSUB` are then chosen, and `GDEF`, `GSUB` and `GPOS`
 /// are copied as far as the face has them.

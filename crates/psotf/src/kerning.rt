@@ -1,5 +1,5 @@
 //! Layout tables in a subset with new glyph numbers. `GSUB` keeps the substitutions of the chosen features, `GPOS` the
-//! pair adjustments of the kept glyphs, and `GDEF` their classes.
+//! pair adjustments and the marks of the kept glyphs, and `GDEF` their classes.
 use crate::face::Face;
 use crate::failure::Failure;
 use crate::features::Features;
@@ -10,7 +10,7 @@ use crate::text::Text;
 use clap::ArgMatches;
 use postscript_base::index::number::number_within;
 use postscript_files::Given;
-use postscript_layout_write::{Error, glyph_classes, kerning, left_out, substitutions};
+use postscript_layout_write::{Error, glyph_classes, left_out, positions, substitutions};
 use postscript_write::kept_glyphs;
 use std::alloc::{AllocError, Global};
 
@@ -72,8 +72,9 @@ impl Kerning {
         }
     }
 
-    /// Adds the `GPOS` table, also if it has no pairs of these glyphs. Without it shapers place marks themselves.
-    fn put_pairs(
+    /// Adds the `GPOS` table, also if it has no pairs and no marks of these glyphs. Without it shapers place marks
+    /// themselves.
+    fn put_positions(
         &mut self,
         alloc: Global,
         face: &Face<'_>,
@@ -81,7 +82,7 @@ impl Kerning {
         left: &mut u64,
     ) -> Result<(), AllocError> {
         if let Some(gpos) = face.source.file.table(*b"GPOS") {
-            self.lost = self.put(*b"GPOS", kerning(alloc, gpos, glyphs, left))?;
+            self.lost = self.put(*b"GPOS", positions(alloc, gpos, glyphs, left))?;
         }
         Ok(())
     }
@@ -155,8 +156,8 @@ impl Kerning {
         kept.put_classes(alloc, face, &glyphs, &mut left)?;
         if kept.lost.is_none() {
             kept.put_substitutions(alloc, face, lookups, &glyphs, &mut left)?;
-            if features.has(*b"kern") {
-                kept.put_pairs(alloc, face, &glyphs, &mut left)?;
+            if features.has(*b"kern") || features.has(*b"mark") || features.has(*b"mkmk") {
+                kept.put_positions(alloc, face, &glyphs, &mut left)?;
             }
         }
         budget.left = left;
@@ -183,7 +184,7 @@ impl Kerning {
         telling::tell(
             rt,
             format_args!(
-                "GSUB lookups dropped (contexts, reverse chaining, classes or sets of marks):{list}"
+                "GSUB lookups dropped (contexts by glyphs or classes, reverse chaining, classes or sets of marks):{list}"
             ),
         )
     }
@@ -191,10 +192,10 @@ impl Kerning {
     /// Reports on standard error why kerning or substitutions are lost, and which lookups are left out.
     pub fn tell(&self, rt: &HostRuntime) -> Result<(), Failure> {
         if let Some(error) = &self.lost {
-            telling::tell(rt, format_args!("kerning is lost: {error}"))?;
+            telling::tell(rt, format_args!("kerning and marks are lost: {error}"))?;
         }
         if let Some(error) = &self.ligatures {
-            telling::tell(rt, format_args!("ligatures are lost: {error}"))?;
+            telling::tell(rt, format_args!("substitutions are lost: {error}"))?;
         }
         self.tell_left_out(rt)
     }
