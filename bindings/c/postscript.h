@@ -218,7 +218,16 @@ typedef struct psf_instance {
     int32_t postscript_name; /* the name ID of its PostScript name, or -1 */
 } psf_instance;
 
-/* Details of an error of psf_font_flat, psf_font_subset, psf_file_flat and psf_file_subset. */
+/* What became of the layout tables in psf_file_subset_layout. Each number is 0 if the face has no such table (for GDEF, also no glyph
+ * classes), 1 if the new file has it, 2 if none of its features is chosen, and otherwise the reason why it is lost: PSF_TOO_LARGE,
+ * PSF_TOO_LONG, or PSF_CUT_TABLE if its script and feature lists are truncated or too long. */
+typedef struct psf_layout {
+    int32_t gsub;
+    int32_t gpos;
+    int32_t gdef;
+} psf_layout;
+
+/* Details of an error of psf_font_flat, psf_font_subset, psf_file_flat, psf_file_subset and psf_file_subset_layout. */
 typedef struct psf_refusal {
     uint64_t glyph; /* the glyph of the error; 0 if there is none. On PSF_TOO_LARGE, 0 is .notdef or no glyph. On
                        PSF_NO_CHARACTER the character, on PSF_NO_TABLE and PSF_SAME_TAG the tag of the table */
@@ -330,6 +339,17 @@ int32_t psf_file_flat(const uint8_t *file, size_t length, size_t face, uint64_t 
 int32_t psf_file_subset(const uint8_t *file, size_t length, size_t face, const uint32_t *characters, size_t asked,
                         const size_t *glyphs, size_t named, const uint32_t *copied, size_t tables, uint32_t lenient,
                         uint32_t keeps, uint64_t limit, uint8_t *subset, size_t room, size_t *count, psf_refusal *refusal);
+
+/* The same with layout tables: GSUB, GPOS and GDEF are written for the glyphs of the new file. The substitutions of the features with
+ * the tags features[0..tags] are kept, or all substitutions if all is not 0, and also the glyphs that they can make of the others.
+ * Kerning and the positions of marks are kept if kern, mark or mkmk is among the features. If keeps is not 0, all features count,
+ * and the tables are copied. What is left out: docs/subsets.md.
+ * Sets *layout on PSF_OK and PSF_NO_ROOM: a table may be lost. The limit holds for the runs, and once more for the layout tables.
+ * Other errors: those of psf_file_subset; PSF_TOO_LONG also if the search for glyphs exceeds the limit. */
+int32_t psf_file_subset_layout(const uint8_t *file, size_t length, size_t face, const uint32_t *characters, size_t asked,
+                               const size_t *glyphs, size_t named, const uint32_t *copied, size_t tables, uint32_t lenient,
+                               uint32_t keeps, const uint32_t *features, size_t tags, uint32_t all, uint64_t limit,
+                               uint8_t *subset, size_t room, size_t *count, psf_layout *layout, psf_refusal *refusal);
 
 /* Writes the name of a glyph, without a terminating 0, to name[0..room]. The glyphs of a CID-keyed font have no names.
  * Sets *count to its length on PSF_OK and PSF_NO_ROOM. Other errors: PSF_NO_NAME, and from 1 to 15. */

@@ -36,20 +36,32 @@ import ctypes
 import enum
 import mmap
 import os
+import warnings
 from ctypes import POINTER, Structure, byref, c_char_p, c_int, c_int32, c_int64, c_size_t, c_ssize_t
 from ctypes import c_uint8, c_uint16, c_uint32, c_uint64, c_void_p
 from pathlib import Path
 from typing import Any, Callable, Dict, Iterable, Iterator, List, Mapping, NamedTuple, Optional, Protocol, Sequence, Tuple, Type, Union
 
 __all__ = [
-    "LIMIT", "VERSION", "Axis", "Bounds", "Buffer", "CharacterMap", "Error", "Font", "Glyph", "Instance", "Operation", "Pen", "Place",
-    "Point", "Segment", "SegmentPen", "Status", "VariableFont", "VariableGlyph", "WriteError", "draw", "faces", "version",
+    "FEATURES", "LIMIT", "VERSION", "Axis", "Bounds", "Buffer", "CharacterMap", "Error", "Font", "Glyph", "Instance", "LayoutWarning",
+    "Operation", "Pen", "Place", "Point", "Segment", "SegmentPen", "Status", "VariableFont", "VariableGlyph", "WriteError", "draw",
+    "faces", "version",
 ]  # fmt: skip
 
 __version__ = "0.3.0"
 
 #: The version of this module and of its library: major, minor and patch number.
 VERSION = (0, 3, 0)
+
+#: The layout features that a subset keeps by default: those that hb-subset 6.0.0 keeps.
+FEATURES: Tuple[str, ...] = tuple(
+    (
+        "rvrn ccmp liga locl mark mkmk rlig frac numr dnom calt clig curs kern rclt valt "
+        "vert vkrn vpal vrt2 ltra ltrm rtla rtlm rand jalt Harf HARF Buzz BUZZ init medi "
+        "fina isol med2 fin2 fin3 cswh mset stch ljmo vjmo tjmo nukt akhn rphf rkrf pref "
+        "blwf half abvf pstf cfar vatu cjct pres abvs blws psts haln dist abvm blwm"
+    ).split()
+)
 
 #: Objects that are read without a copy. Any other object with contiguous bytes works too.
 Buffer = Union[bytes, bytearray, memoryview, mmap.mmap]
@@ -214,6 +226,10 @@ class Error(Exception):
         return type(self), (int(self.status), str(self), self.glyph)
 
 
+class LayoutWarning(UserWarning):
+    """A layout table of a subset is lost, since it is too large, or costs more than the limit, or is malformed."""
+
+
 class WriteError(Error):
     """A font was not written. `glyph` is the glyph that caused it, or None, as for `Status.TOO_LARGE`. For `Status.REFUSED_GLYPH`, `cause` is the error of
     that glyph. `character` is the code point for `Status.NO_CHARACTER`, and `table` the tag for `Status.NO_TABLE` and `SAME_TAG`."""
@@ -311,6 +327,10 @@ class _Axis(Structure):
 
 class _Instance(Structure):
     _fields_ = [("name", c_uint32), ("flags", c_uint32), ("postscript_name", c_int32)]
+
+
+class _Layout(Structure):
+    _fields_ = [("gsub", c_int32), ("gpos", c_int32), ("gdef", c_int32)]
 
 
 class _Refusal(Structure):
@@ -424,6 +444,10 @@ for _name, _arguments in {
         _bytes, _size, _size, POINTER(c_uint32), _size, _sizes, _size, POINTER(c_uint32), _size, c_uint32, c_uint32, c_uint64, _room, _size,
         _sizes, POINTER(_Refusal),
     ],  # fmt: skip
+    "psf_file_subset_layout": [
+        _bytes, _size, _size, POINTER(c_uint32), _size, _sizes, _size, POINTER(c_uint32), _size, c_uint32, c_uint32, POINTER(c_uint32),
+        _size, c_uint32, c_uint64, _room, _size, _sizes, POINTER(_Layout), POINTER(_Refusal),
+    ],  # fmt: skip
     "psf_glyph_name": [_bytes, _size, _size, _room, _size, _sizes],
     "psf_font_identifiers": [_bytes, _size, POINTER(c_int32), _size, _sizes],
     "psf_font_string": [_bytes, _size, c_uint16, _room, _size, _sizes],
@@ -474,6 +498,19 @@ def _font_of(least: int, call: Callable[..., int]) -> bytes:
         if status != Status.NO_ROOM:
             raise WriteError(status, int(refusal.glyph), int(refusal.cause))
         room = count.value
+
+
+def _tags_of(tags: Iterable[str]) -> Any:
+    """Returns tags as big-endian numbers."""
+    numbers = [int.from_bytes(tag.encode("latin-1").ljust(4), "big") for tag in tags]
+    return (c_uint32 * len(numbers))(*numbers)
+
+
+def _tell_lost(layout: _Layout) -> None:
+    """Warns of layout tables that are lost."""
+    for tag, status in (("GSUB", layout.gsub), ("GPOS", layout.gpos), ("GDEF", layout.gdef)):
+        if status > 2:
+            warnings.warn(f"{tag} is lost: {_text_of(status)}", LayoutWarning, stacklevel=4)
 
 
 def _rows_of(cmap: _View) -> List[_Character]:
@@ -708,10 +745,14 @@ class Font:
         keep_numbers: bool = False,
         ignore_missing: bool = False,
         tables: Iterable[str] = ("OS/2", "head", "name"),
+        features: Union[str, Iterable[str], None] = FEATURES,
     ) -> bytes:
         """Returns a font file with only some characters and glyphs of this face: those of `text` and `unicodes`, and `glyphs` with all
         their characters. It also has `.notdef` and the components of `seac` glyphs. Each glyph is drawn, named and measured as before.
-        Kerning and ligatures are lost: the tables are those that every font needs, and copies of `tables`.
+        The file has the tables that every font needs, copies of `tables`, and layout tables: `GSUB` with the substitutions of
+        `features`, a list of tags or "*" for all; `GPOS` with kerning and marks; `GDEF`. The glyphs that these substitutions can make
+        are kept too. docs/subsets.md says what is left out. A layout table that is lost is told by a `LayoutWarning`. With None for
+        `features` there are no layout tables.
 
         Glyphs get new numbers in ascending order, unless `keep_numbers` is set. Raises `WriteError`: `Status.NO_CHARACTER` for a
         character without a glyph, unless `ignore_missing` is set; `NO_GLYPHS` if nothing is left; `NO_TABLE`, `NO_MAP`, `NO_ADVANCES`,
@@ -719,15 +760,20 @@ class Font:
         file."""
         file, limit = self._whole(), self._limit_of_all
         asked, numbers = [*map(ord, text), *unicodes], list(glyphs)
-        tags = [int.from_bytes(tag.encode("latin-1").ljust(4), "big") for tag in tables]
-        characters, named, copied = (c_uint32 * len(asked))(*asked), (c_size_t * len(numbers))(*numbers), (c_uint32 * len(tags))(*tags)
-        return _font_of(
+        characters, named, copied = (c_uint32 * len(asked))(*asked), (c_size_t * len(numbers))(*numbers), _tags_of(tables)
+        choice = (
+            *file.told, self._face, characters, len(asked), named, len(numbers), copied, len(copied), int(ignore_missing),
+            int(keep_numbers),
+        )  # fmt: skip
+        if features is None:
+            return _font_of(len(file) + 1024, lambda *lent: _library.psf_file_subset(*choice, limit, *lent))
+        tags, every, layout = _tags_of(() if features == "*" else features), int(features == "*"), _Layout()
+        written = _font_of(
             len(file) + 1024,
-            lambda *lent: _library.psf_file_subset(
-                *file.told, self._face, characters, len(asked), named, len(numbers), copied, len(tags), int(ignore_missing),
-                int(keep_numbers), limit, *lent
-            ),  # fmt: skip
+            lambda *lent: _library.psf_file_subset_layout(*choice, tags, len(tags), every, limit, *lent[:3], byref(layout), lent[3]),
         )
+        _tell_lost(layout)
+        return written
 
     def glyph_of(self, character: str) -> Glyph:
         """Returns the glyph of a character, or glyph 0. Raises `Status.NO_MAP`."""

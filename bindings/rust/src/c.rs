@@ -73,6 +73,15 @@ pub struct Character {
     pub glyph: u32,
 }
 
+/// `psf_layout`.
+#[repr(C)]
+#[derive(Clone, Copy, Debug, Default)]
+pub struct Layout {
+    pub gsub: i32,
+    pub gpos: i32,
+    pub gdef: i32,
+}
+
 /// `psf_operation`.
 #[repr(C)]
 #[derive(Clone, Copy, Debug, Default)]
@@ -232,6 +241,28 @@ extern "C" {
         subset: *mut u8,
         room: usize,
         count: *mut usize,
+        refusal: *mut Refusal,
+    ) -> i32;
+    fn psf_file_subset_layout(
+        file: *const u8,
+        length: usize,
+        face: usize,
+        characters: *const u32,
+        asked: usize,
+        glyphs: *const usize,
+        named: usize,
+        copied: *const u32,
+        tables: usize,
+        lenient: u32,
+        keeps: u32,
+        features: *const u32,
+        tags: usize,
+        all: u32,
+        limit: u64,
+        subset: *mut u8,
+        room: usize,
+        count: *mut usize,
+        layout: *mut Layout,
         refusal: *mut Refusal,
     ) -> i32;
     fn psf_glyph_name(
@@ -641,6 +672,8 @@ pub struct Choice {
     pub copied: Vec<u32>,
     pub lenient: bool,
     pub keeps: bool,
+    pub features: Vec<u32>,
+    pub all: bool,
 }
 
 pub fn file_subset(
@@ -669,4 +702,38 @@ pub fn file_subset(
             refusal,
         )
     })
+}
+
+pub fn file_subset_layout(
+    file: &[u8],
+    face: usize,
+    choice: &Choice,
+    limit: u64,
+) -> core::result::Result<(Vec<u8>, Layout), (Error, Refusal)> {
+    let mut layout = Layout::default();
+    let bytes = written(file.len() + 1024, |room, count, refusal| unsafe {
+        psf_file_subset_layout(
+            file.as_ptr(),
+            file.len(),
+            face,
+            choice.characters.as_ptr(),
+            choice.characters.len(),
+            choice.glyphs.as_ptr(),
+            choice.glyphs.len(),
+            choice.copied.as_ptr(),
+            choice.copied.len(),
+            choice.lenient.into(),
+            choice.keeps.into(),
+            choice.features.as_ptr(),
+            choice.features.len(),
+            choice.all.into(),
+            limit,
+            room.as_mut_ptr(),
+            room.len(),
+            count,
+            &mut layout,
+            refusal,
+        )
+    })?;
+    Ok((bytes, layout))
 }

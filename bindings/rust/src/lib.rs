@@ -44,7 +44,7 @@ pub use error::{Error, Result};
 pub use operation::Operation;
 pub use outline::{Bounds, Glyph, Outline, OutlineSink, Point, Segment};
 pub use variable::{Axis, Instance, Place, VariableFont};
-pub use write::{SubsetFile, WriteError};
+pub use write::{FEATURES, Layout, LayoutTable, SubsetFile, WriteError};
 
 /// Returns the version of the linked library: major, minor and patch number.
 ///

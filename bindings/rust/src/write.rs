@@ -23,6 +23,75 @@ pub struct SubsetFile<'f> {
     face: usize,
     limit: u64,
     choice: c::Choice,
+    has_layout: bool,
+}
+
+/// The layout features that a subset keeps by default: those that `hb-subset` 6.0.0 keeps.
+///
+/// ```
+/// assert!(postscript::FEATURES.contains(b"liga"));
+/// ```
+pub const FEATURES: &[[u8; 4]] = &[
+    *b"rvrn", *b"ccmp", *b"liga", *b"locl", *b"mark", *b"mkmk", *b"rlig", *b"frac",
+    *b"numr", *b"dnom", *b"calt", *b"clig", *b"curs", *b"kern", *b"rclt", *b"valt",
+    *b"vert", *b"vkrn", *b"vpal", *b"vrt2", *b"ltra", *b"ltrm", *b"rtla", *b"rtlm",
+    *b"rand", *b"jalt", *b"Harf", *b"HARF", *b"Buzz", *b"BUZZ", *b"init", *b"medi",
+    *b"fina", *b"isol", *b"med2", *b"fin2", *b"fin3", *b"cswh", *b"mset", *b"stch",
+    *b"ljmo", *b"vjmo", *b"tjmo", *b"nukt", *b"akhn", *b"rphf", *b"rkrf", *b"pref",
+    *b"blwf", *b"half", *b"abvf", *b"pstf", *b"cfar", *b"vatu", *b"cjct", *b"pres",
+    *b"abvs", *b"blws", *b"psts", *b"haln", *b"dist", *b"abvm", *b"blwm",
+];
+
+/// What became of a layout table of a subset.
+///
+/// ```
+/// # let bytes = std::fs::read("examples/whole.otf")?;
+/// # let font = postscript::Font::from_file(&bytes, 0)?;
+/// let (_file, layout) = font.subset_file().text("A").write_with_layout()?;
+/// assert_eq!(layout.gsub, postscript::LayoutTable::Absent);
+/// # Ok::<(), Box<dyn std::error::Error>>(())
+/// ```
+#[derive(Clone, Copy, Debug, PartialEq, Eq, Hash)]
+pub enum LayoutTable {
+    /// The face has no such table, or no glyph classes in its `GDEF` table.
+    Absent,
+    /// The file has it.
+    Kept,
+    /// None of its features is chosen.
+    NotChosen,
+    /// It is lost: [`Error::TooLarge`], [`Error::TooLong`] or [`Error::CutTable`].
+    Lost(Error),
+}
+
+impl LayoutTable {
+    /// The table of a number of `psf_layout`.
+    fn of(status: i32) -> LayoutTable {
+        match status {
+            0 => LayoutTable::Absent,
+            1 => LayoutTable::Kept,
+            2 => LayoutTable::NotChosen,
+            status => LayoutTable::Lost(Error::of(status)),
+        }
+    }
+}
+
+/// What became of the layout tables of a subset.
+///
+/// ```
+/// # let bytes = std::fs::read("examples/whole.otf")?;
+/// # let font = postscript::Font::from_file(&bytes, 0)?;
+/// let (_file, layout) = font.subset_file().text("A").write_with_layout()?;
+/// assert_eq!(layout.gpos, postscript::LayoutTable::Absent);
+/// # Ok::<(), Box<dyn std::error::Error>>(())
+/// ```
+#[derive(Clone, Copy, Debug, PartialEq, Eq, Hash)]
+pub struct Layout {
+    /// Substitutions.
+    pub gsub: LayoutTable,
+    /// Kerning and the positions of marks.
+    pub gpos: LayoutTable,
+    /// Glyph classes.
+    pub gdef: LayoutTable,
 }
 
 /// The tag of a table as a number.
@@ -34,7 +103,9 @@ impl<'f> SubsetFile<'f> {
     /// A subset of a face without characters and glyphs, and with copies of `OS/2`, `head` and `name`.
     pub(crate) fn of(file: Option<&'f [u8]>, face: usize, limit: u64) -> SubsetFile<'f> {
         let copied = [b"OS/2", b"head", b"name"].map(tag).to_vec();
-        SubsetFile { file, face, limit, choice: c::Choice { copied, ..Default::default() } }
+        let features = FEATURES.iter().map(tag).collect();
+        let choice = c::Choice { copied, features, ..Default::default() };
+        SubsetFile { file, face, limit, choice, has_layout: true }
     }
 
     /// Adds the characters of a text.
@@ -118,7 +189,48 @@ impl<'f> SubsetFile<'f> {
         self
     }
 
-    /// Writes the file. Each glyph is drawn, named and measured as before. Kerning and ligatures are lost.
+    /// Sets which layout features are kept: their substitutions, and kerning and marks if `kern`, `mark` or `mkmk` is among
+    /// them. The default is [`FEATURES`].
+    ///
+    /// ```
+    /// # let bytes = std::fs::read("examples/whole.otf")?;
+    /// # let font = postscript::Font::from_file(&bytes, 0)?;
+    /// assert!(font.subset_file().text("A").features(&[*b"liga", *b"kern"]).write().is_ok());
+    /// # Ok::<(), Box<dyn std::error::Error>>(())
+    /// ```
+    pub fn features(mut self, tags: &[[u8; 4]]) -> Self {
+        self.choice.features = tags.iter().map(tag).collect();
+        self
+    }
+
+    /// Keeps all layout features.
+    ///
+    /// ```
+    /// # let bytes = std::fs::read("examples/whole.otf")?;
+    /// # let font = postscript::Font::from_file(&bytes, 0)?;
+    /// assert!(font.subset_file().text("A").all_features().write().is_ok());
+    /// # Ok::<(), Box<dyn std::error::Error>>(())
+    /// ```
+    pub fn all_features(mut self) -> Self {
+        self.choice.all = true;
+        self
+    }
+
+    /// Drops the layout tables: there is no kerning, and there are no ligatures.
+    ///
+    /// ```
+    /// # let bytes = std::fs::read("examples/whole.otf")?;
+    /// # let font = postscript::Font::from_file(&bytes, 0)?;
+    /// assert!(font.subset_file().text("A").without_layout().write().is_ok());
+    /// # Ok::<(), Box<dyn std::error::Error>>(())
+    /// ```
+    pub fn without_layout(mut self) -> Self {
+        self.has_layout = false;
+        self
+    }
+
+    /// Writes the file. Each glyph is drawn, named and measured as before. A layout table may be lost:
+    /// [`SubsetFile::write_with_layout`] tells this.
     ///
     /// ```
     /// # let bytes = std::fs::read("examples/whole.otf")?;
@@ -137,8 +249,33 @@ impl<'f> SubsetFile<'f> {
     /// [`Font::subset`]: crate::Font::subset
     /// [`Font::from_file`]: crate::Font::from_file
     pub fn write(&self) -> Result<Vec<u8>, WriteError> {
+        if self.has_layout {
+            return self.write_with_layout().map(|(file, _)| file);
+        }
         let file = self.file.unwrap_or_default();
         c::file_subset(file, self.face, &self.choice, self.limit).map_err(WriteError::of)
+    }
+
+    /// Writes the file with layout tables, and tells what became of them.
+    ///
+    /// ```
+    /// # let bytes = std::fs::read("examples/whole.otf")?;
+    /// # let font = postscript::Font::from_file(&bytes, 0)?;
+    /// let (file, layout) = font.subset_file().text("A").write_with_layout()?;
+    /// assert_eq!(layout.gdef, postscript::LayoutTable::Absent);
+    /// assert!(postscript::Font::from_file(&file, 0).is_ok());
+    /// # Ok::<(), Box<dyn std::error::Error>>(())
+    /// ```
+    ///
+    /// # Errors
+    ///
+    /// Those of [`SubsetFile::write`].
+    pub fn write_with_layout(&self) -> Result<(Vec<u8>, Layout), WriteError> {
+        let file = self.file.unwrap_or_default();
+        let (bytes, told) = c::file_subset_layout(file, self.face, &self.choice, self.limit)
+            .map_err(WriteError::of)?;
+        let [gsub, gpos, gdef] = [told.gsub, told.gpos, told.gdef].map(LayoutTable::of);
+        Ok((bytes, Layout { gsub, gpos, gdef }))
     }
 }
 

@@ -1,5 +1,5 @@
 -- The result of a call that writes a font file with layout tables.
-use Rattle.std.specs.Prelude.{◌≡◌, ◌≢◌, ◌⊎◌, ◌≤◌, ℕ, ℤ, pos, List, Result, Ok, Err, IfOk, IfErr}
+use Rattle.std.specs.Prelude.{◌≡◌, ◌≢◌, ◌⊎◌, ◌≤◌, ℕ, ℤ, pos, List, true, false, Result, Ok, Err, IfOk, IfErr}
 use Rattle.postscript_c.specs.Texts.{HandsOver, Lent}
 use Rattle.postscript_c.specs.WholeFiles.{IsBeyond, IsChoice, RunsEnd, whole_code, whole_refusal}
 use Rattle.postscript_c.specs.Written.{refusal}
@@ -7,7 +7,7 @@ use Rattle.postscript_c.specs.declared.layouts.PsfLayout.{PsfLayout}
 use Rattle.postscript_c.specs.declared.written.PsfRefusal.{PsfRefusal}
 use Rattle.postscript_files.specs.declared.choice.Choice.{Choice}
 use Rattle.postscript_layout_write.specs.declared.error.Error.TheVariants as faults
-use Rattle.postscript_subset.specs.Subsets.{IsCutWithLayout, NoCutWithLayout}
+use Rattle.postscript_subset.specs.Subsets.{IsCutInPlace, IsCutWithLayout, NoCutWithLayout}
 use Rattle.postscript_subset.specs.declared.error.Error.{Error}
 use Rattle.postscript_subset.specs.declared.error.Error.TheVariants.{File, LargeGlyph, TooLong}
 use Rattle.postscript_subset.specs.declared.features.Features.{Features}
@@ -63,7 +63,8 @@ pub record IsLaidOutBy (choice : Choice) (tags : List ℕ) (all limit : ℕ) (by
   pub are : IsFeatures tags all features
   pub left : ℕ
   pub spends : left ≤ limit
-  pub subset : IfOk answer (λ subset. IsCutWithLayout choice features bytes face left subset)
+  pub subset : choice.retain_gids ≡ false → IfOk answer (λ subset. IsCutWithLayout choice features bytes face left subset)
+  pub in_place : choice.retain_gids ≡ true → IfOk answer (λ subset. IsCutInPlace choice features bytes face subset)
   pub refused : IfErr answer (λ e. NoCutWithLayout choice features bytes face left e)
 
 abbrev pub IsLaidOutFile : (chars glyphs copied : List ℕ) (lenient keeps : ℕ) (tags : List ℕ) (all limit : ℕ) (bytes : List ℕ) (face : ℕ)
