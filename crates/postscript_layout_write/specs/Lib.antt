@@ -21,4 +21,6 @@ pub mod Leaving
 pub mod Marks
 pub mod Ligatures
 pub mod Positions
+pub mod Flags
+pub mod Scopes
 pub mod Attaching
