@@ -21,3 +21,5 @@ pub mod MarkWriting
 pub mod MarkReading
 pub mod MarkKept
 pub mod PositionKept
+pub mod DefinitionSets
+pub mod DefinitionsKept

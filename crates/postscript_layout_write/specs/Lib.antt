@@ -24,3 +24,5 @@ pub mod Positions
 pub mod Flags
 pub mod Scopes
 pub mod Attaching
+pub mod Definitions
+pub mod MarkSets

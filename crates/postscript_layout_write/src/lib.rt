@@ -35,6 +35,7 @@
 mod anchors;
 mod cells;
 mod classes;
+mod definitions;
 mod entries;
 mod error;
 mod leaving;
@@ -58,6 +59,7 @@ mod tests;
 mod values;
 
 pub use classes::glyph_classes;
+pub use definitions::glyph_definitions;
 pub use error::{Error, Result};
 pub use leaving::left_out;
 pub use positioning::{flagged_positions, kerning, positions};
