@@ -1,10 +1,10 @@
 -- Mark glyph sets that are collected.
-use Rattle.std.proofs.Common.{◌≡◌, refl, sym, ap, subst, ◌∙◌, inl, inr, ℕ, ◌+◌, ◌*◌, ◌≤◌, ◌<◌, List, [], ◌∷◌, ◌++◌, length, length-append, get_or, arith, true, false}
+use Rattle.std.proofs.Common.{◌≡◌, refl, sym, ap, subst, ◌∙◌, inl, inr, ℕ, ◌+◌, ◌*◌, ◌<◌, List, [], ◌∷◌, ◌++◌, length, length-append, get_or, arith, true, false}
 use Rattle.std.specs.List.{Contains}
-use Rattle.std.proofs.lemmas.List.{get_or_append_left, get_or_push}
+use Rattle.std.proofs.lemmas.List.{get_or_append_left}
 use Rattle.std.proofs.lemmas.List.Elements.{Contains-append_left, Contains-push}
 use Rattle.postscript_layout_write.specs.Definitions.{in_set}
-use Rattle.postscript_layout_write.specs.MarkSets.{AreMarkSets, AreMembers, HasMembers, HasSet, PutsMembers}
+use Rattle.postscript_layout_write.specs.MarkSets.{AreMarkSets, AreMembers, HasMembers, PutsMembers}
 use Rattle.postscript_layout_write.proofs.Firsts.{nat_cases}
 use Rattle.postscript_layout_write.proofs.Holding.{holds-on}
 use Rattle.postscript_layout_write.proofs.Lists.{push-each}

@@ -1,6 +1,6 @@
 -- Glyph definitions that were written are read as they were.
 use Rattle.std.proofs.Common.{◌≡◌, refl, sym, ap, subst, ◌∙◌, inl, inr, ℕ, zero, suc, ◌+◌, ◌-◌, ◌*◌, ◌≤◌, ◌<◌, ◌==◌, ◌&&◌, List, [], ◌∷◌, ◌++◌, length, length-append, get_or, take, drop, arith, add-one, Bool, true, false}
-use Rattle.std.specs.Prelude.{Option, None, Some, is_some, nat_le, nat_lt, if◌then◌else◌}
+use Rattle.std.specs.Prelude.{Option, is_some, nat_le, nat_lt, if◌then◌else◌}
 use Rattle.std.proofs.lemmas.Bool.{eq-eqb, le-leb, le-ltb, lt-ltb, ne_eqb}
 use Rattle.std.proofs.lemmas.List.{append_assoc}
 use Rattle.std.proofs.lemmas.Nat.{from_be_bytes-to_be_bytes_2}
@@ -13,7 +13,7 @@ use Rattle.postscript_layout_write.specs.Definitions.{KeepsDefinitions, covers, 
 use Rattle.postscript_layout_write.specs.Holds.{Holds}
 use Rattle.postscript_layout_write.specs.MarkSets.{AreMarkClasses, AreMarkSets, AreMembers, definitions_text}
 use Rattle.postscript_layout_write.specs.Ranges.{class_in, class_of, coverage_index, listed_class, range_of}
-use Rattle.postscript_layout_write.specs.Text.{array_text, coverage_text, uint16}
+use Rattle.postscript_layout_write.specs.Text.{array_text, uint16}
 use Rattle.postscript_layout_write.proofs.Firsts.{nat_cases}
 use Rattle.postscript_layout_write.proofs.Holding.{holds-array, holds-first, holds-in, holds-second, holds-whole, length-array, length-uint16}
 use Rattle.postscript_layout_write.proofs.MarkReading.{coverage-read}

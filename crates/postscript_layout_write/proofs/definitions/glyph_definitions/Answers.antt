@@ -1,6 +1,6 @@
-use Rattle.std.proofs.Common.{◌≡◌, ◌+◌, ◌*◌, ◌++◌, ◌∷◌, [], ◌∙◌, ap, sym, subst, arith, ℕ, List, length, rules}
+use Rattle.std.proofs.Common.{◌≡◌, ◌+◌, ◌*◌, ◌++◌, ◌∷◌, [], ◌∙◌, ap, subst, arith, ℕ, List, length}
 use Rattle.postscript_layout_write.specs.Definitions.{sets_of}
-use Rattle.postscript_layout_write.specs.MarkSets.{AreMarkSets, definitions_text}
+use Rattle.postscript_layout_write.specs.MarkSets.{AreMarkSets}
 use Rattle.postscript_layout_write.specs.Text.{array_text}
 use Rattle.postscript_layout_write.proofs.DefinitionsKept.{definitions-joined, keeps-definitions}
 use Rattle.postscript_layout_write.proofs.definitions.glyph_definitions.Goals as goal

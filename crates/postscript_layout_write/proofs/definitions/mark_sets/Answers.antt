@@ -1,4 +1,4 @@
-use Rattle.std.proofs.Common.{◌≡◌, ◌+◌, ◌<◌, ◌++◌, ◌∷◌, [], ◌∙◌, ap, subst, arith, ℕ, List, length, rules}
+use Rattle.std.proofs.Common.{◌≡◌, ◌+◌, ◌<◌, ◌++◌, ◌∷◌, [], ◌∙◌, ap, subst, arith, length, rules}
 use Rattle.postscript_layout_write.proofs.DefinitionSets.{sets-more}
 use Rattle.postscript_layout_write.proofs.definitions.mark_sets.Goals as goal
 

@@ -1,4 +1,4 @@
-use Rattle.std.proofs.Common.{◌≡◌, ◌+◌, ◌++◌, ◌∷◌, [], ◌∙◌, ap, sym, subst, arith, ℕ, List, Vec, Global}
+use Rattle.std.proofs.Common.{◌+◌, ◌∙◌, ap, sym, subst, arith, ℕ, List}
 use Rattle.postscript_layout_write.specs.MarkSets.{AreMembers}
 use Rattle.postscript_layout_write.proofs.DefinitionSets.{members-less, members-more}
 use Rattle.postscript_layout_write.proofs.definitions.members_of.Goals.{then-is+in_ok-push, else-is}
