@@ -1,6 +1,6 @@
-//! Writes OpenType layout tables for the glyphs of a subset, which have new numbers (OpenType 1.9; ISO/IEC 14496-22, 6):
-//! a `GPOS` table with pair adjustments (kerning) and with marks, a `GDEF` table with glyph classes and with sets of marks,
-//! and a `GSUB` table with substitutions.
+//! Writes OpenType layout tables for the glyphs of a subset, which have new numbers (OpenType 1.9; ISO/IEC 14496-22, 6). A
+//! `GPOS` table has pair adjustments (kerning) and marks. A `GDEF` table has glyph classes, and classes and sets of marks. A
+//! `GSUB` table has substitutions.
 //!
 //! It is proved that each lookup of the new `GPOS` table adjusts each pair of kept glyphs exactly as the lookup of the
 //! same index of the old table, and no other pair (`KeepsKerning` in specs/Kerning.antt). The first subtable that applies

@@ -310,9 +310,9 @@ pub fn kerning(alloc: Global, gpos: &[u8], kept: &[u16], limit: &mut u64) -> Res
 /// 6, also by extensions) keeps its type, and has a subtable for each old one. All other lookups have no subtables, and
 /// neither has a lookup with a flag above bit 3.
 ///
-/// Units of the limit are paid as by `kerning`. In a lookup of marks, one unit is paid for each subtable, twice for each
-/// kept glyph in a subtable, for each class of marks of a base or of a component, and for each covered glyph and range
-/// that is looked at.
+/// Units of the limit are paid as by `kerning`. In a lookup of marks, two units are paid for each kept glyph in a subtable.
+/// One is paid for each subtable, each class of marks of a base or of a component, and each covered glyph and range that
+/// is looked at.
 ///
 /// # Errors
 ///
