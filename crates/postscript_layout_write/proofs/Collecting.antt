@@ -1,5 +1,5 @@
 -- Sets, subtables and lookups that are collected.
-use Rattle.std.proofs.Common.{◌≡◌, refl, sym, ap, subst, ◌∙◌, inl, inr, ℕ, ◌+◌, ◌*◌, ◌%◌, ◌≤◌, ◌<◌, ◌&&◌, List, [], ◌∷◌, ◌++◌, length, length-append, get_or, arith, Bool, true, false}
+use Rattle.std.proofs.Common.{◌≡◌, refl, sym, ap, subst, ◌∙◌, inl, inr, ℕ, ◌+◌, ◌*◌, ◌≤◌, ◌<◌, ◌&&◌, List, [], ◌∷◌, ◌++◌, length, length-append, get_or, arith, Bool, true, false}
 use Rattle.std.specs.Prelude.{None, Some, nat_lt, if◌then◌else◌}
 use Rattle.std.specs.List.{All, Contains}
 use Rattle.std.proofs.lemmas.Bool.{le-ltb, lt-ltb}
@@ -7,12 +7,12 @@ use Rattle.std.proofs.lemmas.List.{get_or_append_left, get_or_push}
 use Rattle.std.proofs.lemmas.List.Elements.{All-contains, All-weaker, Contains-append_left, Contains-push}
 use Rattle.postscript_layout.specs.Numbers.{word}
 use Rattle.postscript_layout_write.specs.Attaching.{AddsMarks}
-use Rattle.postscript_layout_write.specs.Entries.{AreEntries, entry, form_of, kept_by}
+use Rattle.postscript_layout_write.specs.Entries.{AreEntries, entry, form_of}
 use Rattle.postscript_layout_write.specs.Holds.{Holds}
-use Rattle.postscript_layout_write.specs.Kerning.{kept_pair}
+use Rattle.postscript_layout_write.specs.Flags.{set_of}
 use Rattle.postscript_layout_write.specs.Lookups.{AddsForms, AddsPosition, AreForms, HasLookup, HasLookups, HasPosition, PutsLookup, has_marks, has_pairs}
 use Rattle.postscript_layout_write.specs.Pairs.{lookup_at}
-use Rattle.postscript_layout_write.specs.Positions.{keeps_marks}
+use Rattle.postscript_layout_write.specs.Scopes.{mark_set_text, new_flag, new_pair, pair_by, takes_marks}
 use Rattle.postscript_layout_write.specs.Sets.{Adds, AddsSubtable, AreOffsets, AreSets, HasSet, HasSubtable, no_pairs, some_pairs, no_subtable, one_subtable}
 use Rattle.postscript_layout_write.specs.Text.{AreOfForm, EntryFits, lookup_text, set_text, subtable_text}
 use Rattle.postscript_layout_write.specs.Values.{nothing}
@@ -20,10 +20,11 @@ use Rattle.postscript_layout_write.specs.declared.entries.Entry.{Entry}
 use Rattle.postscript_layout_write.specs.declared.entries.Form.{Form}
 use Rattle.postscript_layout_write.specs.declared.entries.Form.TheVariants.{Advance, First, Both}
 use Rattle.postscript_layout_write.specs.declared.positioning.Forms.{Forms}
+use Rattle.postscript_layout_write.specs.declared.scope.Scope.{Scope}
 use Rattle.postscript_layout_write.specs.declared.subtables.Sets.{Sets}
 use Rattle.postscript_layout_write.specs.declared.values.Adjustment.{Adjustment}
 use Rattle.postscript_layout_write.proofs.Firsts.{nat_cases}
-use Rattle.postscript_layout_write.proofs.Holding.{holds-last, holds-on}
+use Rattle.postscript_layout_write.proofs.Holding.{holds-last, holds-on, holds-whole}
 use Rattle.postscript_layout_write.proofs.Listing.{entries-as}
 use Rattle.postscript_layout_write.proofs.Lists.{push-each}
 use Rattle.postscript_layout_write.proofs.MarkWriting.{marks-on}
@@ -220,20 +221,30 @@ module _ (f : (x y : ℕ) → Adjustment) (n : ℕ) (bounded : (x y : ℕ) → n
   one-more form sets old new oldoffsets newoffsets (one_subtable fit few a b) =
       let same = ap length b in omega (arith, same, length-append oldoffsets (length old ∷ []))
 
-  pub lookup-made : (flag : ℕ) (forms : Forms) (old new : List ℕ) → PutsLookup flag forms old new → AreForms f n forms → HasLookup flag f new (length old)
+  more-bytes : (form : Form) (sets : Sets) (old new oldoffsets newoffsets text : List ℕ) → AddsSubtable form sets old new oldoffsets newoffsets →
+      Holds text old 0 → Holds text new 0
+  more-bytes form sets old new oldoffsets newoffsets text (no_subtable a b c) h = subst (λ (xs : List ℕ). Holds text xs 0) (sym b) h
+  more-bytes form sets old new oldoffsets newoffsets text (one_subtable fit few a b) h = subst (λ (xs : List ℕ). Holds text xs 0) (sym a) (holds-on _ h)
+
+  pub lookup-made : (flag set : ℕ) (forms : Forms) (old new : List ℕ) → PutsLookup flag set forms old new → AreForms f n forms →
+      HasLookup flag set f new (length old)
   unfolding Each There
-  lookup-made flag forms old new p are = record {
+  lookup-made flag set forms old new p are = record {
     offsets = p.offsets;
     subtables = p.bytes;
     each = each-more Both forms.both p.bytes2 p.bytes p.offsets2 p.offsets p.both are.both
         (each-more First forms.first p.bytes1 p.bytes2 p.offsets1 p.offsets2 p.first are.first
-        (each-more Advance forms.advance [] p.bytes1 [] p.offsets1 p.advance are.advance (λ j less. absurd (omega (arith, less)))));
+        (each-more Advance forms.advance (mark_set_text flag set) p.bytes1 [] p.offsets1 p.advance are.advance (λ j less. absurd (omega (arith, less)))));
     all = λ form. by form;
-    few = (let a = one-more Advance forms.advance [] p.bytes1 [] p.offsets1 p.advance in
+    few = (let a = one-more Advance forms.advance (mark_set_text flag set) p.bytes1 [] p.offsets1 p.advance in
         let b = one-more First forms.first p.bytes1 p.bytes2 p.offsets1 p.offsets2 p.first in
         let c = one-more Both forms.both p.bytes2 p.bytes p.offsets2 p.offsets p.both in omega (arith, a, b, c));
     fit = p.fit;
     small = p.small;
+    set_small = p.set_small;
+    begins = more-bytes Both forms.both p.bytes2 p.bytes p.offsets2 p.offsets (mark_set_text flag set) p.both
+        (more-bytes First forms.first p.bytes1 p.bytes2 p.offsets1 p.offsets2 (mark_set_text flag set) p.first
+        (more-bytes Advance forms.advance (mark_set_text flag set) p.bytes1 [] p.offsets1 (mark_set_text flag set) p.advance (holds-whole (mark_set_text flag set))));
     there = subst (λ (xs : List ℕ). Holds (lookup_text flag p.offsets p.bytes) xs (length old)) (sym p.text)
         (holds-last old (lookup_text flag p.offsets p.bytes));
   }
@@ -241,43 +252,39 @@ module _ (f : (x y : ℕ) → Adjustment) (n : ℕ) (bounded : (x y : ℕ) → n
       by : (form : Form) → There form p.offsets p.bytes
       by Advance = there-on Both Advance forms.both p.bytes2 p.bytes p.offsets2 p.offsets p.both
           (there-on First Advance forms.first p.bytes1 p.bytes2 p.offsets1 p.offsets2 p.first
-          (there-new Advance forms.advance [] p.bytes1 [] p.offsets1 p.advance are.advance))
+          (there-new Advance forms.advance (mark_set_text flag set) p.bytes1 [] p.offsets1 p.advance are.advance))
       by First = there-on Both First forms.both p.bytes2 p.bytes p.offsets2 p.offsets p.both
           (there-new First forms.first p.bytes1 p.bytes2 p.offsets1 p.offsets2 p.first are.first)
       by Both = there-new Both forms.both p.bytes2 p.bytes p.offsets2 p.offsets p.both are.both
 
 -- pairs of kept glyphs
-pub pair-kept : (gpos kept : List ℕ) (lookup x y : ℕ) → x < length kept → y < length kept →
-    kept_by gpos lookup (get_or kept x 0) (get_or kept y 0) ≡ kept_pair gpos kept lookup x y
-pair-kept gpos kept lookup x y a b =
-    sym (ap (λ (t : Bool). if t && nat_lt y (length kept) then kept_by gpos lookup (get_or kept x 0) (get_or kept y 0) else nothing) (lt-ltb x (length kept) a)
-    ∙ ap (λ (t : Bool). if t then kept_by gpos lookup (get_or kept x 0) (get_or kept y 0) else nothing) (lt-ltb y (length kept) b))
-
-and-second : (a b : Bool) → (a && b) ≡ true → b ≡ true
-and-second true b is = is
-and-second false b is = absurd (cc)
+pub pair-kept : (scope : Scope) (gpos kept : List ℕ) (lookup x y : ℕ) → x < length kept → y < length kept →
+    pair_by scope gpos lookup (get_or kept x 0) (get_or kept y 0) ≡ new_pair scope gpos kept lookup x y
+pair-kept scope gpos kept lookup x y a b =
+    sym (ap (λ (t : Bool). if t && nat_lt y (length kept) then pair_by scope gpos lookup (get_or kept x 0) (get_or kept y 0) else nothing) (lt-ltb x (length kept) a)
+    ∙ ap (λ (t : Bool). if t then pair_by scope gpos lookup (get_or kept x 0) (get_or kept y 0) else nothing) (lt-ltb y (length kept) b))
 
 and-false : (b : Bool) → (b && false) ≡ false
 and-false true = refl
 and-false false = refl
 
-pub pair-far : (gpos kept : List ℕ) (lookup x y : ℕ) → length kept ≤ y → kept_pair gpos kept lookup x y ≡ nothing
-pair-far gpos kept lookup x y far =
-    ap (λ (t : Bool). if nat_lt x (length kept) && t then kept_by gpos lookup (get_or kept x 0) (get_or kept y 0) else nothing) (le-ltb y (length kept) far)
-    ∙ ap (λ (t : Bool). if t then kept_by gpos lookup (get_or kept x 0) (get_or kept y 0) else nothing) (and-false (nat_lt x (length kept)))
+pub pair-far : (scope : Scope) (gpos kept : List ℕ) (lookup x y : ℕ) → length kept ≤ y → new_pair scope gpos kept lookup x y ≡ nothing
+pair-far scope gpos kept lookup x y far =
+    ap (λ (t : Bool). if nat_lt x (length kept) && t then pair_by scope gpos lookup (get_or kept x 0) (get_or kept y 0) else nothing) (le-ltb y (length kept) far)
+    ∙ ap (λ (t : Bool). if t then pair_by scope gpos lookup (get_or kept x 0) (get_or kept y 0) else nothing) (and-false (nat_lt x (length kept)))
 
-pub first-far : (gpos kept : List ℕ) (lookup x y : ℕ) → length kept ≤ x → kept_pair gpos kept lookup x y ≡ nothing
-first-far gpos kept lookup x y far =
-    ap (λ (t : Bool). if t && nat_lt y (length kept) then kept_by gpos lookup (get_or kept x 0) (get_or kept y 0) else nothing) (le-ltb x (length kept) far)
+pub first-far : (scope : Scope) (gpos kept : List ℕ) (lookup x y : ℕ) → length kept ≤ x → new_pair scope gpos kept lookup x y ≡ nothing
+first-far scope gpos kept lookup x y far =
+    ap (λ (t : Bool). if t && nat_lt y (length kept) then pair_by scope gpos lookup (get_or kept x 0) (get_or kept y 0) else nothing) (le-ltb x (length kept) far)
 
-pub forms-more : (gpos kept : List ℕ) (lookup x : ℕ) (es : List Entry) (old new : Forms) → x < length kept → length kept < 65536 →
-    AreEntries (λ y. kept_by gpos lookup (get_or kept x 0) (get_or kept y 0)) (length kept) es → AddsForms x es old new →
-    AreForms (kept_pair gpos kept lookup) x old → AreForms (kept_pair gpos kept lookup) (x + 1) new
-forms-more gpos kept lookup x es old new less few entries adds are =
-    let f : ℕ → ℕ → Adjustment = kept_pair gpos kept lookup in
-    let right : AreEntries (f x) (length kept) es = entries-as (λ y. kept_by gpos lookup (get_or kept x 0) (get_or kept y 0)) (f x) (length kept) es
-    (λ y within. pair-kept gpos kept lookup x y less within) entries in
-    let far : (y : ℕ) → length kept ≤ y → f x y ≡ nothing = pair-far gpos kept lookup x in
+pub forms-more : (scope : Scope) (gpos kept : List ℕ) (lookup x : ℕ) (es : List Entry) (old new : Forms) → x < length kept → length kept < 65536 →
+    AreEntries (λ y. pair_by scope gpos lookup (get_or kept x 0) (get_or kept y 0)) (length kept) es → AddsForms x es old new →
+    AreForms (new_pair scope gpos kept lookup) x old → AreForms (new_pair scope gpos kept lookup) (x + 1) new
+forms-more scope gpos kept lookup x es old new less few entries adds are =
+    let f : ℕ → ℕ → Adjustment = new_pair scope gpos kept lookup in
+    let right : AreEntries (f x) (length kept) es = entries-as (λ y. pair_by scope gpos lookup (get_or kept x 0) (get_or kept y 0)) (f x) (length kept) es
+    (λ y within. pair-kept scope gpos kept lookup x y less within) entries in
+    let far : (y : ℕ) → length kept ≤ y → f x y ≡ nothing = pair-far scope gpos kept lookup x in
     record {
       advance = sets-more Advance f (length kept) x es right few far old.advance new.advance adds.advance are.advance;
       first = sets-more First f (length kept) x es right few far old.first new.first adds.first are.first;
@@ -285,8 +292,8 @@ forms-more gpos kept lookup x es old new less few entries adds are =
     }
 
 -- lookups
-lookup-on : (flag : ℕ) (f : (x y : ℕ) → Adjustment) (bytes more : List ℕ) (at : ℕ) → HasLookup flag f bytes at → HasLookup flag f (bytes ++ more) at
-lookup-on flag f bytes more at h = record {
+lookup-on : (flag set : ℕ) (f : (x y : ℕ) → Adjustment) (bytes more : List ℕ) (at : ℕ) → HasLookup flag set f bytes at → HasLookup flag set f (bytes ++ more) at
+lookup-on flag set f bytes more at h = record {
   offsets = h.offsets;
   subtables = h.subtables;
   each = h.each;
@@ -294,40 +301,44 @@ lookup-on flag f bytes more at h = record {
   few = h.few;
   fit = h.fit;
   small = h.small;
+  set_small = h.set_small;
+  begins = h.begins;
   there = holds-on more h.there;
 }
 
-position-on : (marks : Bool) (gpos kept : List ℕ) (lookup : ℕ) (bytes more : List ℕ) (at : ℕ) → HasPosition marks gpos kept lookup bytes at →
-    HasPosition marks gpos kept lookup (bytes ++ more) at
-position-on marks gpos kept lookup bytes more at (has_pairs never h) =
-    has_pairs never (lookup-on (word gpos (lookup + 2) % 16) (kept_pair gpos kept lookup) bytes more at h)
-position-on marks gpos kept lookup bytes more at (has_marks keeps h) = has_marks keeps (marks-on gpos kept lookup bytes more at h)
+position-on : (scope : Scope) (gpos kept : List ℕ) (lookup : ℕ) (bytes more : List ℕ) (at : ℕ) → HasPosition scope gpos kept lookup bytes at →
+    HasPosition scope gpos kept lookup (bytes ++ more) at
+position-on scope gpos kept lookup bytes more at (has_pairs never h) =
+    has_pairs never (lookup-on (new_flag scope (word gpos (lookup + 2))) (set_of gpos lookup) (new_pair scope gpos kept lookup) bytes more at h)
+position-on scope gpos kept lookup bytes more at (has_marks takes h) =
+    has_marks takes (marks-on gpos kept lookup (new_flag scope (word gpos (lookup + 2))) bytes more at h)
 
-pub pairs-added : (marks : Bool) (gpos kept : List ℕ) (lookup : ℕ) (forms : Forms) (old new : List ℕ) → (marks && keeps_marks gpos lookup) ≡ false →
-    AreForms (kept_pair gpos kept lookup) (length kept) forms → PutsLookup (word gpos (lookup + 2) % 16) forms old new → AddsPosition marks gpos kept lookup old new
-pairs-added marks gpos kept lookup forms old new never are puts = record {
-  more = lookup_text (word gpos (lookup + 2) % 16) puts.offsets puts.bytes;
+pub pairs-added : (scope : Scope) (gpos kept : List ℕ) (lookup : ℕ) (forms : Forms) (old new : List ℕ) → takes_marks scope gpos lookup ≡ false →
+    AreForms (new_pair scope gpos kept lookup) (length kept) forms → PutsLookup (new_flag scope (word gpos (lookup + 2))) (set_of gpos lookup) forms old new →
+    AddsPosition scope gpos kept lookup old new
+pairs-added scope gpos kept lookup forms old new never are puts = record {
+  more = lookup_text (new_flag scope (word gpos (lookup + 2))) puts.offsets puts.bytes;
   bytes = puts.text;
-  has = has_pairs never (lookup-made (kept_pair gpos kept lookup) (length kept) (λ x y far. ap form_of (first-far gpos kept lookup x y far))
-      (word gpos (lookup + 2) % 16) forms old new puts are);
+  has = has_pairs never (lookup-made (new_pair scope gpos kept lookup) (length kept) (λ x y far. ap form_of (first-far scope gpos kept lookup x y far))
+      (new_flag scope (word gpos (lookup + 2))) (set_of gpos lookup) forms old new puts are);
 }
 
-pub marks-added : (marks : Bool) (gpos kept : List ℕ) (lookup : ℕ) (old new : List ℕ) → (marks && keeps_marks gpos lookup) ≡ true →
-    AddsMarks gpos kept lookup old new → AddsPosition marks gpos kept lookup old new
-marks-added marks gpos kept lookup old new keeps adds = record {
+pub marks-added : (scope : Scope) (gpos kept : List ℕ) (lookup : ℕ) (old new : List ℕ) → takes_marks scope gpos lookup ≡ true →
+    AddsMarks gpos kept lookup (new_flag scope (word gpos (lookup + 2))) old new → AddsPosition scope gpos kept lookup old new
+marks-added scope gpos kept lookup old new takes adds = record {
   more = adds.more;
   bytes = adds.bytes;
-  has = has_marks (and-second marks (keeps_marks gpos lookup) keeps) adds.has;
+  has = has_marks takes adds.has;
 }
 
-pub lookups-more : (marks : Bool) (gpos kept : List ℕ) (i : ℕ) (offsets bytes newoffsets newbytes : List ℕ) → HasLookups marks gpos kept i offsets bytes →
-    AddsPosition marks gpos kept (lookup_at gpos i) bytes newbytes → newoffsets ≡ offsets ++ length bytes ∷ [] →
-    HasLookups marks gpos kept (i + 1) newoffsets newbytes
-lookups-more marks gpos kept i offsets bytes newoffsets newbytes has adds is =
-    subst (λ (xs : List ℕ). HasLookups marks gpos kept (i + 1) xs newbytes) (sym is) (record {
+pub lookups-more : (scope : Scope) (gpos kept : List ℕ) (i : ℕ) (offsets bytes newoffsets newbytes : List ℕ) → HasLookups scope gpos kept i offsets bytes →
+    AddsPosition scope gpos kept (lookup_at gpos i) bytes newbytes → newoffsets ≡ offsets ++ length bytes ∷ [] →
+    HasLookups scope gpos kept (i + 1) newoffsets newbytes
+lookups-more scope gpos kept i offsets bytes newoffsets newbytes has adds is =
+    subst (λ (xs : List ℕ). HasLookups scope gpos kept (i + 1) xs newbytes) (sym is) (record {
       many = (let many = has.many in omega (arith, many, length-append offsets (length bytes ∷ [])));
-      each = push-each (λ k o. HasPosition marks gpos kept (lookup_at gpos k) newbytes o) offsets (length bytes) 0 i has.many
-          (λ k less. subst (λ (xs : List ℕ). HasPosition marks gpos kept (lookup_at gpos k) xs (get_or offsets k 0)) (sym adds.bytes)
-          (position-on marks gpos kept (lookup_at gpos k) bytes adds.more (get_or offsets k 0) (has.each k less)))
+      each = push-each (λ k o. HasPosition scope gpos kept (lookup_at gpos k) newbytes o) offsets (length bytes) 0 i has.many
+          (λ k less. subst (λ (xs : List ℕ). HasPosition scope gpos kept (lookup_at gpos k) xs (get_or offsets k 0)) (sym adds.bytes)
+          (position-on scope gpos kept (lookup_at gpos k) bytes adds.more (get_or offsets k 0) (has.each k less)))
           adds.has;
     })

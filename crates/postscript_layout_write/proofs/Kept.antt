@@ -1,11 +1,12 @@
 -- Lookups that were written are read as their pairs, and the whole table.
-use Rattle.std.proofs.Common.{◌≡◌, refl, sym, ap, subst, ◌∙◌, inl, inr, ℕ, ◌+◌, ◌-◌, ◌*◌, ◌≤◌, ◌<◌, ◌==◌, List, [], ◌++◌, length, length-append, length-drop, get_or, take, drop, arith, Bool}
+use Rattle.std.proofs.Common.{◌≡◌, refl, sym, ap, subst, ◌∙◌, inl, inr, ℕ, ◌+◌, ◌-◌, ◌*◌, ◌≤◌, ◌<◌, ◌==◌, List, [], ◌++◌, length, length-append, length-drop, get_or, take, drop, arith, Bool, true}
 use Rattle.std.specs.Prelude.{Option, None, Some, slice_range, if◌then◌else◌}
 use Rattle.std.proofs.lemmas.Bool.{eq-eqb}
 use Rattle.std.proofs.lemmas.List.{length-take-le}
 use Rattle.std.proofs.Math.Seq.{drop-append_seam, take-append_seam}
 use Rattle.postscript_layout.specs.Numbers.{word, long}
 use Rattle.postscript_layout_write.specs.Entries.{form_of}
+use Rattle.postscript_layout_write.specs.Flags.{set_of, uses_set}
 use Rattle.postscript_layout_write.specs.Holds.{Holds}
 use Rattle.postscript_layout_write.specs.Kerning.{KeepsLists}
 use Rattle.postscript_layout_write.specs.Lookups.{HasLookup}
@@ -33,9 +34,9 @@ subtable-in form f t bytes at offset h s = record {
   there = holds-in h s.there;
 }
 
-pub lookup-in : (flag : ℕ) (f : (x y : ℕ) → Adjustment) (t bytes : List ℕ) (at offset : ℕ) → Holds bytes t at → HasLookup flag f bytes offset →
-    HasLookup flag f t (at + offset)
-lookup-in flag f t bytes at offset h l = record {
+pub lookup-in : (flag set : ℕ) (f : (x y : ℕ) → Adjustment) (t bytes : List ℕ) (at offset : ℕ) → Holds bytes t at → HasLookup flag set f bytes offset →
+    HasLookup flag set f t (at + offset)
+lookup-in flag set f t bytes at offset h l = record {
   offsets = l.offsets;
   subtables = l.subtables;
   each = l.each;
@@ -43,6 +44,8 @@ lookup-in flag f t bytes at offset h l = record {
   few = l.few;
   fit = l.fit;
   small = l.small;
+  set_small = l.set_small;
+  begins = l.begins;
   there = holds-in h l.there;
 }
 
@@ -50,7 +53,7 @@ length-lookup-head : (flag count : ℕ) → length (uint16 2 ++ (uint16 flag ++ 
 unfolding uint16
 length-lookup-head flag count = refl
 
-module _ (flag : ℕ) (f : (x y : ℕ) → Adjustment) (t : List ℕ) (l : ℕ) (has : HasLookup flag f t l) where
+module _ (flag set : ℕ) (f : (x y : ℕ) → Adjustment) (t : List ℕ) (l : ℕ) (has : HasLookup flag set f t l) where
   head : Holds (uint16 2 ++ (uint16 flag ++ uint16 (length has.offsets))) t l
   unfolding lookup_text
   head = holds-first _ _ has.there
@@ -75,6 +78,12 @@ module _ (flag : ℕ) (f : (x y : ℕ) → Adjustment) (t : List ℕ) (l : ℕ) 
   behind : Holds has.subtables t (l + 6 + length has.offsets * 2)
   behind = holds-second (offsets_text (6 + length has.offsets * 2) has.offsets) has.subtables (length has.offsets * 2)
       (length-offsets (6 + length has.offsets * 2) has.offsets) tail
+
+  pub set-read : uses_set flag ≡ true → set_of t l ≡ set
+  set-read uses =
+      let text : Holds (uint16 set) t (l + 6 + length has.offsets * 2 + 0) =
+      subst (λ (b : Bool). Holds (if b then uint16 set else []) t (l + 6 + length has.offsets * 2 + 0)) uses (holds-in behind has.begins) in
+      ap (λ n. word t (l + 6 + n * 2)) count-read ∙ ap (word t) (omega arith) ∙ holds-word set has.set_small text
 
   part-read : (j : ℕ) → j < length has.offsets → pairs_at t l j ≡ Some (l + 6 + length has.offsets * 2 + get_or has.offsets j 0)
   part-read j less =

@@ -25,3 +25,5 @@ pub mod MarkWriting
 pub mod MarkReading
 pub mod MarkKept
 pub mod PositionKept
+pub mod DefinitionSets
+pub mod DefinitionsKept

@@ -1,15 +1,17 @@
 -- The pairs that are written.
-use Rattle.std.proofs.Common.{◌≡◌, refl, sym, subst, ap, ◌∙◌, inl, inr, ℕ, ◌+◌, ◌<◌, ◌≤◌, List, [], ◌∷◌, ◌++◌, length, length-append, get_or, arith, append-nil, rules}
-use Rattle.std.specs.Prelude.{Option, None, Some}
+use Rattle.std.proofs.Common.{◌≡◌, refl, sym, subst, ap, ◌∙◌, inl, inr, ℕ, ◌+◌, ◌<◌, List, [], ◌∷◌, ◌++◌, length, length-append, get_or, arith, append-nil, Bool, true, false}
+use Rattle.std.specs.Prelude.{Option, None, Some, if◌then◌else◌}
 use Rattle.std.specs.List.{All, Contains}
 use Rattle.std.proofs.lemmas.List.Elements.{All-append, All-cons, All-nil, All-weaker, Contains-append_left, Contains-push}
 use Rattle.postscript_layout.specs.Numbers.{word}
 use Rattle.postscript_layout_write.specs.Indices.{AreIndices}
 use Rattle.postscript_layout_write.specs.Pairs.{adjustment_of, by_lookup, by_part, index_at, or_nothing, pairs_at}
-use Rattle.postscript_layout_write.specs.Entries.{AreEntries, entry, form_of, kept_by, listed}
+use Rattle.postscript_layout_write.specs.Entries.{AreEntries, entry, form_of, listed}
+use Rattle.postscript_layout_write.specs.Scopes.{leaves_out, pair_by}
 use Rattle.postscript_layout_write.specs.Values.{nothing}
 use Rattle.postscript_layout_write.specs.declared.entries.Entry.{Entry}
 use Rattle.postscript_layout_write.specs.declared.entries.Form.{Form}
+use Rattle.postscript_layout_write.specs.declared.scope.Scope.{Scope}
 use Rattle.postscript_layout_write.specs.declared.values.Adjustment.{Adjustment}
 use Rattle.postscript_layout_write.proofs.Firsts.{first-none, nat_cases}
 
@@ -76,5 +78,10 @@ lookup-none gpos lookup first second indices are none = ap or_nothing (first-non
     part-none gpos (pairs_at gpos lookup j) first second (sym (are.each j within) ∙ none j within))))
 
 -- the flag of a lookup
-pub kept-as : (gpos : List ℕ) (lookup first second : ℕ) → word gpos (lookup + 2) ≤ 15 → by_lookup gpos lookup first second ≡ kept_by gpos lookup first second
-kept-as gpos lookup first second small = search rules
+pub pair-as : (scope : Scope) (gpos : List ℕ) (lookup first second : ℕ) → leaves_out scope (word gpos (lookup + 2)) ≡ false →
+    by_lookup gpos lookup first second ≡ pair_by scope gpos lookup first second
+pair-as scope gpos lookup first second kept = sym (ap (λ (b : Bool). if b then nothing else by_lookup gpos lookup first second) kept)
+
+pub pair-none : (scope : Scope) (gpos : List ℕ) (lookup first second : ℕ) → leaves_out scope (word gpos (lookup + 2)) ≡ true →
+    pair_by scope gpos lookup first second ≡ nothing
+pair-none scope gpos lookup first second left = ap (λ (b : Bool). if b then nothing else by_lookup gpos lookup first second) left

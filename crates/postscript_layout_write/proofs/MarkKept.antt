@@ -1,10 +1,11 @@
 -- Subtables and lookups that attach marks attach the kept marks as before.
-use Rattle.std.proofs.Common.{◌≡◌, refl, sym, ap, subst, ◌∙◌, inl, inr, ℕ, ◌+◌, ◌*◌, ◌%◌, ◌≤◌, ◌<◌, ◌==◌, ◌&&◌, List, [], ◌∷◌, ◌++◌, length, get_or, arith, Bool, true, false}
+use Rattle.std.proofs.Common.{◌≡◌, refl, sym, ap, subst, ◌∙◌, inl, inr, ℕ, ◌+◌, ◌*◌, ◌≤◌, ◌<◌, ◌==◌, ◌&&◌, List, [], ◌∷◌, ◌++◌, length, get_or, arith, Bool, true, false}
 use Rattle.std.specs.Prelude.{Option, None, Some, nat_eq, nat_lt, if◌then◌else◌}
 use Rattle.std.proofs.lemmas.Bool.{eq-eqb, eqb-true, le-ltb, lt-ltb}
 use Rattle.postscript_layout.specs.Numbers.{word, long}
 use Rattle.postscript_layout_write.specs.Attaching.{AreRows, HasAttaching, HasBaseArray, HasLigatureArray, HasLigatureOf, HasMarks, HasSecondArray, are_bases, are_ligatures, at_class, attaching_head, attaching_text, base_in, base_row, classes_of, ligature_at, mark_row, no_marks, parts_text, row_covered, row_of}
 use Rattle.postscript_layout_write.specs.First.{first_some}
+use Rattle.postscript_layout_write.specs.Flags.{set_of, uses_set}
 use Rattle.postscript_layout_write.specs.Holds.{Holds}
 use Rattle.postscript_layout_write.specs.Ligatures.{ToComponent, ligature_covered, ligature_of, to_component}
 use Rattle.postscript_layout_write.specs.Ligatures.{by_lookup as ligature_by_lookup, by_subtable as ligature_by, by_subtables as ligatures_by}
@@ -16,7 +17,7 @@ use Rattle.postscript_layout_write.specs.Text.{array_text, coverage_text, offset
 use Rattle.postscript_layout_write.specs.declared.anchors.Anchor.{Anchor}
 use Rattle.postscript_layout_write.specs.declared.anchors.Side.TheVariants.{Bases, Marks}
 use Rattle.postscript_layout_write.proofs.Firsts.{first-none, first-same, nat_cases}
-use Rattle.postscript_layout_write.proofs.Holding.{holds-array, holds-first, holds-second}
+use Rattle.postscript_layout_write.proofs.Holding.{holds-array, holds-first, holds-in, holds-second, holds-word}
 use Rattle.postscript_layout_write.proofs.MarkReading.{and-false, bases-read, coverage-read, ligatures-read, marks-read, row-none}
 use Rattle.postscript_layout_write.proofs.MarkWriting.{attaching-in}
 use Rattle.postscript_layout_write.proofs.Reading.{length-coverage, length-offsets, offsets-read}
@@ -328,13 +329,13 @@ first-if true h n = refl
 first-if false h n = first-none (λ j. None) n (λ k less. refl)
 
 -- a lookup
-module _ (gpos kept : List ℕ) (lookup : ℕ) (t : List ℕ) (l : ℕ) (has : HasMarks gpos kept lookup t l) (keeps : is_marks (type_at gpos lookup) ≡ true) where
-  head : IsHead t l (type_at gpos lookup) (word gpos (lookup + 2) % 16) (length has.offsets)
+module _ (gpos kept : List ℕ) (lookup flag : ℕ) (t : List ℕ) (l : ℕ) (has : HasMarks gpos kept lookup flag t l) (keeps : is_marks (type_at gpos lookup) ≡ true) where
+  head : IsHead t l (type_at gpos lookup) flag (length has.offsets)
   unfolding parts_text
-  head = (let few = has.few in head-read t l (type_at gpos lookup) (word gpos (lookup + 2) % 16) (length has.offsets) has.type has.flag (omega (arith, few))
+  head = (let few = has.few in head-read t l (type_at gpos lookup) flag (length has.offsets) has.type has.small (omega (arith, few))
       (holds-first _ _ has.there))
 
-  pub mark-flag : word t (l + 2) ≡ word gpos (lookup + 2) % 16
+  pub mark-flag : word t (l + 2) ≡ flag
   mark-flag = head.flag-is
 
   pub mark-type : type_at t l ≡ type_at gpos lookup
@@ -346,12 +347,18 @@ module _ (gpos kept : List ℕ) (lookup : ℕ) (t : List ℕ) (l : ℕ) (has : H
 
   tail : Holds (offsets_text (6 + length has.offsets * 2) has.offsets ++ has.subtables) t (l + 6)
   unfolding parts_text
-  tail = holds-second (rule_head_text (type_at gpos lookup) (word gpos (lookup + 2) % 16) (length has.offsets)) _ 6
-      (length-rule-head (type_at gpos lookup) (word gpos (lookup + 2) % 16) (length has.offsets)) has.there
+  tail = holds-second (rule_head_text (type_at gpos lookup) flag (length has.offsets)) _ 6
+      (length-rule-head (type_at gpos lookup) flag (length has.offsets)) has.there
 
   behind : Holds has.subtables t (l + 6 + length has.offsets * 2)
   behind = holds-second (offsets_text (6 + length has.offsets * 2) has.offsets) has.subtables (length has.offsets * 2)
       (length-offsets (6 + length has.offsets * 2) has.offsets) tail
+
+  pub mark-set : uses_set flag ≡ true → set_of t l ≡ set_of gpos lookup
+  mark-set uses =
+      let text : Holds (uint16 (set_of gpos lookup)) t (l + 6 + length has.offsets * 2 + 0) =
+      subst (λ (b : Bool). Holds (if b then uint16 (set_of gpos lookup) else []) t (l + 6 + length has.offsets * 2 + 0)) uses (holds-in behind has.parts.set) in
+      ap (λ n. word t (l + 6 + n * 2)) head.count-is ∙ ap (word t) (omega arith) ∙ holds-word (set_of gpos lookup) has.parts.set_small text
 
   part-has : (j : ℕ) → j < word gpos (lookup + 4) →
       HasAttaching (type_at gpos lookup) gpos (attaching_at gpos lookup (type_at gpos lookup) j) kept t (l + 6 + length has.offsets * 2 + get_or has.offsets j 0)

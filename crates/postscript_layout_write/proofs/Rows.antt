@@ -18,7 +18,7 @@ use Rattle.postscript_layout_write.proofs.Firsts.{nat_cases}
 use Rattle.postscript_layout_write.proofs.Holding.{holds-array, holds-first, holds-in, holds-on, holds-second, holds-whole, holds-word, length-array, length-uint16}
 use Rattle.postscript_layout_write.proofs.Lists.{push-each}
 
-append-at : {X : Type 0} (xs ys : List X) (d : X) (n j : ℕ) → length xs ≡ n → get_or (xs ++ ys) (n + j) d ≡ get_or ys j d
+pub append-at : {X : Type 0} (xs ys : List X) (d : X) (n j : ℕ) → length xs ≡ n → get_or (xs ++ ys) (n + j) d ≡ get_or ys j d
 append-at xs ys d n j long = ap (λ k. get_or (xs ++ ys) (k + j) d) (sym long) ∙ get_or-append-add xs ys j d
 
 -- no row yet

@@ -3,11 +3,13 @@ use Rattle.std.specs.Prelude.{◌≡◌, ◌⊎◌, ℕ, ◌+◌, ◌*◌, ◌/�
 use Rattle.std.specs.List.{Contains}
 use Rattle.std.specs.declared.alloc.Global.{Global}
 use Rattle.postscript_layout.specs.Numbers.{word}
+use Rattle.postscript_layout_write.specs.Flags.{set_of}
 use Rattle.postscript_layout_write.specs.Holds.{Holds}
 use Rattle.postscript_layout_write.specs.Ligatures.{ligature_of}
 use Rattle.postscript_layout_write.specs.Marks.{Mark, anchor_in, attaching_at, mark_in, type_at}
 use Rattle.postscript_layout_write.specs.Ranges.{coverage_index}
 use Rattle.postscript_layout_write.specs.RuleSets.{rule_head_text}
+use Rattle.postscript_layout_write.specs.Scopes.{mark_set_text}
 use Rattle.postscript_layout_write.specs.Sets.{AreOffsets, Places}
 use Rattle.postscript_layout_write.specs.Text.{array_text, coverage_text, offsets_text, uint16}
 use Rattle.postscript_layout_write.specs.declared.anchors.Anchor.{Anchor}
@@ -235,28 +237,30 @@ pub record AddsAttaching (type : ℕ) (gpos : List ℕ) (subtable : Option ℕ) 
   pub bytes : new ≡ old ++ more
   pub has : HasAttaching type gpos subtable kept new (length old)
 
--- the first subtables of a lookup are there
-pub record HasParts (gpos : List ℕ) (lookup type : ℕ) (kept : List ℕ) (count : ℕ) (offsets bytes : List ℕ) : Type 0 where
+-- the first subtables of a lookup are there, after its set of marks
+pub record HasParts (gpos : List ℕ) (lookup type flag : ℕ) (kept : List ℕ) (count : ℕ) (offsets bytes : List ℕ) : Type 0 where
   pub many : length offsets ≡ count
   pub each : (j : ℕ) → j < count → HasAttaching type gpos (attaching_at gpos lookup type j) kept bytes (slice_index offsets j)
+  pub set : Holds (mark_set_text flag (set_of gpos lookup)) bytes 0
+  pub set_small : set_of gpos lookup < 65536
 
 -- a lookup with subtables
 unfoldable pub parts_text : (type flag : ℕ) → (offsets subtables : List ℕ) → List ℕ
 parts_text type flag offsets subtables =
     rule_head_text type flag (length offsets) ++ (offsets_text (6 + length offsets * 2) offsets ++ subtables)
 
--- a lookup at an offset attaches the kept marks
-pub record HasMarks (gpos kept : List ℕ) (lookup : ℕ) (bytes : List ℕ) (offset : ℕ) : Type 0 where
+-- a lookup at an offset has a flag, and attaches the kept marks
+pub record HasMarks (gpos kept : List ℕ) (lookup flag : ℕ) (bytes : List ℕ) (offset : ℕ) : Type 0 where
   pub offsets : List ℕ
   pub subtables : List ℕ
-  pub parts : HasParts gpos lookup (type_at gpos lookup) kept (word gpos (lookup + 4)) offsets subtables
+  pub parts : HasParts gpos lookup (type_at gpos lookup) flag kept (word gpos (lookup + 4)) offsets subtables
   pub few : length offsets ≤ 32000
   pub fit : AreOffsets (6 + length offsets * 2) offsets
   pub type : type_at gpos lookup < 65536
-  pub flag : word gpos (lookup + 2) % 16 < 65536
-  pub there : Holds (parts_text (type_at gpos lookup) (word gpos (lookup + 2) % 16) offsets subtables) bytes offset
+  pub small : flag < 65536
+  pub there : Holds (parts_text (type_at gpos lookup) flag offsets subtables) bytes offset
 
-pub record AddsMarks (gpos kept : List ℕ) (lookup : ℕ) (old new : List ℕ) : Type 0 where
+pub record AddsMarks (gpos kept : List ℕ) (lookup flag : ℕ) (old new : List ℕ) : Type 0 where
   pub more : List ℕ
   pub bytes : new ≡ old ++ more
-  pub has : HasMarks gpos kept lookup new (length old)
+  pub has : HasMarks gpos kept lookup flag new (length old)

@@ -25,4 +25,8 @@ pub mod Reaching
 pub mod Marks
 pub mod Ligatures
 pub mod Positions
+pub mod Flags
+pub mod Scopes
 pub mod Attaching
+pub mod Definitions
+pub mod MarkSets

@@ -29,7 +29,12 @@ fn glyph_class(gdef: &[u8], glyph: usize, limit: &mut u64) -> Result<usize>
 }
 
 /// Collects the classes of the kept glyphs.
-fn classes_of(alloc: Global, gdef: &[u8], kept: &[u16], limit: &mut u64) -> Result<Vec<u16>>
+pub(crate) fn classes_of(
+    alloc: Global,
+    gdef: &[u8],
+    kept: &[u16],
+    limit: &mut u64,
+) -> Result<Vec<u16>>
     ensures exact { IfOk result (λ classes. AreClasses gdef.now kept.now classes.items) }
     ensures spends { limit.new ≤ limit.old }
     ensures why { IfErr result (λ e. (e ≡ errors.Memory) ⊎ IsUsedUp limit.new e) }

@@ -1,15 +1,17 @@
 //! The pairs of kept glyphs that a lookup adjusts.
 ghost use Rattle.std.specs.Prelude.{◌≡◌, ◌⊎◌, ℕ, ◌^◌, ◌<◌, ◌≤◌, ◌++◌, length, false, None, IfErr, IfOk, OnOk, slice_index, slice_index_or};
-ghost use Rattle.postscript_layout_write.specs.Entries.{AreEntries, form_of as the_form, kept_by, listed};
+ghost use Rattle.postscript_layout_write.specs.Entries.{AreEntries, form_of as the_form, listed};
 ghost use Rattle.postscript_layout_write.specs.Indices.{AreIndices};
 ghost use Rattle.postscript_layout_write.specs.Pairs.{by_lookup as the_adjustment};
 ghost use Rattle.postscript_layout_write.specs.Refusals.{IsUsedUp};
+ghost use Rattle.postscript_layout_write.specs.Scopes.{pair_by};
 ghost use Rattle.postscript_layout_write.specs.declared.error.Error.TheVariants as errors;
 
 use crate::error::Result;
 use crate::limit::pay;
 use crate::lookups::{by_lookup, indices_of};
 use crate::numbers::word;
+use crate::scope::{Scope, leaves_out};
 use crate::values::Adjustment;
 use std::alloc::Global;
 
@@ -101,12 +103,13 @@ fn tried(
     Ok(entries)
 }
 
-/// Returns the pairs of a first glyph with the kept glyphs that a lookup adjusts. A lookup that uses classes or sets of
-/// marks has none.
+/// Returns the pairs of a first glyph with the kept glyphs that a lookup adjusts. A lookup that is left
+/// out has none.
 pub(crate) fn entries_of(
     alloc: Global,
     gpos: &[u8],
     lookup: usize,
+    scope: Scope,
     first: usize,
     kept: &[u16],
     limit: &mut u64,
@@ -114,11 +117,11 @@ pub(crate) fn entries_of(
     requires near { lookup < 2 ^ 31 }
     requires few { length kept.now < 65536 }
     requires glyph { first < 65536 }
-    ensures exact { IfOk result (λ entries. AreEntries (λ y. kept_by gpos.now lookup first (slice_index kept.now y)) (length kept.now) entries.items) }
+    ensures exact { IfOk result (λ entries. AreEntries (λ y. pair_by scope gpos.now lookup first (slice_index kept.now y)) (length kept.now) entries.items) }
     ensures spends { limit.new ≤ limit.old }
     ensures why { IfErr result (λ e. (e ≡ errors.Memory) ⊎ IsUsedUp limit.new e) }
 {
-    if word(gpos, lookup + 2) > 15 {
+    if leaves_out(scope, word(gpos, lookup + 2)) {
         return Ok(Vec::new(alloc));
     }
     let indices = indices_of(alloc, gpos, lookup, first, limit)?;

@@ -2,6 +2,7 @@
 ghost use Rattle.std.specs.Prelude.{◌≡◌, ◌⊎◌, ◌%◌, ◌+◌, ◌*◌, ◌^◌, ◌<◌, ◌≤◌, ◌++◌, length, IfErr, IfOk, IfSome, OnOk};
 ghost use Rattle.postscript_layout.specs.Numbers.{word as the_word};
 ghost use Rattle.postscript_layout_write.specs.Attaching.{AddsAttaching, AddsMarks, HasBaseArray, HasCells, HasLigatureArray, HasMarkArray, HasParts, HasSecondArray, PutsAttaching, attaching_head, classes_of as the_classes};
+ghost use Rattle.postscript_layout_write.specs.Flags.{has_marks as the_having};
 ghost use Rattle.postscript_layout_write.specs.Marks.{attaching_at as the_subtable, of_format1 as the_format1, type_at};
 ghost use Rattle.postscript_layout_write.specs.Positions.{has_no_pairs as the_no_pairs, is_marks as the_marks, keeps_marks as the_keeps};
 ghost use Rattle.postscript_layout_write.specs.Refusals.{Fails, IsUsedUp};
@@ -14,6 +15,7 @@ use crate::ligatures::{ligature_array, ligatures_of};
 use crate::limit::pay;
 use crate::lookups::pairs_at;
 use crate::numbers::{long, word};
+use crate::scope::put_set;
 use crate::substituting::put_head;
 use crate::subtables::{put_coverage, put_glyphs, put_offsets};
 use std::alloc::Global;
@@ -95,6 +97,21 @@ pub(crate) fn keeps_marks(gpos: &[u8], lookup: usize, limit: &mut u64) -> Result
     ensures why { IfErr result (λ e. IsUsedUp limit.new e) }
 {
     if is_marks(type_of(gpos, lookup)) && word(gpos, lookup + 2) < 16 {
+        let none = has_no_pairs(gpos, lookup, limit)?;
+        Ok(none)
+    } else {
+        Ok(false)
+    }
+}
+
+/// Whether a lookup attaches marks, and has no pairs.
+pub(crate) fn has_marks(gpos: &[u8], lookup: usize, limit: &mut u64) -> Result<bool>
+    requires near { lookup < 2 ^ 31 }
+    ensures exact { IfOk result (λ has. has ≡ the_having gpos.now lookup) }
+    ensures spends { limit.new ≤ limit.old }
+    ensures why { IfErr result (λ e. IsUsedUp limit.new e) }
+{
+    if is_marks(type_of(gpos, lookup)) {
         let none = has_no_pairs(gpos, lookup, limit)?;
         Ok(none)
     } else {
@@ -317,30 +334,32 @@ fn add_subtable(
     Ok(())
 }
 
-/// The subtables of a lookup one after the other, and their offsets.
+/// The subtables of a lookup one after the other, after the set of marks of the lookup, if it uses one, and their offsets.
 #[derive(Drop)]
 struct Parts {
     offsets: Vec<usize>,
     bytes: Vec<u8>,
 }
 
-/// Collects the subtables of a lookup of a type.
+/// Collects the subtables of a lookup of a type with a new flag.
 fn parts_of(
     alloc: Global,
     gpos: &[u8],
     lookup: usize,
     kind: usize,
+    flag: usize,
     kept: &[u16],
     limit: &mut u64,
 ) -> Result<Parts>
     requires near { lookup < 2 ^ 31 }
     requires few { length kept.now < 65536 }
-    ensures exact { IfOk result (λ parts. HasParts gpos.now lookup kind kept.now (the_word gpos.now (lookup + 4)) parts.offsets.items parts.bytes.items) }
+    ensures exact { IfOk result (λ parts. HasParts gpos.now lookup kind flag kept.now (the_word gpos.now (lookup + 4)) parts.offsets.items parts.bytes.items) }
     ensures spends { limit.new ≤ limit.old }
     ensures why { IfErr result (λ e. Fails limit.new e) }
 {
     let mut offsets = Vec::new(alloc);
     let mut bytes = Vec::new(alloc);
+    put_set(&mut bytes, gpos, lookup, flag)?;
     let count = word(gpos, lookup + 4);
     for j in 0..count {
         pay(limit)?;
@@ -354,29 +373,30 @@ fn parts_of(
     Ok(Parts { offsets, bytes })
 }
 
-/// Appends a lookup that attaches marks.
+/// Appends a lookup that attaches marks, with a new flag.
 #[tactic(auto, unfolding(crate::specs::Attaching::parts_text))]
 pub(crate) fn put_marks(
     alloc: Global,
     out: &mut Vec<u8>,
     gpos: &[u8],
     lookup: usize,
+    flag: usize,
     kept: &[u16],
     limit: &mut u64,
 ) -> Result<()>
     requires near { lookup < 2 ^ 31 }
     requires few { length kept.now < 65536 }
-    ensures done { OnOk result (AddsMarks gpos.now kept.now lookup out.old.items out.new.items) }
+    requires small { flag < 65536 }
+    ensures done { OnOk result (AddsMarks gpos.now kept.now lookup flag out.old.items out.new.items) }
     ensures spends { limit.new ≤ limit.old }
     ensures why { IfErr result (λ e. Fails limit.new e) }
 {
     let kind = type_of(gpos, lookup);
-    let parts = parts_of(alloc, gpos, lookup, kind, kept, limit)?;
+    let parts = parts_of(alloc, gpos, lookup, kind, flag, kept, limit)?;
     let count = parts.offsets.len();
     if count > 32000 {
         return Err(Error::TooLarge);
     }
-    let flag = word(gpos, lookup + 2) % 16;
     put_head(out, kind as u16, flag as u16, count as u16)?;
     put_offsets(out, 6 + count * 2, &parts.offsets)?;
     out.extend_from_slice(&parts.bytes)?;

@@ -1,10 +1,12 @@
 //! Writes a `GPOS` table with pair adjustments, and with marks.
 ghost use Rattle.std.specs.Prelude.{◌≡◌, ◌⊎◌, true, false, ◌%◌, ◌^◌, ◌<◌, ◌≤◌, ◌&&◌, ◌++◌, length, slice_range, IfErr, IfOk, OnOk};
-ghost use Rattle.postscript_layout_write.specs.Kerning.{KeepsKerning, kept_pair};
+ghost use Rattle.postscript_layout_write.specs.Flags.{KeepsFlaggedPositions, set_of};
+ghost use Rattle.postscript_layout_write.specs.Kerning.{KeepsKerning};
 ghost use Rattle.postscript_layout_write.specs.Lookups.{AddsForms, AddsPosition, AreForms, HasLookups, Keeps, PutsList, PutsLookup};
 ghost use Rattle.postscript_layout_write.specs.Pairs.{lookups_of};
-ghost use Rattle.postscript_layout_write.specs.Positions.{KeepsPositions, keeps_marks as the_keeps};
-ghost use Rattle.postscript_layout_write.specs.Refusals.{Fails, Refuses};
+ghost use Rattle.postscript_layout_write.specs.Positions.{KeepsPositions};
+ghost use Rattle.postscript_layout_write.specs.Refusals.{Fails, IsUsedUp, Refuses};
+ghost use Rattle.postscript_layout_write.specs.Scopes.{new_pair, takes_marks as the_taking};
 ghost use Rattle.postscript_layout_write.specs.Sets.{AddsSubtable};
 ghost use Rattle.postscript_layout_write.specs.Text.{front_text, uint16 as the_uint16};
 ghost use Rattle.postscript_layout_write.specs.declared.error.Error.TheVariants as errors;
@@ -12,8 +14,9 @@ ghost use Rattle.postscript_layout_write.specs.declared.error.Error.TheVariants 
 use crate::entries::{Entry, Form, entries_of};
 use crate::error::{Error, Result};
 use crate::limit::pay;
-use crate::marks::{keeps_marks, put_marks};
+use crate::marks::{has_marks, keeps_marks, put_marks};
 use crate::numbers::{put_uint16, word};
+use crate::scope::{Scope, new_flag, put_set};
 use crate::script_lists::lists_end;
 use crate::subtables::{Sets, put_offsets, put_subtable};
 use std::alloc::{AllocError, Global};
@@ -45,12 +48,13 @@ fn forms_of(
     alloc: Global,
     gpos: &[u8],
     lookup: usize,
+    scope: Scope,
     kept: &[u16],
     limit: &mut u64,
 ) -> Result<Forms>
     requires near { lookup < 2 ^ 31 }
     requires few { length kept.now < 65536 }
-    ensures exact { IfOk result (λ forms. AreForms (kept_pair gpos.now kept.now lookup) (length kept.now) forms) }
+    ensures exact { IfOk result (λ forms. AreForms (new_pair scope gpos.now kept.now lookup) (length kept.now) forms) }
     ensures spends { limit.new ≤ limit.old }
     ensures why { IfErr result (λ e. Fails limit.new e) }
 {
@@ -61,7 +65,7 @@ fn forms_of(
     };
     for k in 0..kept.len() {
         pay(limit)?;
-        let entries = entries_of(alloc, gpos, lookup, kept[k] as usize, kept, limit)?;
+        let entries = entries_of(alloc, gpos, lookup, scope, kept[k] as usize, kept, limit)?;
         forms.add(alloc, k as u16, &entries)?;
     }
     Ok(forms)
@@ -92,11 +96,20 @@ fn put_lookup_head(out: &mut Vec<u8>, flag: u16, count: u16) -> std::result::Res
 
 /// Appends a lookup of pair adjustments.
 #[tactic(auto, unfolding(crate::specs::Text::lookup_text))]
-fn put_lookup(alloc: Global, out: &mut Vec<u8>, flag: u16, forms: &Forms) -> Result<()>
-    ensures done { OnOk result (PutsLookup flag forms.now out.old.items out.new.items) }
+fn put_lookup(
+    alloc: Global,
+    out: &mut Vec<u8>,
+    gpos: &[u8],
+    lookup: usize,
+    flag: u16,
+    forms: &Forms,
+) -> Result<()>
+    requires near { lookup < 2 ^ 31 }
+    ensures done { OnOk result (PutsLookup flag (set_of gpos.now lookup) forms.now out.old.items out.new.items) }
     ensures why { IfErr result (λ e. (e ≡ errors.Memory) ⊎ (e ≡ errors.TooLarge)) }
 {
     let mut bytes = Vec::new(alloc);
+    put_set(&mut bytes, gpos, lookup, flag as usize)?;
     let mut offsets = Vec::new(alloc);
     add_subtable(&mut bytes, &mut offsets, Form::Advance, &forms.advance)?;
     add_subtable(&mut bytes, &mut offsets, Form::First, &forms.first)?;
@@ -111,44 +124,50 @@ fn put_lookup(alloc: Global, out: &mut Vec<u8>, flag: u16, forms: &Forms) -> Res
     Ok(())
 }
 
-/// Whether marks are kept, and a lookup keeps its marks.
-fn keeps(gpos: &[u8], lookup: usize, marks: bool, limit: &mut u64) -> Result<bool>
+/// Whether a lookup is written with its marks.
+fn takes_marks(gpos: &[u8], lookup: usize, scope: Scope, limit: &mut u64) -> Result<bool>
     requires near { lookup < 2 ^ 31 }
-    ensures exact { IfOk result (λ keeps. keeps ≡ marks && the_keeps gpos.now lookup) }
+    ensures exact { IfOk result (λ takes. takes ≡ the_taking scope gpos.now lookup) }
     ensures spends { limit.new ≤ limit.old }
-    ensures why { IfErr result (λ e. Fails limit.new e) }
+    ensures why { IfErr result (λ e. IsUsedUp limit.new e) }
 {
-    if !marks {
-        return Ok(false);
+    match scope {
+        Scope::Pairs => Ok(false),
+        Scope::Marks => {
+            let takes = keeps_marks(gpos, lookup, limit)?;
+            Ok(takes)
+        }
+        Scope::Flags => {
+            let takes = has_marks(gpos, lookup, limit)?;
+            Ok(takes)
+        }
     }
-    let keeps = keeps_marks(gpos, lookup, limit)?;
-    Ok(keeps)
 }
 
-/// Appends a lookup: one that attaches marks, if it keeps them, or else one of pair adjustments.
+/// Appends a lookup: one that attaches marks, if it is written with its marks, or else one of pair adjustments.
 fn put_any(
     alloc: Global,
     out: &mut Vec<u8>,
     gpos: &[u8],
     lookup: usize,
-    marks: bool,
+    scope: Scope,
     kept: &[u16],
     limit: &mut u64,
 ) -> Result<()>
     requires near { lookup < 2 ^ 31 }
     requires few { length kept.now < 65536 }
-    ensures done { OnOk result (AddsPosition marks gpos.now kept.now lookup out.old.items out.new.items) }
+    ensures done { OnOk result (AddsPosition scope gpos.now kept.now lookup out.old.items out.new.items) }
     ensures spends { limit.new ≤ limit.old }
     ensures why { IfErr result (λ e. Fails limit.new e) }
 {
-    let attaching = keeps(gpos, lookup, marks, limit)?;
+    let attaching = takes_marks(gpos, lookup, scope, limit)?;
+    let flag = new_flag(scope, word(gpos, lookup + 2));
     if attaching {
-        put_marks(alloc, out, gpos, lookup, kept, limit)?;
+        put_marks(alloc, out, gpos, lookup, flag, kept, limit)?;
         return Ok(());
     }
-    let forms = forms_of(alloc, gpos, lookup, kept, limit)?;
-    let flag = word(gpos, lookup + 2) % 16;
-    put_lookup(alloc, out, flag as u16, &forms)?;
+    let forms = forms_of(alloc, gpos, lookup, scope, kept, limit)?;
+    put_lookup(alloc, out, gpos, lookup, flag as u16, &forms)?;
     Ok(())
 }
 
@@ -158,14 +177,14 @@ fn put_each(
     bytes: &mut Vec<u8>,
     offsets: &mut Vec<usize>,
     gpos: &[u8],
-    marks: bool,
+    scope: Scope,
     kept: &[u16],
     limit: &mut u64,
 ) -> Result<()>
     requires few { length kept.now < 65536 }
     requires bytes { length bytes.old.items ≡ 0 }
     requires offsets { length offsets.old.items ≡ 0 }
-    ensures done { OnOk result (HasLookups marks gpos.now kept.now (lookups_of gpos.now) offsets.new.items bytes.new.items) }
+    ensures done { OnOk result (HasLookups scope gpos.now kept.now (lookups_of gpos.now) offsets.new.items bytes.new.items) }
     ensures spends { limit.new ≤ limit.old }
     ensures why { IfErr result (λ e. Fails limit.new e) }
 {
@@ -178,7 +197,7 @@ fn put_each(
             return Err(Error::TooLarge);
         }
         offsets.push(bytes.len())?;
-        put_any(alloc, bytes, gpos, lookup, marks, kept, limit)?;
+        put_any(alloc, bytes, gpos, lookup, scope, kept, limit)?;
     }
     Ok(())
 }
@@ -189,18 +208,18 @@ fn put_list(
     alloc: Global,
     out: &mut Vec<u8>,
     gpos: &[u8],
-    marks: bool,
+    scope: Scope,
     kept: &[u16],
     limit: &mut u64,
 ) -> Result<()>
     requires few { length kept.now < 65536 }
-    ensures done { OnOk result (PutsList marks gpos.now kept.now out.old.items out.new.items) }
+    ensures done { OnOk result (PutsList scope gpos.now kept.now out.old.items out.new.items) }
     ensures spends { limit.new ≤ limit.old }
     ensures why { IfErr result (λ e. Fails limit.new e) }
 {
     let mut bytes = Vec::new(alloc);
     let mut offsets = Vec::new(alloc);
-    put_each(alloc, &mut bytes, &mut offsets, gpos, marks, kept, limit)?;
+    put_each(alloc, &mut bytes, &mut offsets, gpos, scope, kept, limit)?;
     let count = offsets.len();
     if count > 32766 {
         return Err(Error::TooLarge);
@@ -230,15 +249,15 @@ pub(crate) fn put_front(
     out.extend_from_slice(&gpos[10..end])
 }
 
-/// Returns a `GPOS` table with the pair adjustments of the kept glyphs, and with their marks, if these are kept.
+/// Returns a `GPOS` table with the positions of the kept glyphs that are in a scope.
 fn written(
     alloc: Global,
     gpos: &[u8],
-    marks: bool,
+    scope: Scope,
     kept: &[u16],
     limit: &mut u64,
 ) -> Result<Vec<u8>>
-    ensures kept { IfOk result (λ new. Keeps marks gpos.now kept.now new.items) }
+    ensures kept { IfOk result (λ new. Keeps scope gpos.now kept.now new.items) }
     ensures spends { limit.new ≤ limit.old }
     ensures why { IfErr result (λ e. Refuses e gpos.now limit.new) }
 {
@@ -251,7 +270,7 @@ fn written(
     }
     let mut out = Vec::new(alloc);
     put_front(&mut out, gpos, end)?;
-    put_list(alloc, &mut out, gpos, marks, kept, limit)?;
+    put_list(alloc, &mut out, gpos, scope, kept, limit)?;
     Ok(out)
 }
 
@@ -279,7 +298,7 @@ pub fn kerning(alloc: Global, gpos: &[u8], kept: &[u16], limit: &mut u64) -> Res
     // `TooLong` leaves nothing of the limit. `ListsTooLong` means that the lists do not end in time.
     ensures why { IfErr result (λ e. Refuses e gpos.now limit.new) }
 {
-    let new = written(alloc, gpos, false, kept, limit)?;
+    let new = written(alloc, gpos, Scope::Pairs, kept, limit)?;
     Ok(new)
 }
 
@@ -291,9 +310,9 @@ pub fn kerning(alloc: Global, gpos: &[u8], kept: &[u16], limit: &mut u64) -> Res
 /// 6, also by extensions) keeps its type, and has a subtable for each old one. All other lookups have no subtables, and
 /// neither has a lookup with a flag above bit 3.
 ///
-/// Units of the limit are paid as by `kerning`. In a lookup of marks, one unit is paid for each subtable, twice for each
-/// kept glyph in a subtable, for each class of marks of a base or of a component, and for each covered glyph and range
-/// that is looked at.
+/// Units of the limit are paid as by `kerning`. In a lookup of marks, two units are paid for each kept glyph in a subtable.
+/// One is paid for each subtable, each class of marks of a base or of a component, and each covered glyph and range that
+/// is looked at.
 ///
 /// # Errors
 ///
@@ -310,6 +329,38 @@ pub fn positions(alloc: Global, gpos: &[u8], kept: &[u16], limit: &mut u64) -> R
     // `TooLong` leaves nothing of the limit. `ListsTooLong` means that the lists do not end in time.
     ensures why { IfErr result (λ e. Refuses e gpos.now limit.new) }
 {
-    let new = written(alloc, gpos, true, kept, limit)?;
+    let new = written(alloc, gpos, Scope::Marks, kept, limit)?;
+    Ok(new)
+}
+
+/// Returns a `GPOS` table with the pair adjustments and the marks of the kept glyphs, also in lookups that use classes or
+/// sets of marks.
+///
+/// The table is as by `positions`, but each lookup has its whole flag, and the index of its set of marks, if it uses one.
+/// So the new font needs a `GDEF` table with the same classes and sets of marks.
+///
+/// Units of the limit are paid as by `positions`.
+///
+/// # Errors
+///
+/// - `ListsTooLong`: the script list and the feature list, with the tables that they name, do not end within the table,
+///   or within its first 65,535 bytes.
+/// - `TooLarge`: an offset or a count would exceed 16 bits.
+/// - `TooLong`: the table costs more than the limit.
+/// - `Memory`: out of memory.
+pub fn flagged_positions(
+    alloc: Global,
+    gpos: &[u8],
+    kept: &[u16],
+    limit: &mut u64,
+) -> Result<Vec<u8>>
+    // Each lookup has its flag, and adjusts the kept glyphs and attaches kept marks as before, for the same features.
+    ensures kept { IfOk result (λ new. KeepsFlaggedPositions gpos.now kept.now new.items) }
+    // The limit never grows.
+    ensures spends { limit.new ≤ limit.old }
+    // `TooLong` leaves nothing of the limit. `ListsTooLong` means that the lists do not end in time.
+    ensures why { IfErr result (λ e. Refuses e gpos.now limit.new) }
+{
+    let new = written(alloc, gpos, Scope::Flags, kept, limit)?;
     Ok(new)
 }

@@ -1,5 +1,7 @@
 //! Tables whose pairs are computed by hand from the specification. All numbers are of two bytes.
-use crate::{Error, glyph_classes, kerning, positions, substitutions};
+use crate::{
+    Error, flagged_positions, glyph_classes, glyph_definitions, kerning, positions, substitutions,
+};
 use std::alloc::{AllocError, Global};
 use std::process::Abort;
 
@@ -261,6 +263,40 @@ const LEFT: &[u16] = &[
     1, 120, 490, 1, 100, 500, 2, 6, 12, 1, 125, 760, 1, 105, 800,
 ];
 
+/// A `GDEF` and a `GPOS` table that fontTools made of a feature file. A lookup of pairs skips marks but those of class 1, 3
+/// and 9. Marks 3, 4 and 9 are stacked by a lookup with a set of these, and mark 5 by one with a set of its own.
+const DEFINED: &[u16] = &[
+    1, 2, 14, 0, 0, 38, 54, 1, 1, 9, 1, 1, 3, 3, 3, 2, 1, 1, 3, 2, 2, 3, 3, 1, 9, 9, 1, 1, 2, 0,
+    12, 0, 22, 1, 3, 3, 4, 9, 1, 1, 5,
+];
+
+const FLAGGED: &[u16] = &[
+    1, 0, 10, 34, 74, 1, 17478, 19540, 8, 4, 0, 0, 65535, 3, 0, 1, 2, 3, 27493, 29294, 20, 28001,
+    29291, 26, 28011, 28011, 32, 0, 1, 0, 0, 1, 1, 0, 2, 2, 3, 4, 10, 40, 114, 204, 2, 256, 1, 8,
+    1, 54, 4, 0, 1, 12, 2, 2, 65496, 7, 30, 4, 0, 1, 8, 1, 12, 24, 2, 30, 48, 1, 4, 3, 4, 5, 9, 1,
+    1, 1, 4, 0, 90, 0, 96, 1, 160, 0, 102, 1, 6, 12, 1, 300, 700, 1, 310, 0, 6, 16, 1, 10, 0, 1,
+    12, 22, 1, 30, 62, 1, 3, 3, 4, 9, 1, 2, 3, 9, 3, 0, 14, 0, 20, 0, 26, 1, 100, 500, 1, 110, 510,
+    1, 120, 490, 2, 6, 12, 1, 105, 800, 1, 125, 760, 6, 16, 1, 10, 1, 1, 12, 12, 1, 18, 30, 1, 1,
+    5, 1, 0, 6, 1, 90, 65516, 1, 4, 1, 95, 65236,
+];
+
+/// The same tables for the glyphs 0, 5, 2, 1, 9, 7 and 3. FontTools reads the same classes, sets, flags and anchors in both,
+/// and HarfBuzz shapes eleven texts in the same way.
+const NEW_DEFINED: &[u16] = &[
+    1, 2, 14, 0, 0, 34, 54, 1, 0, 7, 0, 3, 1, 1, 3, 1, 3, 1, 0, 7, 0, 0, 0, 0, 1, 0, 1, 1, 2, 0,
+    12, 0, 20, 1, 2, 4, 6, 1, 1, 1,
+];
+
+const NEW_FLAGGED: &[u16] = &[
+    1, 0, 10, 34, 74, 1, 17478, 19540, 8, 4, 0, 0, 65535, 3, 0, 1, 2, 3, 27493, 29294, 20, 28001,
+    29291, 26, 28011, 28011, 32, 0, 1, 0, 0, 1, 1, 0, 2, 2, 3, 4, 10, 46, 132, 210, 2, 256, 1, 8,
+    1, 12, 4, 0, 1, 18, 1, 1, 3, 2, 2, 65496, 5, 30, 4, 0, 1, 8, 1, 12, 22, 2, 28, 60, 1, 3, 1, 4,
+    6, 1, 1, 3, 3, 1, 14, 0, 20, 0, 26, 1, 90, 65516, 1, 120, 490, 1, 100, 500, 1, 6, 12, 1, 300,
+    700, 1, 310, 0, 6, 16, 1, 10, 0, 1, 12, 20, 1, 28, 50, 1, 2, 4, 6, 1, 2, 4, 6, 2, 0, 10, 0, 16,
+    1, 120, 490, 1, 100, 500, 2, 6, 12, 1, 125, 760, 1, 105, 800, 6, 16, 1, 10, 1, 1, 12, 18, 1,
+    24, 36, 1, 1, 1, 1, 1, 1, 1, 0, 6, 1, 90, 65516, 1, 4, 1, 95, 65236,
+];
+
 /// Appends numbers of two bytes.
 fn put(bytes: &mut Vec<u8>, words: &[u16]) -> Result<(), AllocError> {
     for word in words {
@@ -391,4 +427,40 @@ fn pairs_and_marks(rt: HostRuntime) {
             assert_eq!(rt; written.as_slice(), new.as_slice(), "{}", row.what);
         }
     }
+}
+
+#[test]
+fn flags(rt: HostRuntime) {
+    let kept = [0, 5, 2, 1, 9, 7, 3];
+    let old = table(rt.alloc(), FLAGGED, &[]).expect(&rt, "memory");
+    let new = table(rt.alloc(), NEW_FLAGGED, &[]).expect(&rt, "memory");
+    let mut limit = 1000;
+    let written = flagged_positions(rt.alloc(), &old, &kept, &mut limit).expect(&rt, "a table");
+    assert_eq!(rt; written.as_slice(), new.as_slice());
+    let old = table(rt.alloc(), DEFINED, &[]).expect(&rt, "memory");
+    let new = table(rt.alloc(), NEW_DEFINED, &[]).expect(&rt, "memory");
+    let mut limit = 1000;
+    let written = glyph_definitions(rt.alloc(), &old, &kept, &mut limit).expect(&rt, "definitions");
+    assert_eq!(rt; written.as_slice(), new.as_slice());
+}
+
+/// A table of version 1.0 has no sets, also if a number is at their offset. An offset of 0 is an empty set.
+#[test]
+fn definitions(rt: HostRuntime) {
+    let old = [1, 0, 14, 0, 0, 0, 1, 1, 5, 1, 3];
+    let new = [1, 2, 14, 0, 0, 24, 34, 1, 0, 2, 3, 0, 1, 0, 2, 0, 0, 1, 0];
+    let old = table(rt.alloc(), &old, &[]).expect(&rt, "memory");
+    let new = table(rt.alloc(), &new, &[]).expect(&rt, "memory");
+    let mut limit = 1000;
+    let written = glyph_definitions(rt.alloc(), &old, &[5, 6], &mut limit).expect(&rt, "a table");
+    assert_eq!(rt; written.as_slice(), new.as_slice());
+    let old = [1, 2, 0, 0, 0, 0, 14, 1, 2, 0, 0, 0, 12, 1, 1, 6];
+    let new = [
+        1, 2, 14, 0, 0, 24, 34, 1, 0, 2, 0, 0, 1, 0, 2, 0, 0, 1, 2, 0, 12, 0, 16, 1, 0, 1, 1, 1,
+    ];
+    let old = table(rt.alloc(), &old, &[]).expect(&rt, "memory");
+    let new = table(rt.alloc(), &new, &[]).expect(&rt, "memory");
+    let mut limit = 1000;
+    let written = glyph_definitions(rt.alloc(), &old, &[5, 6], &mut limit).expect(&rt, "a table");
+    assert_eq!(rt; written.as_slice(), new.as_slice());
 }

@@ -1,12 +1,15 @@
 -- Layout tables under new glyph numbers, and why one is not written.
-use Rattle.std.specs.Prelude.{◌≡◌, ◌⊎◌, ℕ, ◌<◌, ◌++◌, List, [], ◌∷◌}
+use Rattle.std.specs.Prelude.{◌≡◌, ◌⊎◌, ℕ, ◌<◌, ◌++◌, Bool, true, false, List, [], ◌∷◌, length, nat_lt}
 use Rattle.postscript_layout.specs.Numbers.{word}
 use Rattle.postscript_layout_write.specs.Classes.{KeepsClasses, RefusesClasses}
+use Rattle.postscript_layout_write.specs.Definitions.{KeepsDefinitions}
+use Rattle.postscript_layout_write.specs.Flags.{KeepsFlaggedPositions}
 use Rattle.postscript_layout_write.specs.Positions.{KeepsPositions}
-use Rattle.postscript_layout_write.specs.Refusals.{Refuses}
+use Rattle.postscript_layout_write.specs.Refusals.{Fails, Refuses}
 use Rattle.postscript_layout_write.specs.Substituting.{KeepsSubstitutions}
 use Rattle.postscript_sfnt.specs.Lent.{HasNoTable, IsTableOf}
 use Rattle.postscript_sfnt.specs.declared.file.FontFile.{FontFile}
+use Rattle.postscript_layout_write.specs.declared.error.Error.{Error}
 use Rattle.postscript_subset.specs.Lookups.{HavePositions}
 use Rattle.postscript_subset.specs.declared.features.Features.{Features}
 use Rattle.postscript_subset.specs.declared.layers.Outcome.{Outcome}
@@ -26,12 +29,35 @@ gpos_tag = 0x47504f53
 abbrev pub OfTable : FontFile → (tag : ℕ) → (List ℕ → Type 0) → Type 0
 OfTable file tag P = (table : List ℕ) × IsTableOf file tag table × P table
 
+-- whether there are few enough glyphs for a `GDEF` table with classes and sets of marks
+abbrev pub are_few : (origins : List ℕ) → Bool
+are_few origins = nat_lt (length origins) 16378
+
+-- the new `GDEF` table has glyph classes, and with few glyphs also mark attachment classes and mark glyph sets
+abbrev pub KeepsGlyphs : (few : Bool) → (old origins new : List ℕ) → Type 0
+KeepsGlyphs true old origins new = KeepsDefinitions old origins new
+KeepsGlyphs false old origins new = KeepsClasses old origins new
+
+abbrev pub RefusesGlyphs : (few : Bool) → Error → (origins : List ℕ) → (left : ℕ) → Type 0
+RefusesGlyphs true e origins left = Fails left e
+RefusesGlyphs false e origins left = RefusesClasses e origins left
+
+-- whether the new `GDEF` table has classes and sets of marks
+abbrev pub have_marks : (origins : List ℕ) → (gdef : Outcome) → Bool
+have_marks origins Kept = are_few origins
+have_marks origins _ = false
+
+-- the new `GPOS` table keeps kerning and marks, and if there are classes and sets of marks also in lookups that use these
+abbrev pub KeepsPlaces : (marks : Bool) → (old origins new : List ℕ) → Type 0
+KeepsPlaces true old origins new = KeepsFlaggedPositions old origins new
+KeepsPlaces false old origins new = KeepsPositions old origins new
+
 -- The outcome for `GDEF`, and the new table. The table is absent if the face has none, or no glyph classes in it.
 abbrev pub IsGdef : Outcome → (file : FontFile) → (origins : List ℕ) → (left : ℕ) → (new : List ℕ) → Type 0
 IsGdef Absent file origins left new = HasNoTable file gdef_tag ⊎ OfTable file gdef_tag (λ gdef. word gdef 4 ≡ 0)
 IsGdef NotChosen file origins left new = ⊥
-IsGdef Kept file origins left new = OfTable file gdef_tag (λ gdef. (0 < word gdef 4) × KeepsClasses gdef origins new)
-IsGdef (Lost e) file origins left new = OfTable file gdef_tag (λ gdef. (0 < word gdef 4) × RefusesClasses e origins left)
+IsGdef Kept file origins left new = OfTable file gdef_tag (λ gdef. (0 < word gdef 4) × KeepsGlyphs (are_few origins) gdef origins new)
+IsGdef (Lost e) file origins left new = OfTable file gdef_tag (λ gdef. (0 < word gdef 4) × RefusesGlyphs (are_few origins) e origins left)
 
 -- The outcome for `GSUB`, and the new table. It is lost if it is refused, or with `GDEF`.
 abbrev pub IsGsub : Outcome → (file : FontFile) → (lookups origins : List ℕ) → (gdef : Outcome) → (left : ℕ) → (new : List ℕ) → Type 0
@@ -44,7 +70,7 @@ IsGsub (Lost e) file lookups origins gdef left new = OfTable file gsub_tag (λ g
 abbrev pub IsGpos : Outcome → (file : FontFile) → (features : Features) → (origins : List ℕ) → (gdef : Outcome) → (left : ℕ) → (new : List ℕ) → Type 0
 IsGpos Absent file features origins gdef left new = HasNoTable file gpos_tag
 IsGpos NotChosen file features origins gdef left new = (HavePositions features → ⊥) × OfTable file gpos_tag (λ gpos. Unit {0})
-IsGpos Kept file features origins gdef left new = HavePositions features × OfTable file gpos_tag (λ gpos. KeepsPositions gpos origins new)
+IsGpos Kept file features origins gdef left new = HavePositions features × OfTable file gpos_tag (λ gpos. KeepsPlaces (have_marks origins gdef) gpos origins new)
 IsGpos (Lost e) file features origins gdef left new =
     HavePositions features × OfTable file gpos_tag (λ gpos. Refuses e gpos left ⊎ (gdef ≡ Lost e))
 

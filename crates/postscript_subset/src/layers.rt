@@ -2,7 +2,8 @@
 ghost use Rattle.std.specs.Prelude.{◌≡◌, ◌≤◌, [], IfOk, IfErr};
 ghost use Rattle.postscript_layout.specs.Numbers.{word};
 ghost use Rattle.postscript_files.specs.declared.error.Error.TheVariants as causes;
-ghost use Rattle.postscript_subset.specs.Layers.{IsGdef, IsGpos, IsGsub};
+ghost use Rattle.postscript_layout_write.specs.Refusals.{Refuses};
+ghost use Rattle.postscript_subset.specs.Layers.{IsGdef, IsGpos, IsGsub, KeepsGlyphs, KeepsPlaces, RefusesGlyphs, are_few, have_marks};
 ghost use Rattle.postscript_subset.specs.Layering.{AreLayers, IsLayer};
 ghost use Rattle.postscript_subset.specs.declared.error.Error.TheVariants as errors;
 ghost use Rattle.postscript_subset.specs.declared.layers.Outcome.TheVariants as outcomes;
@@ -10,7 +11,9 @@ ghost use Rattle.postscript_subset.specs.declared.layers.Outcome.TheVariants as 
 use crate::error::{Error, Result};
 use crate::features::Features;
 use postscript_base::index::number::number_at;
-use postscript_layout_write::{Error as Fault, glyph_classes, positions, substitutions};
+use postscript_layout_write::{
+    Error as Fault, flagged_positions, glyph_classes, glyph_definitions, positions, substitutions,
+};
 use postscript_sfnt::FontFile;
 use std::alloc::Global;
 
@@ -79,6 +82,57 @@ fn classes_at(gdef: &[u8]) -> usize
     }
 }
 
+/// The most glyphs of a `GDEF` table with classes and sets of marks.
+const MOST: usize = 16377;
+
+/// Writes a `GDEF` table with the classes of the origins, and with classes and sets of marks if there are few origins.
+fn definitions_of(
+    alloc: Global,
+    gdef: &[u8],
+    origins: &[u16],
+    limit: &mut u64,
+) -> std::result::Result<Vec<u8>, Fault>
+    ensures kept { IfOk result (λ new. KeepsGlyphs (are_few origins.now) gdef.now origins.now new.items) }
+    ensures spends { limit.new ≤ limit.old }
+    ensures why { IfErr result (λ e. RefusesGlyphs (are_few origins.now) e origins.now limit.new) }
+{
+    if origins.len() > MOST {
+        glyph_classes(alloc, gdef, origins, limit)
+    } else {
+        glyph_definitions(alloc, gdef, origins, limit)
+    }
+}
+
+/// Returns whether the new `GDEF` table has classes and sets of marks.
+fn has_marks(origins: &[u16], gdef: Outcome) -> bool
+    ensures { result ≡ have_marks origins.now gdef }
+{
+    match gdef {
+        Outcome::Kept => origins.len() <= MOST,
+        _ => false,
+    }
+}
+
+/// Writes a `GPOS` table for the origins. Lookups that use classes or sets of marks are kept if the new `GDEF` table has
+/// these.
+fn positions_of(
+    alloc: Global,
+    gpos: &[u8],
+    origins: &[u16],
+    gdef: Outcome,
+    limit: &mut u64,
+) -> std::result::Result<Vec<u8>, Fault>
+    ensures kept { IfOk result (λ new. KeepsPlaces (have_marks origins.now gdef) gpos.now origins.now new.items) }
+    ensures spends { limit.new ≤ limit.old }
+    ensures why { IfErr result (λ e. Refuses e gpos.now limit.new) }
+{
+    if has_marks(origins, gdef) {
+        flagged_positions(alloc, gpos, origins, limit)
+    } else {
+        positions(alloc, gpos, origins, limit)
+    }
+}
+
 /// Returns the `GDEF` table with the classes of the origins.
 fn gdef_of(alloc: Global, file: &FontFile<'_>, origins: &[u16], limit: &mut u64) -> Result<Layer>
     ensures gdef { IfOk result (λ gdef. IsGdef gdef.outcome file.now origins.now limit.new gdef.table.items) }
@@ -89,7 +143,7 @@ fn gdef_of(alloc: Global, file: &FontFile<'_>, origins: &[u16], limit: &mut u64)
         None => Ok(without(alloc, Outcome::Absent)),
         Some(gdef) => {
             if classes_at(gdef) > 0 {
-                layer_of(alloc, glyph_classes(alloc, gdef, origins, limit))
+                layer_of(alloc, definitions_of(alloc, gdef, origins, limit))
             } else {
                 Ok(without(alloc, Outcome::Absent))
             }
@@ -140,7 +194,7 @@ fn gpos_of(
             }
             match gdef {
                 Outcome::Lost(fault) => Ok(without(alloc, Outcome::Lost(fault))),
-                _ => layer_of(alloc, positions(alloc, gpos, origins, limit)),
+                _ => layer_of(alloc, positions_of(alloc, gpos, origins, gdef, limit)),
             }
         }
     }

@@ -10,7 +10,9 @@ use crate::text::Text;
 use clap::ArgMatches;
 use postscript_base::index::number::number_within;
 use postscript_files::Given;
-use postscript_layout_write::{Error, glyph_classes, left_out, positions, substitutions};
+use postscript_layout_write::{
+    Error, flagged_positions, glyph_classes, glyph_definitions, left_out, positions, substitutions,
+};
 use postscript_write::kept_glyphs;
 use std::alloc::{AllocError, Global};
 
@@ -35,6 +37,23 @@ fn glyphs_of(alloc: Global, face: &Face<'_>, named: &[usize]) -> Result<Vec<u16>
         glyphs.push(u16::try_from(glyph).unwrap_or(u16::MAX))?;
     }
     Ok(glyphs)
+}
+
+/// The most glyphs of a `GDEF` table with classes and sets of marks.
+const MOST: usize = 16377;
+
+/// Writes a `GDEF` table with the classes of glyphs, and with classes and sets of marks if there are few glyphs.
+fn definitions_of(
+    alloc: Global,
+    gdef: &[u8],
+    glyphs: &[u16],
+    left: &mut u64,
+) -> std::result::Result<Vec<u8>, Error> {
+    if glyphs.len() <= MOST {
+        glyph_definitions(alloc, gdef, glyphs, left)
+    } else {
+        glyph_classes(alloc, gdef, glyphs, left)
+    }
 }
 
 /// Returns whether a `GDEF` table has glyph classes.
@@ -82,7 +101,12 @@ impl Kerning {
         left: &mut u64,
     ) -> Result<(), AllocError> {
         if let Some(gpos) = face.source.file.table(*b"GPOS") {
-            self.lost = self.put(*b"GPOS", positions(alloc, gpos, glyphs, left))?;
+            let written = if self.has(*b"GDEF") && glyphs.len() <= MOST {
+                flagged_positions(alloc, gpos, glyphs, left)
+            } else {
+                positions(alloc, gpos, glyphs, left)
+            };
+            self.lost = self.put(*b"GPOS", written)?;
         }
         Ok(())
     }
@@ -97,7 +121,8 @@ impl Kerning {
     ) -> Result<(), AllocError> {
         match face.source.file.table(*b"GDEF") {
             Some(gdef) if has_classes(gdef) => {
-                self.lost = self.put(*b"GDEF", glyph_classes(alloc, gdef, glyphs, left))?;
+                let written = definitions_of(alloc, gdef, glyphs, left);
+                self.lost = self.put(*b"GDEF", written)?;
                 self.ligatures = self.lost;
                 Ok(())
             }

@@ -6,7 +6,7 @@ use Rattle.postscript_layout_write.proofs.positioning.forms_of.Goals as goal
 
 pub loop-k-preserved : goal.loop-k-preserved
 loop-k-preserved c = record {
-  forms = forms-more c.args.gpos.now c.args.kept.now c.args.lookup c.loop-k.k c.in_ok-entries.entries.items c.loop-k.forms c.add.new.self (omega arith) c.requires.few
+  forms = forms-more c.args.scope c.args.gpos.now c.args.kept.now c.args.lookup c.loop-k.k c.in_ok-entries.entries.items c.loop-k.forms c.add.new.self (omega arith) c.requires.few
       c.in_ok-entries.ensures.exact
       (subst (λ (xs : List Entry). AddsForms c.loop-k.k xs c.loop-k.forms c.add.new.self) c.deref.ensures.value c.in_ok-add.ensures.done)
       c.loop-k.invariant.forms;

@@ -1,10 +1,10 @@
 use Rattle.std.proofs.Common.{◌≤◌}
-use Rattle.postscript_layout_write.specs.Kerning.{kept_pair}
+use Rattle.postscript_layout_write.specs.Scopes.{new_pair}
 use Rattle.postscript_layout_write.specs.Lookups.{AreForms}
 use Rattle.postscript_layout_write.proofs.positioning.forms_of.Given as goal
 
 abbrev pub invariant-loop-k : goal.invariant-loop-k
 invariant-loop-k l = record {
-  forms : AreForms (kept_pair l.gpos l.kept l.lookup) l.k l.forms;
+  forms : AreForms (new_pair l.scope l.gpos l.kept l.lookup) l.k l.forms;
   spent : l.limit ≤ l.fn.limit;
 }

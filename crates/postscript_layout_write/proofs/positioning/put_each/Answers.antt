@@ -13,9 +13,9 @@ loop-i-preserved c =
     let place : c.word-list.result + c.word.result ≡ lookup_at gpos i = ap (λ (n : ℕ). c.word-list.result + n) c.word.ensures.exact
     ∙ ap (λ (n : ℕ). n + word gpos (n + 2 + i * 2)) c.word-list.ensures.exact in
     record {
-      lookups = lookups-more c.args.marks gpos kept i c.loop-i.offsets.items c.loop-i.bytes.items c.push.new.self.items c.put_any.new.out.items
+      lookups = lookups-more c.args.scope gpos kept i c.loop-i.offsets.items c.loop-i.bytes.items c.push.new.self.items c.put_any.new.out.items
           c.loop-i.invariant.lookups
-          (subst (λ (p : ℕ). AddsPosition c.args.marks gpos kept p c.loop-i.bytes.items c.put_any.new.out.items) place c.in_ok-put_any.ensures.done)
+          (subst (λ (p : ℕ). AddsPosition c.args.scope gpos kept p c.loop-i.bytes.items c.put_any.new.out.items) place c.in_ok-put_any.ensures.done)
           (search rules);
       spent = omega (arith, c.pay.ensures.spends, c.put_any.ensures.spends, c.loop-i.invariant.spent);
     }

@@ -10,7 +10,7 @@ returns-clause-kept c =
     let end = c.in_ok-end.end in
     keeps gpos c.put_list.new.out.items p.offsets p.bytes end c.in_ok-end.ensures.exact.holds (omega arith) (omega arith)
     (p.text ∙ ap (λ (xs : List ℕ). xs ++ list_text p.offsets p.bytes) (c.in_ok-put_front.ensures ∙ ap (λ (xs : List ℕ). xs ++ front_text gpos end) c.new-out.ensures.items))
-    p.few p.fit c.args.kept.now c.args.marks p.are
+    p.few p.fit c.args.kept.now c.args.scope p.are
 
 pub returns-then-end-gt65535-clause-why : goal.returns-then-end-gt65535-clause-why
 returns-then-end-gt65535-clause-why c = λ m small within ends.
