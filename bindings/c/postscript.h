@@ -331,7 +331,8 @@ int32_t psf_file_flat(const uint8_t *file, size_t length, size_t face, uint64_t 
  * subroutines. The characters are characters[0..asked], and those of glyphs[0..named]. The glyphs are .notdef, glyphs[0..named],
  * those of all characters, and the components of seac glyphs. Each is drawn, named and measured as before.
  * The tables with the tags copied[0..tables] are copied, such as 0x6e616d65 for the name table; tags that the face does not have
- * are ignored. There are no other tables besides CFF, cmap, hhea, hmtx, maxp and post, so kerning and ligatures are lost.
+ * are ignored. There are no other tables besides CFF, cmap, hhea, hmtx, maxp and post, so kerning and ligatures
+ * are lost: psf_file_subset_layout keeps them.
  * If lenient is 0, a character without a glyph is an error; otherwise it is left out. If keeps is 0, glyphs get new numbers in
  * ascending order; otherwise they keep their numbers, and all others are empty.
  * Outputs and errors are those of psf_file_flat, and PSF_NO_MAP, PSF_NO_ADVANCES, PSF_NO_CHARACTER, PSF_CUT_TABLE, PSF_SAME_TAG,
