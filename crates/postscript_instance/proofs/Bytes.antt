@@ -17,7 +17,7 @@ use Rattle.postscript_instance.proofs.Laying.{keyed-length, named-length, same-t
 use Rattle.postscript_instance.proofs.Sets.{select-length, set-most}
 
 pub keyed-small : (font : Font) (name matrix : List ℕ) (codes privates : List (Vec ℕ Global)) (set select head : List ℕ) (p : Places) →
-    HasRoom name matrix [] codes privates → IsSetText (range_with_len 1 (length codes - 1)) set → IsSelectText font (length codes) select →
+    HasRoom name matrix codes privates → IsSetText (range_with_len 1 (length codes - 1)) set → IsSelectText font (length codes) select →
     head ≡ tables_text (name ∷ []) (keyed_text matrix (length codes) p) (adobe ∷ identity ∷ []) →
     length head + length set + length select + length (index_text (texts codes)) + length (concat (texts privates)) < 2 ^ 31
 keyed-small font name matrix codes privates set select head p room is_set is_select is =

@@ -181,7 +181,7 @@ dictionary-of font glyphs glyph text bytes view place number is less got there c
     }
 
 pub keyed-font : (font : Font) (naming : Naming) (matrix : List ℕ) (m : Option (List Decimal)) (codes privates : List (Vec ℕ Global))
-    (out : List ℕ) → IsKeyedBytes font naming.font.now matrix codes privates out → HasRoom naming.font.now matrix [] codes privates →
+    (out : List ℕ) → IsKeyedBytes font naming.font.now matrix codes privates out → HasRoom naming.font.now matrix codes privates →
     IsDict matrix (matrix_operation m) → length privates ≡ length (view_shown font).font_dictionaries → All IsPrivate (texts privates) →
     naming.glyphs ≡ None → IsFontOf font naming (texts codes) out
 keyed-font font naming matrix m codes privates out b room dict counted are no_names =

@@ -348,7 +348,7 @@ three-length out front a b c start begins is =
 
 -- the table of a CID-keyed font
 pub keyed-table : (font : Font) (name matrix : List ℕ) (m : Option (List Decimal)) (codes privates : List (Vec ℕ Global)) (out : List ℕ) →
-    IsKeyedBytes font name matrix codes privates out → HasRoom name matrix [] codes privates → IsDict matrix (matrix_operation m) →
+    IsKeyedBytes font name matrix codes privates out → HasRoom name matrix codes privates → IsDict matrix (matrix_operation m) →
     length privates ≡ length (view_shown font).font_dictionaries →
     whole.IsKeyedTable m name (adobe ∷ identity ∷ []) (texts codes) (texts privates) out
 keyed-table font name matrix m codes privates out b room dict counted =

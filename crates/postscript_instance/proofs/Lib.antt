@@ -25,3 +25,4 @@ pub mod Opened
 pub mod Numbered
 pub mod Fonts
 pub mod Making
+mod HintRows

@@ -59,16 +59,15 @@ module _ (font : Font) (naming : Naming) (codes privates : List (Vec ℕ Global)
   ]
 
   pub has-room : naming.glyphs ≡ None → length (texts privates) ≡ length (view_shown font).font_dictionaries →
-      HasRoom naming.font.now matrix [] codes privates
+      HasRoom naming.font.now matrix codes privates
   has-room none counted = record {
-    few_strings = omega arith;
     few_codes = omega (arith, few-codes);
     few_privates = omega (arith, few-dictionaries none, counted, length-map privates (λ (v : Vec ℕ Global). v.items));
     small = omega (arith, sum-within, ap glyphs_size none);
   }
 
 pub keyed-whole : (font : Font) (naming : Naming) (matrix : List ℕ) (m : Option (List Decimal)) (codes privates : List (Vec ℕ Global))
-    (out : List ℕ) → IsKeyedBytes font naming.font.now matrix codes privates out → HasRoom naming.font.now matrix [] codes privates →
+    (out : List ℕ) → IsKeyedBytes font naming.font.now matrix codes privates out → HasRoom naming.font.now matrix codes privates →
     IsMatrixOf font.dictionary.bytes.now matrix m → length privates ≡ length (view_shown font).font_dictionaries → naming.glyphs ≡ None →
     IsWhole font naming (texts codes) (texts privates) out
 keyed-whole font naming matrix m codes privates out b room is counted none = record {

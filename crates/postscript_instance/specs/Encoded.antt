@@ -56,13 +56,11 @@ pub record AreLow (places : Places) : Type 0 where
   pub private : places.private < 2 ^ 31
   pub array : places.array < 2 ^ 31
 
--- the parts of a table are few and small
-pub record HasRoom (name matrix : List ℕ) (strings codes privates : List (Vec ℕ Global)) : Type 0 where
-  pub few_strings : length strings < 2 ^ 16
+-- the parts of a CID-keyed table are few and small
+pub record HasRoom (name matrix : List ℕ) (codes privates : List (Vec ℕ Global)) : Type 0 where
   pub few_codes : length codes < 2 ^ 16
   pub few_privates : length privates ≤ 256
-  pub small : length name + length (concat (texts strings)) + length (concat (texts codes)) + length (concat (texts privates)) + length matrix
-      < 2000000000
+  pub small : length name + length (concat (texts codes)) + length (concat (texts privates)) + length matrix < 2000000000
 
 -- a glyph has a Font DICT, and each of the first `count` glyphs has one
 abbrev pub HasFontDict : Font → (glyph number : ℕ) → Type 0

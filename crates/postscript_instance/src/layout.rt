@@ -282,7 +282,7 @@ pub(crate) fn laid_out_by_numbers(
     codes: &[Vec<u8>],
     privates: &[Vec<u8>],
 ) -> Result<Vec<u8>>
-    requires room { HasRoom name.now matrix.now [] codes.now privates.now }
+    requires room { HasRoom name.now matrix.now codes.now privates.now }
     requires parts { length privates.now ≡ length (view_shown font.now).font_dictionaries }
     requires have { HaveFontDicts font.now (length codes.now) }
     ensures bytes { IfOk result (λ out. IsKeyedBytes font.now name.now matrix.now codes.now privates.now out.items) }
