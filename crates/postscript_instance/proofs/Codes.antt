@@ -1,33 +1,37 @@
 -- The codes of glyphs, one more at a time.
 use Rattle.std.proofs.Common.{◌≡◌, refl, ap, sym, subst, ◌∙◌, ℕ, zero, suc, ◌+◌, ◌<◌, ◌⊎◌, inl, inr, ℤ, List, [], ◌∷◌, ◌++◌, length, length-append, Some, slice_get, get_or, Vec, arith}
+use Rattle.std.specs.Prelude.{option_map}
 use Rattle.std.specs.declared.alloc.Global.{Global}
-use Rattle.postscript_view.specs.Layout.{IsLaidOut}
-use Rattle.postscript_view.specs.Contents.{View}
-use Rattle.postscript_instance.specs.Advances.{AreAdvancesAt, IsOperand}
-use Rattle.postscript_instance.specs.declared.advances.AdvancesAt.{AdvancesAt}
-use Rattle.postscript_instance.specs.Naming.{IsCalled}
-use Rattle.postscript_instance.specs.declared.naming.Naming.{Naming}
+use Rattle.std.proofs.lemmas.List.{length-map}
+use Rattle.std.proofs.lemmas.Option.{slice_get-map, slice_get_within}
+use Rattle.postscript_cff2.specs.Shown.{view_shown}
 use Rattle.postscript_cff2.specs.declared.font.Font.{Font}
-use Rattle.postscript_instance.specs.Dictionaries.{KeepDictionaries}
-use Rattle.postscript_instance.specs.Hints.{AreHintsAt, IsPrivateAt, IsSource}
-use Rattle.postscript_variable_font.specs.declared.place.Place.{Place}
-use Rattle.postscript_instance.specs.Glyphs.{AreCodes}
-use Rattle.postscript_instance.specs.Whole.{AreOfFont, IsWhole}
-use Rattle.postscript_instance.proofs.Compared.{same-items}
 use Rattle.postscript_type2.specs.Program.Routines.{texts}
-use Rattle.postscript_instance.specs.Tables.{AreItems, IsPlainFont, IsTable}
+use Rattle.postscript_variable.specs.declared.charstring.Charstring.{Charstring}
+use Rattle.postscript_variable_font.specs.Glyphs.{IsCharstringOf}
+use Rattle.postscript_variable_font.specs.declared.place.Place.{Place}
+use Rattle.postscript_instance.specs.Advances.{AreAdvancesAt, IsOperand}
+use Rattle.postscript_instance.specs.Encoded.{HasFontDict, HaveFontDicts, IsFontOf}
+use Rattle.postscript_instance.specs.Glyphs.{AreCodes, DoesIn}
+use Rattle.postscript_instance.specs.Hints.{AreHintsAt, IsPrivateAt, IsSource}
+use Rattle.postscript_instance.specs.Tables.{IsTable}
+use Rattle.postscript_instance.specs.Whole.{AreOfFont, IsWhole}
+use Rattle.postscript_instance.specs.declared.advances.AdvancesAt.{AdvancesAt}
+use Rattle.postscript_instance.specs.declared.naming.Naming.{Naming}
+use Rattle.postscript_instance.specs.declared.tables.Numbers.{Numbers}
+use Rattle.postscript_instance.specs.declared.tables.Numbers.TheVariants.{Exact, Whole}
 
 -- what stands there already stays, and the new one is the last
-stays : {X : Type 0} (xs : List X) (x : X) (i : ℕ) → i < length xs → slice_get (xs ++ x ∷ []) i ≡ slice_get xs i
+pub stays : {X : Type 0} (xs : List X) (x : X) (i : ℕ) → i < length xs → slice_get (xs ++ x ∷ []) i ≡ slice_get xs i
 stays [] x i h = absurd (omega (arith, h))
 stays (y ∷ ys) x zero h = refl
 stays (y ∷ ys) x (suc i) h = stays ys x i (omega (arith, h))
 
-last : {X : Type 0} (xs : List X) (x : X) → slice_get (xs ++ x ∷ []) (length xs) ≡ Some x
+pub last : {X : Type 0} (xs : List X) (x : X) → slice_get (xs ++ x ∷ []) (length xs) ≡ Some x
 last [] x = refl
 last (y ∷ ys) x = last ys x
 
-either : (i n : ℕ) → i < n + 1 → (i < n) ⊎ (i ≡ n)
+pub either : (i n : ℕ) → i < n + 1 → (i < n) ⊎ (i ≡ n)
 either i n h = grind (arith)
 
 pub found : {X : Type 0} (xs : List X) (i : ℕ) (x : X) → x ≡ get_or xs i x → i < length xs → slice_get xs i ≡ Some x
@@ -70,47 +74,53 @@ one-advance advances n xs x are is =
       ];
     }
 
-pub one-item : (items : List (List ℕ)) (codes : List (Vec ℕ Global)) (n : ℕ) (code : Vec ℕ Global) → AreItems items codes n →
-    slice_get codes n ≡ Some code →
-    slice_get items n ≡ Some code.items → AreItems items codes (n + 1)
-one-item items codes n code are there is = record {
-  counted = are.counted;
-  each = λ number h. elim (either number n h) [
-    | inl less ↦ are.each number less
-    | inr same ↦ (code, ap (slice_get codes) same ∙ there, ap (slice_get items) same ∙ is)
-  ];
-}
-
-same-code : (codes : List (Vec ℕ Global)) (i : ℕ) (a b : Vec ℕ Global) → slice_get codes i ≡ Some a → slice_get codes i ≡ Some b → a ≡ b
-same-code codes i a b h k = let both : Some a ≡ Some b = sym h ∙ k in cc
-
 -- the table of codes that do what they are to do
 pub table-of : (does : (glyph : ℕ) → (advance : ℤ) → (code : List ℕ) → Type 0) (font : Font) (place : Place) (naming : Naming) (advances : List ℤ)
-    (bytes : List ℕ) (codes : List (Vec ℕ Global)) (view : View) →
-    AreCodes does advances (length advances) codes → IsLaidOut bytes 0 view → IsPlainFont view codes → IsCalled naming bytes view →
-    KeepDictionaries font bytes view (length codes) → (privates : List (List ℕ)) → AreOfFont font privates → AreHintsAt font place privates (length privates) → IsWhole font naming (texts codes) privates bytes →
-    IsTable does font place naming advances bytes
-table-of does font place naming advances bytes codes view are stands plain called keep privates are_privates hints whole =
+    (bytes : List ℕ) (codes : List (Vec ℕ Global)) → AreCodes does advances (length advances) codes → IsFontOf font naming (texts codes) bytes →
+    (privates : List (List ℕ)) → AreOfFont font privates → AreHintsAt font place privates (length privates) →
+    IsWhole font naming (texts codes) privates bytes → IsTable does font place naming advances bytes
+table-of does font place naming advances bytes codes are is privates are_privates hints whole =
     let many = are.counted in
-    let all = plain.items.counted in record {
-      view = view;
-      stands = stands;
-      counted = all ∙ many;
+    let all : length (texts codes) ≡ length codes = length-map codes (λ v. v.items) in
+    record {
+      view = is.view;
+      stands = is.stands;
+      counted = ap length is.are_codes ∙ all ∙ many;
       glyphs = λ glyph less.
-          let one = are.each glyph less in
-          let item = plain.items.each glyph (omega (arith, less, many)) in
-          let same = same-code codes glyph item.0 one.1 item.1 one.3 in
-          (one.0, one.1.items, one.2, item.2 ∙ ap (λ (code : Vec ℕ Global). Some code.items) same, one.4);
-      none = plain.none;
-      parts = plain.parts;
-      called = called;
-      dictionaries = λ glyph less. keep glyph (omega (arith, less, many));
+          let one = are.each glyph less in (
+            one.0,
+            one.1.items,
+            one.2,
+            ap (λ items. slice_get items glyph) is.are_codes ∙ slice_get-map (λ (v : Vec ℕ Global). v.items) codes glyph
+                ∙ ap (option_map (λ (v : Vec ℕ Global). v.items)) one.3,
+            one.4,
+          );
+      none = is.none;
+      parts = is.parts;
+      called = is.called;
+      dictionaries = λ glyph less. is.dictionaries glyph (omega (arith, less, many, all));
       privates = privates;
       are_privates = are_privates;
       hints = hints;
-      whole = subst (λ items. IsWhole font naming items privates bytes)
-          (sym (same-items view.char_strings codes plain.items.counted plain.items.each)) whole;
+      whole = subst (λ items. IsWhole font naming items privates bytes) (sym is.are_codes) whole;
     }
+
+-- each glyph that has a code has a Font DICT
+has-dict : (font : Font) (place : Place) (glyph : ℕ) (charstring : Charstring) → IsCharstringOf font glyph place charstring →
+    (number : ℕ) × HasFontDict font glyph number
+has-dict font place glyph charstring is =
+    (is.has.number, (is.has.numbered, slice_get_within (view_shown font).font_dictionaries is.has.number is.has.dictionary is.has.there))
+
+does-dict : (numbers : Numbers) (font : Font) (place : Place) (glyph : ℕ) (width : ℤ) (code : List ℕ) → DoesIn numbers font place glyph width code →
+    (number : ℕ) × HasFontDict font glyph number
+does-dict Exact font place glyph width code does = has-dict font place glyph does.charstring does.is
+does-dict Whole font place glyph width code does = has-dict font place glyph does.charstring does.is
+
+pub have-dicts : (numbers : Numbers) (font : Font) (place : Place) (widths : List ℤ) (count : ℕ) (codes : List (Vec ℕ Global)) →
+    AreCodes (DoesIn numbers font place) widths count codes → HaveFontDicts font (length codes)
+have-dicts numbers font place widths count codes are glyph less =
+    let one = are.each glyph (let many = are.counted in omega (arith, less, many)) in
+    does-dict numbers font place glyph one.0 one.1.items one.4
 
 pub one-private : (font : Font) (place : Place) (texts : List (List ℕ)) (n : ℕ) (source text : List ℕ) → length texts ≡ n →
     AreHintsAt font place texts n → IsSource font n source → IsPrivateAt place.tables.items source text →

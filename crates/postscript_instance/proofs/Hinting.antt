@@ -1,5 +1,5 @@
 -- The steps of reading a CFF2 Private DICT.
-use Rattle.std.proofs.Common.{◌≡◌, refl, sym, ap, subst, ◌∙◌, inl, inr, ℕ, suc, ◌+◌, ◌*◌, ◌-◌, ◌<◌, ◌≤◌, ◌++◌, List, [], ◌∷◌, Bool, true, false, IsTrue, Option, Some, None, length, take, drop, get_or, append_assoc, length-drop, arith}
+use Rattle.std.proofs.Common.{◌≡◌, refl, sym, ap, subst, ◌∙◌, inl, inr, ℕ, ◌+◌, ◌*◌, ◌<◌, ◌≤◌, ◌++◌, List, [], ◌∷◌, Bool, true, false, IsTrue, Option, Some, None, length, take, drop, append_assoc, length-drop, arith}
 use Rattle.std.specs.Prelude.{◌⊎◌, ℤ, pos, Vec, option_map}
 use Rattle.std.specs.List.{flat_map, list_all, slice_range}
 use Rattle.std.specs.Option.{MatchOption}

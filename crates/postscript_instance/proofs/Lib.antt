@@ -1,4 +1,3 @@
-pub mod Compared
 pub mod Reading
 pub mod Rests
 pub mod Sayable
@@ -10,9 +9,20 @@ pub mod Shortest
 pub mod Operations
 pub mod Codes
 pub mod Hinting
-pub mod Dictionaries
 pub mod Nearest
 pub mod Units
 pub mod Rounds
 pub mod InUnits
 pub mod RoundedDrawing
+pub mod Putting
+pub mod Matrices
+pub mod Laying
+pub mod Called
+pub mod Sets
+pub mod Dicts
+pub mod Bytes
+pub mod Opened
+pub mod Numbered
+pub mod Fonts
+pub mod Making
+mod HintRows

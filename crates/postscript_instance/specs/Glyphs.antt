@@ -1,6 +1,8 @@
 -- The glyphs of variable fonts at a location, as static glyphs.
 use Rattle.std.specs.Prelude.{◌≡◌, ◌≢◌, ◌⊎◌, ℕ, ℤ, ◌<◌, List, Option, Some, Vec, length, slice_get, IfSome, IsSome}
 use Rattle.std.specs.declared.alloc.Global.{Global}
+use Rattle.postscript_base.specs.Compact1.Decimal.{Decimal}
+use Rattle.postscript_type2.specs.Program.Routines.{texts}
 use Rattle.postscript_cff2.specs.Parts as parts
 use Rattle.postscript_cff2.specs.Parts.{HasPart}
 use Rattle.postscript_cff2.specs.Shown.{view_shown}
@@ -16,11 +18,13 @@ use Rattle.postscript_instance.specs.declared.tables.Numbers.TheVariants as numb
 use Rattle.postscript_instance.specs.declared.error.Error.{Error}
 use Rattle.postscript_instance.specs.declared.error.Error.TheVariants as errors
 use Rattle.postscript_instance.specs.Far.{NotRounded}
+use Rattle.postscript_instance.specs.Hints.{AreHintsAt}
 use Rattle.postscript_instance.specs.Placed.{IsPlaceIn, LacksPlace}
-use Rattle.postscript_instance.specs.Refusals.{IsLate, NotWritten}
+use Rattle.postscript_instance.specs.Refusals.{IsMemory, NotWritten}
 use Rattle.postscript_instance.specs.Rooms.{IsTooLarge}
 use Rattle.postscript_instance.specs.Rounded.{IsRoundedOf}
 use Rattle.postscript_instance.specs.Statics.{IsStaticOf}
+use Rattle.postscript_instance.specs.Whole.{AreOfFont, IsMatrixOf}
 
 -- a code that does the same as the charstring of a glyph at a location, with a width
 pub record IsStaticGlyph (font : Font) (glyph : ℕ) (place : Place) (width : Option ℤ) (code : List ℕ) : Type 0 where
@@ -41,6 +45,11 @@ IsMiscounted font naming errors.OtherNames = IfSome naming.glyphs (λ names. len
     × IsSome naming.glyphs
 IsMiscounted font naming errors.NotOneDictionary = IsSome naming.glyphs × (length (view_shown font).font_dictionaries ≢ 1)
 IsMiscounted font naming e = ⊥
+
+-- there are no names, or as many as glyphs, with one Font DICT
+abbrev pub IsCounted : Font → Naming → (count : ℕ) → Type 0
+IsCounted font naming count =
+    IfSome naming.glyphs (λ names. (length names.now ≡ count) × (length (view_shown font).font_dictionaries ≡ 1))
 
 -- the names do not fit the font, or the advance of a glyph cannot be a width
 abbrev pub LacksWidths : Font → Naming → AdvancesAt → Error → Type 0
@@ -96,17 +105,25 @@ pub record HasNoCode (numbers : Numbers) (font : Font) (place : Place) (widths :
   pub are_codes : AreCodes (DoesIn numbers font place) widths glyph before
   pub refused : NoCodeIn numbers font place glyph width e
 
--- there is such a glyph, the written table is not read back, or memory runs out
+-- there is such a glyph, or memory runs out
 abbrev pub LacksCode : Numbers → Font → Place → (widths : List ℤ) → Error → Type 0
-LacksCode numbers font place widths e = IsLate e ⊎ HasNoCode numbers font place widths e
+LacksCode numbers font place widths e = IsMemory e ⊎ HasNoCode numbers font place widths e
 
--- each glyph has a code, and the table with these codes is too large
+-- the texts of Private DICTs, and the bytes of FontMatrix, of a font at a location
+abbrev pub ArePrivatesAt : Font → Place → (privates : List (Vec ℕ Global)) → Type 0
+ArePrivatesAt font place privates = AreOfFont font (texts privates) × AreHintsAt font place (texts privates) (length (texts privates))
+
+abbrev pub IsMatrixIn : Font → (bytes : List ℕ) → Type 0
+IsMatrixIn font bytes = (matrix : Option (List Decimal)) × IsMatrixOf font.dictionary.bytes.now bytes matrix
+
+-- each glyph has a code, and the table with these codes, the Private DICTs and FontMatrix is too large
 abbrev pub HasNoRoom : Numbers → Font → Naming → Place → (widths : List ℤ) → Error → Type 0
-HasNoRoom numbers font naming place widths e = (e ≡ errors.TooLarge) × ((codes : List (Vec ℕ Global)) ×
-    AreCodes (DoesIn numbers font place) widths (length widths) codes × IsTooLarge font naming codes)
+HasNoRoom numbers font naming place widths e = (e ≡ errors.TooLarge) × ((codes : List (Vec ℕ Global)) × (privates : List (Vec ℕ Global))
+    × (matrix : List ℕ) × AreCodes (DoesIn numbers font place) widths (length widths) codes × ArePrivatesAt font place privates
+    × IsMatrixIn font matrix × IsTooLarge font naming codes privates matrix)
 
 -- Why there is no table. Widths or a location are missing, or a glyph has no code there with its width. Other causes are a table that is
--- too large or is not read back, and `Memory`.
+-- too large, and `Memory`.
 abbrev pub LacksTable : Numbers → Font → Naming → AdvancesAt → Error → Type 0
 LacksTable numbers font naming advances e = LacksWidths font naming advances e ⊎ LacksPlace font.store e
     ⊎ ((place : Place) × (widths : List ℤ) × IsPlaceIn font.store advances.coordinates.now place × AreWidthsOf font advances widths

@@ -1,7 +1,7 @@
 -- The hints of a CFF2 Private DICT at a location (OpenType 1.9, "CFF2", "DICT Data", "Private DICT Data"; Technical Note 5176, sections 4
 -- and 15).
 use Rattle.std.specs.List.{Contains, flat_map, list_all, slice_range}
-use Rattle.std.specs.Prelude.{◌≡◌, ◌⊎◌, ℕ, suc, ◌+◌, ◌-◌, ◌*◌, ◌/◌, ◌%◌, ◌<◌, ◌≤◌, ◌==◌, ◌&&◌, ◌||◌, nat_lt, nat_le, not, Bool, true, false, ℤ, pos, negsuc, int_le, List, [], ◌∷◌, ◌++◌, length, take, drop, Option, Some, None, Vec, slice_get, Result, Ok, Err, if◌then◌else◌}
+use Rattle.std.specs.Prelude.{◌≡◌, ◌⊎◌, ℕ, suc, ◌+◌, ◌-◌, ◌*◌, ◌<◌, ◌≤◌, ◌==◌, ◌&&◌, ◌||◌, nat_lt, nat_le, Bool, true, false, ℤ, pos, negsuc, int_le, List, [], ◌∷◌, ◌++◌, length, take, drop, Option, Some, None, Vec, slice_get, Result, Ok, Err, if◌then◌else◌}
 use Rattle.std.specs.declared.alloc.Global.{Global}
 use Rattle.postscript_base.specs.Compact1.Operation.{Operation}
 use Rattle.postscript_base.specs.Index.Lent.{items_of}

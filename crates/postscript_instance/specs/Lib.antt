@@ -12,8 +12,6 @@ pub mod Glyphs
 pub mod Naming
 pub mod Dictionaries
 pub mod Whole
-pub mod Encoded
-pub mod Found
 pub mod Reals
 pub mod Hints
 pub mod Tables
@@ -23,3 +21,4 @@ pub mod Placed
 pub mod Private
 pub mod Nearest
 pub mod Cuts
+pub mod Encoded

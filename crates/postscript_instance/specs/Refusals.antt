@@ -38,8 +38,7 @@ NotWritten charstring width errors.TooManyOperands = (says : List Phrase) × Say
 NotWritten charstring width errors.NoMove = (says : List Phrase) × Says charstring says × LacksMove width says
 NotWritten charstring width e = ⊥
 
--- the errors of writing the table and of reading it back
-abbrev pub IsLate : Error → Type 0
-IsLate (errors.Font e) = e ≡ causes.Memory
-IsLate errors.NotReadBack = Unit {0}
-IsLate e = ⊥
+-- out of memory
+abbrev pub IsMemory : Error → Type 0
+IsMemory (errors.Font e) = e ≡ causes.Memory
+IsMemory e = ⊥

@@ -25,8 +25,8 @@ abbrev pub IsCrowded : Font → Naming → Type 0
 IsCrowded font naming =
     MatchOption naming.glyphs (256 < length (view_shown font).font_dictionaries) (λ names. 64609 < length names.now)
 
--- A table is too large if it has at least 65,536 glyphs, or too many names or Font DICTs. It is also too large if the codes and the names
--- of the font and its glyphs have at least 2,000,000,000 bytes together.
-abbrev pub IsTooLarge : Font → Naming → (codes : List (Vec ℕ Global)) → Type 0
-IsTooLarge font naming codes = (65536 ≤ length codes) ⊎ IsCrowded font naming
-    ⊎ (2000000000 ≤ length naming.font.now + glyphs_size naming.glyphs + codes_size codes)
+-- A table is too large if it has at least 65,536 glyphs, or too many names or Font DICTs. It is also too large if its codes, its Private
+-- DICTs, its FontMatrix and the names of the font and its glyphs have at least 2,000,000,000 bytes together.
+abbrev pub IsTooLarge : Font → Naming → (codes privates : List (Vec ℕ Global)) → (matrix : List ℕ) → Type 0
+IsTooLarge font naming codes privates matrix = (65536 ≤ length codes) ⊎ IsCrowded font naming
+    ⊎ (2000000000 ≤ length naming.font.now + glyphs_size naming.glyphs + codes_size codes + codes_size privates + length matrix)

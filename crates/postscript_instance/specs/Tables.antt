@@ -1,6 +1,5 @@
 -- The `CFF ` table of a variable font at a location (Technical Note 5176).
-use Rattle.std.specs.Prelude.{◌≡◌, ℕ, ℤ, pos, ◌<◌, List, [], ◌∷◌, Some, Vec, length, slice_get}
-use Rattle.std.specs.declared.alloc.Global.{Global}
+use Rattle.std.specs.Prelude.{◌≡◌, ℕ, ℤ, pos, ◌<◌, List, [], ◌∷◌, Some, length, slice_get}
 use Rattle.postscript_base.specs.Compact1.Decimal.{Decimal, to_i32}
 use Rattle.postscript_base.specs.Compact1.Defaults.{look, first_of}
 use Rattle.postscript_base.specs.declared.compact1.operator.Operator.TheVariants.{NominalWidthX}
@@ -17,12 +16,6 @@ use Rattle.postscript_instance.specs.Whole.{AreOfFont, IsWhole}
 use Rattle.postscript_instance.specs.declared.advances.AdvancesAt.{AdvancesAt}
 use Rattle.postscript_instance.specs.declared.naming.Naming.{Naming}
 
--- there is an item for each code, and the first `count` items are codes
-pub record AreItems (items : List (List ℕ)) (codes : List (Vec ℕ Global)) (count : ℕ) : Type 0 where
-  pub counted : length items ≡ length codes
-  pub each : (number : ℕ) → number < count → (code : Vec ℕ Global) × (slice_get codes number ≡ Some code) ×
-      (slice_get items number ≡ Some code.items)
-
 -- a Private DICT without local subroutines, whose nominal width is 0, so that the width in a charstring is the advance
 abbrev pub IsPlainPart : PrivateDict → Type 0
 IsPlainPart part = (part.subroutines ≡ [])
@@ -31,12 +24,6 @@ IsPlainPart part = (part.subroutines ≡ [])
 abbrev pub ArePlainParts : List PrivateDict → Type 0
 ArePlainParts [] = Unit {0}
 ArePlainParts (part ∷ parts) = IsPlainPart part × ArePlainParts parts
-
--- a font with these codes and without subroutines, whose charstrings have their advances as widths
-pub record IsPlainFont (view : View) (codes : List (Vec ℕ Global)) : Type 0 where
-  pub items : AreItems view.char_strings codes (length codes)
-  pub none : view.tables.subroutines ≡ []
-  pub parts : ArePlainParts view.parts
 
 -- The bytes contain a font without subroutines (Technical Note 5176, "CFF Data Layout"). For each glyph, `does` holds of its advance
 -- and its code, and nothing is added to widths. Each glyph has the Font DICT with the same number as in the other font. The font and its

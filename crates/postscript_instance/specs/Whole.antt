@@ -1,6 +1,6 @@
 -- The parts of a written `CFF ` table, one after the other (Technical Note 5176, "CFF Data Layout", sections 2, 4 to 10, 13 to 16, 18 and
 -- 19). No byte is between them or after them.
-use Rattle.std.specs.Prelude.{◌≡◌, ◌⊎◌, ℕ, ◌+◌, ◌-◌, ◌*◌, ◌<◌, pos, List, [], ◌∷◌, ◌++◌, map, take, drop, length, All, Option, Some, None}
+use Rattle.std.specs.Prelude.{◌≡◌, ◌≢◌, ◌⊎◌, ℕ, ◌+◌, ◌-◌, ◌*◌, ◌<◌, ◌≤◌, pos, List, [], ◌∷◌, ◌++◌, map, take, drop, length, All, Option, Some, None}
 use Rattle.std.specs.List.{Contains, slice_range}
 use Rattle.std.specs.Borrow.{Bor}
 use Rattle.std.specs.Option.{MatchOption}
@@ -15,9 +15,11 @@ use Rattle.postscript_base.specs.declared.compact1.operator.Operator.{Operator}
 use Rattle.postscript_base.specs.declared.compact1.operator.Operator.TheVariants.{BlueFuzz, BlueScale, BlueShift, BlueValues, CIDCount, CharSet, CharStrings, ExpansionFactor, FDArray, FDSelect, FamilyBlues, FamilyOtherBlues, FontMatrix, LanguageGroup, OtherBlues, Private, ROS, StdHW, StdVW, StemSnapH, StemSnapV}
 use Rattle.postscript_cff2.specs.Dictionary.{Entry, last_entry}
 use Rattle.postscript_cff2.specs.Shown.{view_shown}
+use Rattle.postscript_cff2.specs.Tokens.{byte_at, operand_size}
 use Rattle.postscript_cff2.specs.declared.font.Font.{Font}
 use Rattle.postscript_compact1.specs.StandardStrings.{standard_string}
 use Rattle.postscript_view.specs.CharSet.{covered}
+use Rattle.postscript_instance.specs.Reals.{real_text}
 use Rattle.postscript_instance.specs.declared.naming.Naming.{Naming}
 
 -- the header: version 1.0, four bytes long, with four-byte offsets (section 6)
@@ -133,12 +135,42 @@ pub record IsNamedTable (matrix : Option (List Decimal)) (name : List ℕ) (stri
   pub are_privates : ArePrivates bytes privates private (length bytes)
   pub dictionary : IsDict top (named_operations matrix set char_strings (length text) private)
 
--- FontMatrix is that of the Top DICT of the CFF2 table, which has the same encoding (OpenType 1.9, "CFF2", "Top DICT Data"), if it can be
--- read. There is none if that DICT has none. Nothing is said of a matrix that cannot be read.
-pub record IsMatrixOf (dictionary : List ℕ) (matrix : Option (List Decimal)) : Type 0 where
-  pub kept : (entry : Entry) (o : Operation) → last_entry dictionary 0x0c07 ≡ Some entry →
-      IsDict (slice_range dictionary entry.start entry.place ++ 0x0c ∷ 0x07 ∷ []) (o ∷ []) → matrix ≡ Some o.1
-  pub none : last_entry dictionary 0x0c07 ≡ None → matrix ≡ None
+-- FontMatrix with these operands, which have this encoding (section 9)
+abbrev pub matrix_text : (text : List ℕ) → List ℕ
+matrix_text text = text ++ 0x0c ∷ 0x07 ∷ []
+
+abbrev pub IsMatrix : (text : List ℕ) → (operands : List Decimal) → Type 0
+IsMatrix text operands = IsDict (matrix_text text) ((FontMatrix, operands) ∷ [])
+
+-- The operands of a DICT from an offset on, with at most 18 significant digits in each real.
+pub data AreShortened (source : List ℕ) : (place : ℕ) → (text : List ℕ) → Type 0 where
+  none_left : (place : ℕ) → length source ≤ place → AreShortened source place []
+  real : (place next : ℕ) (text : List ℕ) → place < length source → byte_at source place ≡ 30 → next ≡ place + operand_size source place →
+      AreShortened source next text → AreShortened source place (real_text (slice_range source place next) ++ text)
+  other : (place next : ℕ) (text : List ℕ) → place < length source → byte_at source place ≢ 30 →
+      next ≡ place + operand_size source place → AreShortened source next text →
+      AreShortened source place (slice_range source place next ++ text)
+
+-- the operands of an entry
+abbrev pub operands_in : (dictionary : List ℕ) → Entry → List ℕ
+operands_in dictionary entry = slice_range dictionary entry.start entry.place
+
+-- FontMatrix, with its bytes, is that of the Top DICT of the CFF2 table, which has the same encoding (OpenType 1.9, "CFF2", "Top DICT
+-- Data"). If it cannot be read, each real has at most 18 significant digits. There is none if it still cannot be read, or if that DICT has
+-- none.
+pub data IsMatrixOf (dictionary : List ℕ) : (text : List ℕ) → (matrix : Option (List Decimal)) → Type 0 where
+  as_it_is : (entry : Entry) (operands : List Decimal) → last_entry dictionary 0x0c07 ≡ Some entry →
+      IsMatrix (operands_in dictionary entry) operands →
+      IsMatrixOf dictionary (matrix_text (operands_in dictionary entry)) (Some operands)
+  shortened : (entry : Entry) (text : List ℕ) (operands : List Decimal) → last_entry dictionary 0x0c07 ≡ Some entry →
+      ((others : List Decimal) → IsMatrix (operands_in dictionary entry) others → ⊥) →
+      AreShortened (operands_in dictionary entry) 0 text → IsMatrix text operands →
+      IsMatrixOf dictionary (matrix_text text) (Some operands)
+  unreadable : (entry : Entry) (text : List ℕ) → last_entry dictionary 0x0c07 ≡ Some entry →
+      ((others : List Decimal) → IsMatrix (operands_in dictionary entry) others → ⊥) →
+      AreShortened (operands_in dictionary entry) 0 text → ((operands : List Decimal) → IsMatrix text operands → ⊥) →
+      IsMatrixOf dictionary [] None
+  without : last_entry dictionary 0x0c07 ≡ None → IsMatrixOf dictionary [] None
 
 -- The strings are the names that are not standard strings, in the order of the glyphs (section 10).
 pub data AreCustom : List (Bor (List ℕ)) → (strings : List (List ℕ)) → Type 0 where
@@ -156,8 +188,9 @@ IsTableNamed names matrix name codes privates bytes =
 
 -- The whole table of a font with these charstrings and Private DICTs: with the given names, or CID-keyed if there are none.
 pub record IsWhole (font : Font) (naming : Naming) (codes privates : List (List ℕ)) (bytes : List ℕ) : Type 0 where
+  pub matrix_bytes : List ℕ
   pub matrix : Option (List Decimal)
-  pub is_matrix : IsMatrixOf font.dictionary.bytes.now matrix
+  pub is_matrix : IsMatrixOf font.dictionary.bytes.now matrix_bytes matrix
   pub parts : MatchOption naming.glyphs (IsKeyedTable matrix naming.font.now (adobe ∷ identity ∷ []) codes privates bytes)
       (λ names. IsTableNamed names.now matrix naming.font.now codes privates bytes)
 

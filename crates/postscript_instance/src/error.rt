@@ -47,9 +47,6 @@ pub enum Error {
     /// The font is too large: it has too many glyphs, names, Font DICTs or bytes.
     #[error("the font is too large")]
     TooLarge,
-    /// The written font is not read back as the intended font.
-    #[error("the written font does not read back as intended")]
-    NotReadBack,
 }
 
 /// Converts an error of the run to `Font`.

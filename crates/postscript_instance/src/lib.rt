@@ -9,6 +9,7 @@ mod error;
 mod indices;
 pub mod laws;
 mod layout;
+mod matrix;
 mod naming;
 mod numbers;
 mod parts;

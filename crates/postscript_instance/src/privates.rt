@@ -8,7 +8,7 @@ ghost use Rattle.postscript_instance.specs.Far.{AreEdges};
 ghost use Rattle.postscript_instance.specs.Hints.{Acts, AreOperands, HintsAt, IsHintAt, IsHintOperation, IsPrivateAt, IsSource, all_bits as the_bits, bits_of, blend as the_blend, blended as the_blended, blended_each as each_blended, chosen as the_chosen, is_encoded as the_encoded, is_hint_operator, natural as the_natural, operand_at as the_operand, scalars_in, text_of};
 ghost use Rattle.postscript_instance.specs.Numbers.{numbers_text};
 ghost use Rattle.postscript_instance.specs.Private.{rounded_edges};
-ghost use Rattle.postscript_instance.specs.Refusals.{IsLate};
+ghost use Rattle.postscript_instance.specs.Refusals.{IsMemory};
 ghost use Rattle.postscript_instance.specs.Whole.{IsPrivate};
 
 use crate::blending::blended_number;
@@ -69,7 +69,7 @@ impl Number {
     /// Appends the bytes of a number, with at most 18 significant digits in a real.
     fn put(self, alloc: Global, out: &mut Vec<u8>, bytes: &[u8]) -> Result<()>
         ensures text { OnOk result (out.new.items ≡ out.old.items ++ text_of bytes.now self) }
-        ensures late { IfErr result (λ e. IsLate e) }
+        ensures memory { IfErr result (λ e. IsMemory e) }
     {
         match self {
             Number::Whole(_, from, to) => out.extend_from_slice(between(bytes, from, to))?,
@@ -109,23 +109,6 @@ fn operand_at(bytes: &[u8], place: usize) -> (Number, usize)
     }
 }
 
-/// The operands of a DICT, with at most 18 significant digits in each real.
-pub(crate) fn readable(alloc: Global, operands: &[u8]) -> Result<Vec<u8>>
-    ensures late { IfErr result (λ e. IsLate e) }
-{
-    let mut out = Vec::new(alloc);
-    let mut place = 0usize;
-    while place < operands.len() {
-        let (number, end) = operand_at(operands, place);
-        match number {
-            Number::Real(_, _) => put_real(alloc, &mut out, between(operands, place, end))?,
-            _ => out.extend_from_slice(between(operands, place, end))?,
-        }
-        place = end;
-    }
-    Ok(out)
-}
-
 /// The operators of hints.
 const HINTS: [Operator; 13] = [
     Operator::BlueValues,
@@ -144,7 +127,7 @@ const HINTS: [Operator; 13] = [
 ];
 
 /// Whether an operator is in a list.
-fn is_among(operator: Operator, operators: &[Operator]) -> bool
+pub(crate) fn is_among(operator: Operator, operators: &[Operator]) -> bool
     ensures { IsTrue result ↔ Contains operators.now operator }
 {
     for i in 0..operators.len() {
@@ -158,7 +141,7 @@ fn is_among(operator: Operator, operators: &[Operator]) -> bool
 /// Whether a text is an operation of a hint.
 fn is_hint_operation(alloc: Global, text: &[u8]) -> Result<bool>
     ensures is { IfOk result (λ is. IsTrue is ↔ IsHintOperation text.now) }
-    ensures late { IfErr result (λ e. IsLate e) }
+    ensures memory { IfErr result (λ e. IsMemory e) }
 {
     match operation_in(alloc, text)? {
         Some((operator, _operands)) => Ok(is_among(operator, &HINTS)),
@@ -171,7 +154,7 @@ fn put_operation(alloc: Global, out: &mut Vec<u8>, text: &[u8]) -> Result<()>
     ensures more { OnOk result ((IsHintOperation text.now × (out.new.items ≡ out.old.items ++ text.now))
         ⊎ ((IsHintOperation text.now → ⊥) × (out.new.items ≡ out.old.items))) }
     ensures hints { OnOk result (HasHints out.old.items → HasHints out.new.items) }
-    ensures late { IfErr result (λ e. IsLate e) }
+    ensures memory { IfErr result (λ e. IsMemory e) }
 {
     if !is_hint_operation(alloc, text)? {
         return Ok(());
@@ -190,7 +173,7 @@ fn are_encoded(numbers: &[Number]) -> bool
 /// The operands as they are in the DICT, with at most 18 significant digits in each real.
 fn encoded(alloc: Global, bytes: &[u8], numbers: &[Number]) -> Result<Vec<u8>>
     ensures text { IfOk result (λ text. text.items ≡ flat_map (text_of bytes.now) numbers.now) }
-    ensures late { IfErr result (λ e. IsLate e) }
+    ensures memory { IfErr result (λ e. IsMemory e) }
 {
     let mut text = Vec::new(alloc);
     for number in numbers {
@@ -203,7 +186,7 @@ fn encoded(alloc: Global, bytes: &[u8], numbers: &[Number]) -> Result<Vec<u8>>
 fn all_bits(alloc: Global, numbers: &[Number]) -> Result<Option<Vec<Operand>>>
     ensures bits { IfOk result (λ found. option_map (λ bits. bits.items) found ≡ the_bits numbers.now) }
     ensures counted { IfOk result (λ found. IfSome found (λ bits. length bits.items ≡ length numbers.now)) }
-    ensures late { IfErr result (λ e. IsLate e) }
+    ensures memory { IfErr result (λ e. IsMemory e) }
 {
     let mut all = Vec::new(alloc);
     for number in numbers {
@@ -219,7 +202,7 @@ fn all_bits(alloc: Global, numbers: &[Number]) -> Result<Option<Vec<Operand>>>
 fn edges_text(alloc: Global, bits: &[Operand]) -> Result<Option<Vec<u8>>>
     ensures text { IfOk result (λ found. MatchOption found (AreEdges (pos 0) bits.now → ⊥)
         (λ text. AreEdges (pos 0) bits.now × (text.items ≡ numbers_text (rounded_edges (pos 0) bits.now)))) }
-    ensures late { IfErr result (λ e. IsLate e) }
+    ensures memory { IfErr result (λ e. IsMemory e) }
 {
     match edges(alloc, bits) {
         Ok(edges) => {
@@ -236,7 +219,7 @@ fn edges_text(alloc: Global, bits: &[Operand]) -> Result<Option<Vec<u8>>>
 fn operands_of(alloc: Global, bytes: &[u8], numbers: &[Number]) -> Result<Option<Vec<u8>>>
     ensures are { IfOk result (λ found. MatchOption found ((text : List ℕ) → AreOperands bytes.now numbers.now text → ⊥)
         (λ text. AreOperands bytes.now numbers.now text.items)) }
-    ensures late { IfErr result (λ e. IsLate e) }
+    ensures memory { IfErr result (λ e. IsMemory e) }
 {
     if are_encoded(numbers) {
         let text = encoded(alloc, bytes, numbers)?;
@@ -263,7 +246,7 @@ fn put_hint(
     ensures more { OnOk result ((text : List ℕ) × IsHintAt bytes.now operator.now numbers.now text
         × (out.new.items ≡ out.old.items ++ text)) }
     ensures hints { OnOk result (HasHints out.old.items → HasHints out.new.items) }
-    ensures late { IfErr result (λ e. IsLate e) }
+    ensures memory { IfErr result (λ e. IsMemory e) }
 {
     if numbers.len() == 0 {
         return Ok(());
@@ -284,7 +267,7 @@ fn put_hint(
 fn blended(alloc: Global, default: Number, deltas: &[Number], scalars: &[u32]) -> Result<Number>
     requires { length deltas.now ≡ length scalars.now }
     ensures number { IfOk result (λ number. number ≡ the_blended default deltas.now scalars.now) }
-    ensures late { IfErr result (λ e. IsLate e) }
+    ensures memory { IfErr result (λ e. IsMemory e) }
 {
     let Some(default) = default.bits() else {
         return Ok(Number::Unknown);
@@ -307,7 +290,7 @@ fn blended_each(
 ) -> Result<Vec<Number>>
     requires { length deltas.now ≡ length defaults.now * length scalars.now }
     ensures are { IfOk result (λ numbers. numbers.items ≡ each_blended defaults.now deltas.now scalars.now) }
-    ensures late { IfErr result (λ e. IsLate e) }
+    ensures memory { IfErr result (λ e. IsMemory e) }
 {
     let mut numbers = Vec::new(alloc);
     let mut rest = deltas;
@@ -351,7 +334,7 @@ fn base_of(operands: usize, count: usize, regions: usize) -> Option<usize>
 /// Blends the defaults before the last operand, which is their number.
 fn blend(alloc: Global, numbers: &mut Vec<Number>, scalars: &[u32]) -> Result<()>
     ensures blended { OnOk result (numbers.new.items ≡ the_blend numbers.old.items scalars.now) }
-    ensures late { IfErr result (λ e. IsLate e) }
+    ensures memory { IfErr result (λ e. IsMemory e) }
 {
     let count = natural(numbers.pop());
     let Some(base) = base_of(numbers.len(), count, scalars.len()) else {
@@ -402,7 +385,7 @@ fn act(
     ensures acts { OnOk result ((text : List ℕ) × Acts tables.now bytes.now operator.now (shown state.old) text (shown state.new)
         × (state.new.out.items ≡ state.old.out.items ++ text)) }
     ensures hints { OnOk result (HasHints state.old.out.items → HasHints state.new.out.items) }
-    ensures late { IfErr result (λ e. IsLate e) }
+    ensures memory { IfErr result (λ e. IsMemory e) }
 {
     if is_operator(operator, BLEND) {
         blend(alloc, &mut state.numbers, scalars_of(tables, state.index))?;
@@ -426,7 +409,7 @@ fn act(
 fn hints_of(alloc: Global, tables: &[Vec<u32>], bytes: &[u8]) -> Result<Vec<u8>>
     ensures at { IfOk result (λ out. HintsAt tables.now bytes.now 0 (record { index = 0; numbers = [] }) out.items) }
     ensures hints { IfOk result (λ out. HasHints out.items) }
-    ensures late { IfErr result (λ e. IsLate e) }
+    ensures memory { IfErr result (λ e. IsMemory e) }
 {
     let mut state = State {
         index: 0,
@@ -476,7 +459,7 @@ pub(crate) fn private_bytes<'l>(font: &Font<'l>, number: usize) -> &'l [u8]
 pub(crate) fn private_of(alloc: Global, source: &[u8], place: &Place) -> Result<Vec<u8>>
     ensures is { IfOk result (λ text. IsPrivate text.items) }
     ensures at { IfOk result (λ text. IsPrivateAt place.now.tables.items source.now text.items) }
-    ensures late { IfErr result (λ e. IsLate e) }
+    ensures memory { IfErr result (λ e. IsMemory e) }
 {
     let mut text = hints_of(alloc, &place.tables, source)?;
     text.extend_from_slice(&NO_WIDTHS)?;

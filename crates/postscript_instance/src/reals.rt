@@ -4,7 +4,7 @@ ghost use Rattle.std.specs.Prelude.{◌≡◌, ◌≢◌, ◌++◌, ◌∷◌, �
 ghost use Rattle.postscript_base.specs.Compact1.Nibbles.{nibbles as the_nibbles};
 ghost use Rattle.postscript_instance.specs.Encoded.{one_or_none};
 ghost use Rattle.postscript_instance.specs.Reals.{byte_of as the_byte, cut, packed, real_text};
-ghost use Rattle.postscript_instance.specs.Refusals.{IsLate};
+ghost use Rattle.postscript_instance.specs.Refusals.{IsMemory};
 
 use crate::error::Result;
 use std::alloc::Global;
@@ -56,7 +56,7 @@ impl Digits {
 /// The nibbles of bytes.
 fn nibbles_of(alloc: Global, bytes: &[u8]) -> Result<Vec<u8>>
     ensures are { IfOk result (λ nibbles. nibbles.items ≡ the_nibbles bytes.now) }
-    ensures late { IfErr result (λ e. IsLate e) }
+    ensures memory { IfErr result (λ e. IsMemory e) }
 {
     let mut nibbles = Vec::new(alloc);
     for byte in bytes {
@@ -68,7 +68,7 @@ fn nibbles_of(alloc: Global, bytes: &[u8]) -> Result<Vec<u8>>
 /// The nibbles of a real up to its end, with at most 18 significant digits.
 fn shortened(alloc: Global, nibbles: &[u8]) -> Result<Vec<u8>>
     ensures are { IfOk result (λ kept. kept.items ≡ cut 0 false false nibbles.now) }
-    ensures late { IfErr result (λ e. IsLate e) }
+    ensures memory { IfErr result (λ e. IsMemory e) }
 {
     let mut digits = Digits {
         count: 0,
@@ -97,7 +97,7 @@ fn byte_of(high: u8, low: u8) -> u8
 /// Appends nibbles, and the end of a real.
 fn put_nibbles(out: &mut Vec<u8>, nibbles: &[u8]) -> Result<()>
     ensures text { OnOk result (out.new.items ≡ out.old.items ++ packed nibbles.now) }
-    ensures late { IfErr result (λ e. IsLate e) }
+    ensures memory { IfErr result (λ e. IsMemory e) }
 {
     let mut rest = nibbles;
     while rest.len() > 1 {
@@ -122,7 +122,7 @@ fn digits_of(real: &[u8]) -> &[u8]
 /// Appends a real with at most 18 significant digits. More digits are cut off.
 pub(crate) fn put_real(alloc: Global, out: &mut Vec<u8>, real: &[u8]) -> Result<()>
     ensures text { OnOk result (out.new.items ≡ out.old.items ++ real_text real.now) }
-    ensures late { IfErr result (λ e. IsLate e) }
+    ensures memory { IfErr result (λ e. IsMemory e) }
 {
     let nibbles = nibbles_of(alloc, digits_of(real))?;
     let kept = shortened(alloc, &nibbles)?;

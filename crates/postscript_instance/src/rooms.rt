@@ -43,7 +43,7 @@ fn with_glyphs(sum: usize, naming: &Naming<'_>) -> Option<usize>
     }
 }
 
-/// A size plus the size of charstrings, if it is below 2,000,000,000 bytes.
+/// A size plus the size of texts, if it is below 2,000,000,000 bytes.
 fn with_codes(sum: usize, codes: &[Vec<u8>]) -> Option<usize>
     requires { sum < 2000000000 }
     ensures some { IfSome result (λ all. (all ≡ sum + codes_size codes.now) × (all < 2000000000)) }
@@ -56,17 +56,24 @@ fn with_codes(sum: usize, codes: &[Vec<u8>]) -> Option<usize>
     Some(all)
 }
 
-/// The size of the names and the charstrings, if it is below 2,000,000,000 bytes.
-fn counted(naming: &Naming<'_>, codes: &[Vec<u8>]) -> Option<usize>
-    ensures none { IfNone result
-        (2000000000 ≤ length naming.now.font.now + glyphs_size naming.now.glyphs + codes_size codes.now) }
-    ensures some { IfSome result
-        (λ all. all ≡ length naming.now.font.now + glyphs_size naming.now.glyphs + codes_size codes.now) }
+/// The size of names, charstrings, Private DICTs and FontMatrix, if it is below 2,000,000,000 bytes.
+fn counted(
+    naming: &Naming<'_>,
+    codes: &[Vec<u8>],
+    privates: &[Vec<u8>],
+    matrix: &[u8],
+) -> Option<usize>
+    ensures none { IfNone result (2000000000 ≤ length naming.now.font.now + glyphs_size naming.now.glyphs + codes_size codes.now
+        + codes_size privates.now + length matrix.now) }
+    ensures some { IfSome result (λ all. all ≡ length naming.now.font.now + glyphs_size naming.now.glyphs + codes_size codes.now
+        + codes_size privates.now + length matrix.now) }
     ensures few { IfSome result (λ all. all < 2000000000) }
 {
     let font = added(0, naming.font.len())?;
     let names = with_glyphs(font, naming)?;
-    with_codes(names, codes)
+    let charstrings = with_codes(names, codes)?;
+    let dictionaries = with_codes(charstrings, privates)?;
+    added(dictionaries, matrix.len())
 }
 
 /// Whether there are more names than SIDs, or more Font DICTs than FDSelect can number.
@@ -79,9 +86,18 @@ fn is_crowded(font: &Font<'_>, naming: &Naming<'_>) -> bool
     }
 }
 
-/// Whether a table with these charstrings is too large.
-pub(crate) fn is_too_large(font: &Font<'_>, naming: &Naming<'_>, codes: &[Vec<u8>]) -> bool
-    ensures { MatchBool result (IsTooLarge font.now naming.now codes.now) (IsTooLarge font.now naming.now codes.now → ⊥) }
+/// Whether a table with these charstrings, Private DICTs and this FontMatrix is too large.
+pub(crate) fn is_too_large(
+    font: &Font<'_>,
+    naming: &Naming<'_>,
+    codes: &[Vec<u8>],
+    privates: &[Vec<u8>],
+    matrix: &[u8],
+) -> bool
+    ensures { MatchBool result (IsTooLarge font.now naming.now codes.now privates.now matrix.now)
+        (IsTooLarge font.now naming.now codes.now privates.now matrix.now → ⊥) }
 {
-    codes.len() > 0xffff || is_crowded(font, naming) || counted(naming, codes).is_none()
+    codes.len() > 0xffff
+        || is_crowded(font, naming)
+        || counted(naming, codes, privates, matrix).is_none()
 }

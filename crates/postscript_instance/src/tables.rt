@@ -1,23 +1,21 @@
 //! The `CFF ` table at a location.
-ghost use Rattle.std.specs.Prelude.{◌≡◌, ◌⊎◌, Some, length, IsTrue, IfOk, IfErr, OnOk};
+ghost use Rattle.std.specs.Prelude.{◌⊎◌, length, IfErr, IfOk, OnOk};
 ghost use Rattle.postscript_cff2.specs.Shown.{view_shown as varying_shown};
 ghost use Rattle.postscript_instance.specs.Advances.{AreAdvancesAt};
-ghost use Rattle.postscript_instance.specs.Dictionaries.{KeepDictionaries, KeepsDictionary};
-ghost use Rattle.postscript_instance.specs.Glyphs.{AreCodes, DoesIn, HasNoRoom, IsMiscounted, IsStaticGlyph, LacksCode, LacksTable, LacksWidths, NoCodeIn, NoRoundedTable, NoStaticGlyph, NoTable};
-ghost use Rattle.postscript_instance.specs.Naming.{IsCalled};
+ghost use Rattle.postscript_instance.specs.Encoded.{HaveFontDicts, IsFontOf};
+ghost use Rattle.postscript_instance.specs.Glyphs.{AreCodes, DoesIn, HasNoRoom, IsCounted, IsMatrixIn, IsMiscounted, IsStaticGlyph, LacksCode, LacksTable, LacksWidths, NoCodeIn, NoRoundedTable, NoStaticGlyph, NoTable};
 ghost use Rattle.postscript_instance.specs.Placed.{IsPlaceIn, LacksPlace};
-ghost use Rattle.postscript_instance.specs.Refusals.{IsLate};
-ghost use Rattle.postscript_instance.specs.Tables.{IsPlainPart, ArePlainParts, IsPlainFont, IsRoundedTableOf, IsTable, IsTableAt, IsTableOf};
-ghost use Rattle.postscript_base.specs.Index.Lent.{items_of};
-ghost use Rattle.postscript_view.specs.Layout.{IsLaidOut};
-ghost use Rattle.postscript_view.specs.Contents.{View};
-ghost use Rattle.postscript_view.specs.Value.{part_shown, parts_shown, view_shown};
+ghost use Rattle.postscript_instance.specs.Refusals.{IsMemory};
+ghost use Rattle.postscript_instance.specs.Rooms.{IsTooLarge};
+ghost use Rattle.postscript_instance.specs.Tables.{IsRoundedTableOf, IsTable, IsTableAt, IsTableOf};
+ghost use Rattle.postscript_instance.specs.Whole.{AreOfFont, IsWhole};
+ghost use Rattle.postscript_type2.specs.Program.Routines.{texts};
 
 use crate::advances::AdvancesAt;
 use crate::error::{Error, Result};
-use crate::layout::{is_whole, laid_out, privates_of};
-use crate::naming::{Naming, called_back};
-use crate::parts::are_codes;
+use crate::layout::{laid_out_by_names, laid_out_by_numbers, privates_of};
+use crate::matrix::matrix_text;
+use crate::naming::{Identifiers, Naming};
 use crate::rooms::is_too_large;
 use crate::statics::charstring;
 use crate::whole::rounded_glyph;
@@ -25,7 +23,6 @@ use postscript_base::Error as Cause;
 use postscript_cff2::Font;
 use postscript_type2::Operand;
 use postscript_variable_font::{Error as PlaceError, Place, charstring as varying};
-use postscript_view::{FontView, PrivateDict};
 use std::alloc::Global;
 
 /// Writes the Type 2 charstring of a glyph of a variable font at a location, with a width, as
@@ -96,85 +93,10 @@ fn codes_of(
     Ok(codes)
 }
 
-/// Whether a Private DICT has no local subroutines, and a nominal width of 0.
-#[tactic(auto, using(crate::proofs::Compared::no_items))]
-fn is_plain_part(part: &PrivateDict<'_>) -> bool
-    ensures { IsTrue result → IsPlainPart (part_shown part.now) }
-{
-    if part.subroutines.len() != 0 {
-        return false;
-    }
-    match part.nominal_width() {
-        Some(width) => width.to_i32() == Some(0),
-        None => false,
-    }
-}
-
-/// Whether all Private DICTs have no local subroutines, and a nominal width of 0.
-fn are_plain_parts(parts: &[PrivateDict<'_>]) -> bool
-    ensures { IsTrue result → ArePlainParts (parts_shown parts.now) }
-{
-    for part in parts {
-        if !is_plain_part(part) {
-            return false;
-        }
-    }
-    true
-}
-
-/// Whether a glyph has the Font DICT with the same number in both fonts.
-fn keeps_dictionary(old: &Font<'_>, new: &FontView<'_>, glyph: usize) -> bool
-    ensures { IsTrue result → KeepsDictionary old.now new.now.bytes.now (view_shown new.now) glyph }
-{
-    match (old.number(glyph), new.part_of(glyph)) {
-        (Some(was), Some(is)) => was == is,
-        _ => false,
-    }
-}
-
-/// Whether each glyph has the Font DICT with the same number in both fonts.
-fn keep_dictionaries(old: &Font<'_>, new: &FontView<'_>, glyphs: usize) -> bool
-    ensures { IsTrue result → KeepDictionaries old.now new.now.bytes.now (view_shown new.now) glyphs }
-{
-    for glyph in 0..glyphs {
-        if !keeps_dictionary(old, new, glyph) {
-            return false;
-        }
-    }
-    true
-}
-
-/// Reads back the written font. The error is `NotReadBack` if its charstrings, its names, its Private DICTs or its Font
-/// DICTs are not the intended ones, or `Font` with `Memory`.
-fn read_back(
-    alloc: Global,
-    old: &Font<'_>,
-    bytes: &[u8],
-    codes: &[Vec<u8>],
-    naming: &Naming<'_>,
-) -> Result<()>
-    ensures font { OnOk result ((view : View) × IsLaidOut bytes.now 0 view × IsPlainFont view codes.now
-        × IsCalled naming.now bytes.now view × KeepDictionaries old.now bytes.now view (length codes.now)) }
-    ensures late { IfErr result (λ e. IsLate e) }
-{
-    let font = match FontView::read(alloc, bytes) {
-        Ok(font) => font,
-        Err(Cause::Memory) => return Err(Error::Font(Cause::Memory)),
-        Err(_) => return Err(Error::NotReadBack),
-    };
-    if font.global_subroutines.len() != 0 || !are_plain_parts(&font.parts) {
-        return Err(Error::NotReadBack);
-    }
-    if !are_codes(&font.char_strings, codes) || !keep_dictionaries(old, &font, codes.len()) {
-        return Err(Error::NotReadBack);
-    }
-    called_back(&font, naming)?;
-    Ok(())
-}
-
 /// Checks that there are no names, or one for each glyph of a font with one Font DICT. The errors are `OtherNames` and
 /// `NotOneDictionary`.
 fn counted(font: &Font<'_>, naming: &Naming<'_>) -> Result<()>
+    ensures counted { OnOk result (IsCounted font.now naming.now (length (varying_shown font.now).char_strings)) }
     ensures refused { IfErr result (λ e. IsMiscounted font.now naming.now e) }
 {
     let Some(names) = naming.glyphs else {
@@ -198,14 +120,49 @@ fn widths_of(
     advances: &AdvancesAt<'_>,
 ) -> Result<Vec<Operand>>
     ensures are { IfOk result (λ widths. AreAdvancesAt advances.now (length (varying_shown font.now).char_strings) widths.items) }
+    ensures counted { OnOk result (IsCounted font.now naming.now (length (varying_shown font.now).char_strings)) }
     ensures refused { IfErr result (λ e. LacksWidths font.now naming.now advances.now e) }
 {
     counted(font, naming)?;
     advances.operands(alloc, font.char_strings.len())
 }
 
+/// The table with these charstrings and Private DICTs, and this FontMatrix.
+fn laid_out(
+    alloc: Global,
+    font: &Font<'_>,
+    naming: &Naming<'_>,
+    codes: &[Vec<u8>],
+    privates: &[Vec<u8>],
+    matrix: &[u8],
+) -> Result<Vec<u8>>
+    requires counted { IsCounted font.now naming.now (length codes.now) }
+    requires room { IsTooLarge font.now naming.now codes.now privates.now matrix.now → ⊥ }
+    requires parts { AreOfFont font.now (texts privates.now) }
+    requires have { HaveFontDicts font.now (length codes.now) }
+    requires matrix { IsMatrixIn font.now matrix.now }
+    ensures font { IfOk result (λ out. IsFontOf font.now naming.now (texts codes.now) out.items) }
+    ensures whole { IfOk result (λ out. IsWhole font.now naming.now (texts codes.now) (texts privates.now) out.items) }
+    ensures memory { IfErr result (λ e. IsMemory e) }
+{
+    match naming.glyphs {
+        Some(names) => {
+            let identifiers = Identifiers::of(alloc, names)?;
+            laid_out_by_names(
+                alloc,
+                naming.font,
+                matrix,
+                &identifiers,
+                codes,
+                &privates[0],
+            )
+        }
+        None => laid_out_by_numbers(alloc, font, naming.font, matrix, codes, privates),
+    }
+}
+
 /// The table at a location with these widths, in this form. The errors are those of `glyph` or `rounded_glyph`,
-/// `TooLarge` and `NotReadBack`.
+/// `TooLarge`.
 fn table_of(
     alloc: Global,
     font: &Font<'_>,
@@ -214,20 +171,18 @@ fn table_of(
     widths: &[Operand],
     numbers: Numbers,
 ) -> Result<Vec<u8>>
+    requires { IsCounted font.now naming.now (length widths.now) }
     ensures written { IfOk result (λ bytes. IsTable (DoesIn numbers font.now place.now) font.now place.now naming.now widths.now bytes.items) }
     ensures refused { IfErr result (λ e. LacksCode numbers font.now place.now widths.now e
         ⊎ HasNoRoom numbers font.now naming.now place.now widths.now e) }
 {
     let codes = codes_of(alloc, font, place, widths, numbers)?;
-    if is_too_large(font, naming, &codes) {
+    let privates = privates_of(alloc, font, place)?;
+    let matrix = matrix_text(alloc, font)?;
+    if is_too_large(font, naming, &codes, &privates, &matrix) {
         return Err(Error::TooLarge);
     }
-    let privates = privates_of(alloc, font, place)?;
-    let bytes = laid_out(alloc, font, naming, &codes, &privates)?;
-    read_back(alloc, font, &bytes, &codes, naming)?;
-    if !is_whole(alloc, font, &bytes, naming, &codes, &privates)? {
-        return Err(Error::NotReadBack);
-    }
+    let bytes = laid_out(alloc, font, naming, &codes, &privates, &matrix)?;
     Ok(bytes)
 }
 
@@ -278,13 +233,13 @@ fn table_at(
 ///
 /// The Private DICTs have the hints of the CFF2 ones, as zones and stem widths. Blended hints are rounded to the
 /// nearest whole unit, and up if it is halfway. In zones and lists of widths each edge is rounded. A hint is left out
-/// if it blends reals, or if a number or an edge does not fit into 16 bits. Reals of hints and of FontMatrix are cut
-/// off after 18 significant digits. An operator whose numbers still cannot be read is left out.
+/// if it blends reals, or if a number or an edge does not fit into 16 bits. Reals of hints are cut off after 18
+/// significant digits, and so are those of a FontMatrix that cannot be read otherwise. An operator whose numbers still
+/// cannot be read is left out.
 ///
-/// The table is read back after writing. The clauses cover all its parts, one after the other, up to the last byte. These
-/// are the header, the name, the operations of the Top DICT and the Font DICTs, the strings, the charset, FDSelect, the
-/// charstrings, and the Private DICTs with their hints. Only a FontMatrix with a real of more than 18 digits has no
-/// clause, but tests (`postscript_variable_vectors`).
+/// The clauses cover all parts of the table, one after the other, up to the last byte. These are the header, the name,
+/// the operations of the Top DICT and the Font DICTs, the strings, the charset, FDSelect, the charstrings, and the
+/// Private DICTs with their hints.
 ///
 /// # Errors
 ///
@@ -294,8 +249,8 @@ fn table_at(
 /// - The errors of [`AdvancesAt::operands`].
 /// - The errors of [`glyph`], for the first glyph that fails.
 /// - `TooLarge`: there are more than 65,535 glyphs, more than 64,609 names, or more than 256 Font DICTs without names.
-///   The same error is returned if charstrings and names have 2,000,000,000 bytes or more together.
-/// - `NotReadBack`: the written table is not read back as the intended font, with exactly the intended parts.
+///   The same error is returned if charstrings, Private DICTs, names and FontMatrix have 2,000,000,000 bytes or more
+///   together.
 pub fn table(
     alloc: Global,
     font: &Font<'_>,
@@ -304,7 +259,7 @@ pub fn table(
 ) -> Result<Vec<u8>>
     // The bytes are a font with the glyphs at the location, and nothing else.
     ensures written { IfOk result (λ bytes. IsTableOf font.now naming.now advances.now bytes.items) }
-    // An error has a justified cause in the input, or it is `NotReadBack` or `Memory`.
+    // An error has a justified cause in the input, or it is `Memory`.
     ensures refused { IfErr result (λ e. NoTable font.now naming.now advances.now e) }
 {
     table_at(alloc, font, naming, advances, Numbers::Exact)
@@ -325,7 +280,7 @@ pub fn rounded_table(
 ) -> Result<Vec<u8>>
     // The table is a font as for `table`, but with glyphs in whole units.
     ensures written { IfOk result (λ bytes. IsRoundedTableOf font.now naming.now advances.now bytes.items) }
-    // An error has a justified cause in the input, or it is `NotReadBack` or `Memory`.
+    // An error has a justified cause in the input, or it is `Memory`.
     ensures refused { IfErr result (λ e. NoRoundedTable font.now naming.now advances.now e) }
 {
     table_at(alloc, font, naming, advances, Numbers::Whole)

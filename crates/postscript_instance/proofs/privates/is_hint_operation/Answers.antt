@@ -1,7 +1,6 @@
-use Rattle.std.proofs.Common.{◌≡◌, ap, subst, sym}
+use Rattle.std.proofs.Common.{ap, subst, sym}
 use Rattle.std.specs.List.{Contains}
-use Rattle.std.specs.Prelude.{Some, option_map}
-use Rattle.postscript_instance.specs.Whole.{hint_operators, told}
+use Rattle.postscript_instance.specs.Whole.{hint_operators}
 use Rattle.postscript_instance.proofs.Hinting.{same-some}
 use Rattle.postscript_instance.proofs.privates.is_hint_operation.Goals as goal
 

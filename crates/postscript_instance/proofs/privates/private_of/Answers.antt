@@ -1,5 +1,3 @@
-use Rattle.std.proofs.Common.{◌≡◌, ◌∙◌, sym, ap, subst}
-use Rattle.postscript_instance.specs.Hints.{HintsAt}
 use Rattle.postscript_instance.proofs.privates.private_of.Goals as goal
 
 pub returns-clause-is : goal.returns-clause-is

@@ -1,4 +1,4 @@
-use Rattle.std.proofs.Common.{◌≡◌, ◌∙◌, ◌++◌, sym, ap, arith}
+use Rattle.std.proofs.Common.{◌∙◌, arith}
 use Rattle.postscript_instance.specs.Hints as hints
 use Rattle.postscript_instance.proofs.Hinting.{left-out, no-operands, none-there, put-or-not, some-operands}
 use Rattle.postscript_instance.proofs.privates.put_hint.Goals as goal

@@ -1,32 +1,56 @@
-use Rattle.std.proofs.Common.{List, Vec, ℕ, length, subst}
+use Rattle.std.proofs.Common.{List, Vec, ℕ, inr, length, refl, subst, sym}
 use Rattle.std.specs.declared.alloc.Global.{Global}
-use Rattle.postscript_view.specs.Layout.{IsLaidOut}
-use Rattle.postscript_instance.specs.Dictionaries.{KeepDictionaries}
-use Rattle.postscript_instance.specs.Glyphs.{DoesIn}
-use Rattle.postscript_instance.specs.Naming.{IsCalled}
-use Rattle.postscript_instance.specs.Tables.{IsPlainFont}
-use Rattle.postscript_instance.specs.Whole.{IsWhole}
 use Rattle.postscript_type2.specs.Program.Routines.{texts}
-use Rattle.postscript_instance.proofs.Rests.{is-true}
-use Rattle.postscript_instance.proofs.Codes.{table-of}
+use Rattle.postscript_instance.specs.Encoded.{HaveFontDicts, IsFontOf}
+use Rattle.postscript_instance.specs.Glyphs.{DoesIn}
+use Rattle.postscript_instance.specs.Rooms.{IsTooLarge}
+use Rattle.postscript_instance.specs.Whole.{AreOfFont, IsWhole}
+use Rattle.postscript_instance.proofs.Codes.{have-dicts, table-of}
 use Rattle.postscript_instance.proofs.tables.table_of.Goals as goal
+
+pub returns-then-is_too_large-clause-refused : goal.returns-then-is_too_large-clause-refused
+returns-then-is_too_large-clause-refused c =
+    let font = c.args.font.now in
+    let naming = c.args.naming.now in
+    let large = subst (IsTooLarge font naming c.in_ok-codes.codes.items c.in_ok-privates.privates.items) c.deref-3.ensures.value
+    (subst (λ (privates : List (Vec ℕ Global)). IsTooLarge font naming c.in_ok-codes.codes.items privates c.deref-3.result.now)
+    c.deref-2.ensures.value
+    (subst (λ (codes : List (Vec ℕ Global)). IsTooLarge font naming codes c.deref-2.result.now c.deref-3.result.now) c.deref.ensures.value
+    c.if-is_too_large.ensures)) in
+    inr (
+      refl,
+      (
+        c.in_ok-codes.codes.items,
+        c.in_ok-privates.privates.items,
+        c.in_ok-matrix.matrix.items,
+        c.in_ok-codes.ensures.are,
+        (c.in_ok-privates.ensures.are, c.in_ok-privates.ensures.hints),
+        c.in_ok-matrix.ensures.is,
+        large,
+      ),
+    )
+
+pub laid_out-requires-clause-parts : goal.laid_out-requires-clause-parts
+laid_out-requires-clause-parts c =
+    subst (λ (privates : List (Vec ℕ Global)). AreOfFont c.args.font.now (texts privates)) (sym c.deref-5.ensures.value)
+    c.in_ok-privates.ensures.are
+
+pub laid_out-requires-clause-have : goal.laid_out-requires-clause-have
+laid_out-requires-clause-have c =
+    subst (λ (codes : List (Vec ℕ Global)). HaveFontDicts c.args.font.now (length codes)) (sym c.deref-4.ensures.value)
+    (have-dicts c.args.numbers c.args.font.now c.args.place.now c.args.widths.now (length c.args.widths.now) c.in_ok-codes.codes.items
+    c.in_ok-codes.ensures.are)
 
 pub returns-clause-written : goal.returns-clause-written
 returns-clause-written c =
-    let back = c.in_ok-read_back.ensures.font in
-    let is = c.in_ok-is_whole.ensures.is (is-true c.in_ok-is_whole.field-0 c.if-not-branch.false) in
-    let whole : IsWhole c.args.font.now c.args.naming.now (texts c.in_ok-codes.codes.items) (texts c.in_ok-privates.privates.items)
-    c.in_ok-bytes.bytes.items =
-    subst (λ codes. IsWhole c.args.font.now c.args.naming.now (texts codes) (texts c.in_ok-privates.privates.items)
-    c.in_ok-bytes.bytes.items) c.deref-7.ensures.value
-    (subst (λ privates. IsWhole c.args.font.now c.args.naming.now (texts c.deref-7.result.now) (texts privates) c.in_ok-bytes.bytes.items)
-    c.deref-8.ensures.value
-    (subst (λ bytes. IsWhole c.args.font.now c.args.naming.now (texts c.deref-7.result.now) (texts c.deref-8.result.now) bytes)
-    c.deref-6.ensures.value is)) in
-    table-of (DoesIn c.args.numbers c.args.font.now c.args.place.now) c.args.font.now c.args.place.now c.args.naming.now c.args.widths.now
-    c.in_ok-bytes.bytes.items c.in_ok-codes.codes.items back.0 c.in_ok-codes.ensures.are
-    (subst (λ bytes. IsLaidOut bytes 0 back.0) c.deref-4.ensures.value back.1) (subst (IsPlainFont back.0) c.deref-5.ensures.value back.2)
-    (subst (λ bytes. IsCalled c.args.naming.now bytes back.0) c.deref-4.ensures.value back.3)
-    (subst (λ bytes. KeepDictionaries c.args.font.now bytes back.0 (length c.in_ok-codes.codes.items)) c.deref-4.ensures.value
-    (subst (λ (codes : List (Vec ℕ Global)). KeepDictionaries c.args.font.now c.deref-4.result.now back.0 (length codes))
-    c.deref-5.ensures.value back.4)) (texts c.in_ok-privates.privates.items) c.in_ok-privates.ensures.are c.in_ok-privates.ensures.hints whole
+    let font = c.args.font.now in
+    let naming = c.args.naming.now in
+    let bytes = c.in_ok-bytes.bytes.items in
+    let is = subst (λ (codes : List (Vec ℕ Global)). IsFontOf font naming (texts codes) bytes) c.deref-4.ensures.value
+    c.in_ok-bytes.ensures.font in
+    let whole = subst (λ (privates : List (Vec ℕ Global)). IsWhole font naming (texts c.in_ok-codes.codes.items) (texts privates) bytes)
+    c.deref-5.ensures.value
+    (subst (λ (codes : List (Vec ℕ Global)). IsWhole font naming (texts codes) (texts c.deref-5.result.now) bytes) c.deref-4.ensures.value
+    c.in_ok-bytes.ensures.whole) in
+    table-of (DoesIn c.args.numbers font c.args.place.now) font c.args.place.now naming c.args.widths.now bytes c.in_ok-codes.codes.items
+    c.in_ok-codes.ensures.are is (texts c.in_ok-privates.privates.items) c.in_ok-privates.ensures.are c.in_ok-privates.ensures.hints whole
