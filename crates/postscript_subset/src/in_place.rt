@@ -6,7 +6,6 @@ ghost use Rattle.postscript_subset.specs.Layers.{IsCopiedAs};
 ghost use Rattle.postscript_subset.specs.Planning.{IsPlaced, NoCutFace};
 ghost use Rattle.postscript_subset.specs.Subsets.{copied_by};
 ghost use Rattle.postscript_subset.specs.declared.error.Error.TheVariants as errors;
-ghost use Rattle.postscript_subset.specs.declared.features.Features.TheVariants as kinds;
 
 use crate::closing::{close, extended};
 use crate::error::Result;

@@ -39,7 +39,7 @@ const TABLES: [(u32, &str); 4] = [
 ];
 
 /// The tables of a font of four glyphs. The table with the tag `changed` has other bytes.
-fn tables_of<R: Abort>(rt: &R, alloc: Global, changed: u32, digits: &str) -> Vec<Given> {
+pub fn tables_of<R: Abort>(rt: &R, alloc: Global, changed: u32, digits: &str) -> Vec<Given> {
     let mut pairs = Vec::new(alloc);
     for (char, glyph) in CHARS {
         pairs.push(Mapping { char, glyph }).expect(rt, "memory");
@@ -87,7 +87,7 @@ fn file<R: Abort>(rt: &R, alloc: Global, changed: u32, digits: &str, without: u3
 }
 
 /// The choice of characters, with copies of tables.
-fn choice<'t>(chars: &'t [u32], retain_gids: bool, copied: &'t [u32]) -> Choice<'t> {
+pub fn choice<'t>(chars: &'t [u32], retain_gids: bool, copied: &'t [u32]) -> Choice<'t> {
     Choice {
         chars,
         glyphs: &[],

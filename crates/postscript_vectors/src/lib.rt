@@ -28,6 +28,8 @@ mod in_place;
 #[cfg(test)]
 mod indices;
 #[cfg(test)]
+mod layout_files;
+#[cfg(test)]
 mod lenient;
 #[cfg(test)]
 mod outlines;
