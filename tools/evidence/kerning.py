@@ -66,7 +66,7 @@ def compared(path, font, name, folder, draw, lines, sums):
     done = subprocess.run([PSOTF, "subset", path, "--unicodes", listed, "--layout-features", "kern", "--exact", "-o", ours], capture_output=True, text=True, check=True)
     subprocess.run(["hb-subset", path, f"--unicodes={listed}", "--layout-features=kern", "-o", theirs], capture_output=True, check=True)
     sums["files"] += 1
-    if "kerning is lost" in done.stderr:
+    if "kerning and marks are lost" in done.stderr:
         sums["lost"] += 1
         return
     sums["unsound"] += is_sound(path) and not is_sound(ours)

@@ -14,7 +14,7 @@ lookup, or that were not chosen, are turned off, and so are the features of GPOS
 shaped with the other features as they are by default, with all of them on, with some of them on, and from right to left. Glyphs must have the
 same names, and clusters, advances and offsets must be the same. `psotf` must name the dropped lookups that fontTools finds. Fonts with a
 required feature that is not kept are only counted. `ots-sanitize` must accept the subset if it accepts the font. If `psotf` says that
-kerning or ligatures are lost, the file is only counted.
+kerning or substitutions are lost, the file is only counted.
 
 The script also cuts each font with `hb-subset`, for the same characters and features, and prints the sizes of both subsets as WOFF2. It
 prints the first line that differs, and for each font and for all of them the numbers of lines and of differences. Needs Debian's
@@ -141,7 +141,7 @@ def compared(path, font, name, choice, folder, draw, lines, sums):
         return
     ours, theirs, said = written(path, ",".join(f"{char:x}" for char in chars), choice, folder)
     sums["files"] += 1
-    for what in ("kerning is lost:", "ligatures are lost:"):
+    for what in ("kerning and marks are lost:", "substitutions are lost:"):
         if what in said:
             sums[what] += 1
             return
@@ -196,7 +196,7 @@ def main(words):
             print(f"WOFF2, {name}, {choice} features: {ours} bytes, {ours / max(theirs, 1):.2f} of hb-subset")
     print(
         f"seed {seed}: {sums['fonts']} fonts, {sums['files']} files, {sums['lines']} lines, {sums['differ']} differ; "
-        f"kerning lost in {sums['kerning is lost:']} files, ligatures in {sums['ligatures are lost:']}, {sums['required']} not compared (required features); "
+        f"kerning lost in {sums['kerning and marks are lost:']} files, ligatures in {sums['substitutions are lost:']}, {sums['required']} not compared (required features); "
         f"dropped lookups misnamed in {sums['misnamed']}; {sums['unsound']} not accepted"
     )
     return sums["differ"] or sums["unsound"] or sums["misnamed"]
