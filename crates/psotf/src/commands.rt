@@ -200,7 +200,7 @@ const SUBCOMMANDS: &[Subcommand] = &[
     },
     Subcommand {
         name: "subset",
-        about: "Write a font with only some glyphs, their kerning and their ligatures",
+        about: "Write a font with only some glyphs, their kerning, marks and ligatures",
         group: "kept",
         one_of: &["text", "gids", "unicodes"],
         place: Place::Any,
@@ -231,7 +231,7 @@ const SUBCOMMANDS: &[Subcommand] = &[
             ),
             Word::Flag(
                 "drop-layout",
-                "Drop the layout tables (kerning, ligatures; with --retain-gids also vertical metrics)",
+                "Drop the layout tables (kerning, marks, ligatures; with --retain-gids also vertical metrics)",
             ),
             Word::Flag(
                 "exact",
