@@ -1,4 +1,4 @@
-/* test FONT.hex ACCENTS.hex VARIABLE.hex WHOLE.hex: calls each function of postscript.h over the fonts whose bytes are spelled there, and
+/* test FONT.hex ACCENTS.hex VARIABLE.hex WHOLE.hex LAYOUT.hex: calls each function of postscript.h over the fonts whose bytes are spelled there, and
  * compares. */
 #include <stdio.h>
 #include <stdlib.h>
@@ -563,6 +563,37 @@ static void check_subset_file(const uint8_t *file, size_t length, const uint8_t 
           && refusal.glyph == PSF_TAG('h', 'h', 'e', 'a'), "a file without hhea");
 }
 
+/* The glyphs are .notdef, a, a.sc and b. smcp substitutes a.sc for a, and kern moves two letters a by -50. */
+static void check_subset_layout(const uint8_t *file, size_t length) {
+    static const uint32_t letter[] = {'a'}, features[] = {PSF_TAG('s', 'm', 'c', 'p'), PSF_TAG('k', 'e', 'r', 'n')};
+    static const uint32_t gpos = PSF_TAG('G', 'P', 'O', 'S'), gsub = PSF_TAG('G', 'S', 'U', 'B'), cff = PSF_TAG('C', 'F', 'F', ' ');
+    uint8_t written[1024];
+    size_t count = 0, place = 0, size = 0;
+    psf_refusal refusal = {77, 77};
+    psf_layout layout = {77, 77, 77};
+    psf_font font;
+    holds(psf_file_subset_layout(file, length, 0, letter, 1, 0, 0, 0, 0, 0, 0, features, 2, 0, LIMIT, written, 20, &count, &layout, &refusal)
+          == PSF_NO_ROOM && layout.gsub == 1, "no room for a subset with layout");
+    holds(psf_file_subset_layout(file, length, 0, letter, 1, 0, 0, 0, 0, 0, 0, features, 2, 0, LIMIT, written, 1024, &count, &layout, &refusal)
+          == PSF_OK && refusal.glyph == 77, "a subset with layout");
+    holds(layout.gsub == 1 && layout.gpos == 1 && layout.gdef == 0, "its layout tables");
+    holds(psf_file_table(written, count, 0, gsub, &place, &size) == PSF_OK && psf_file_table(written, count, 0, gpos, &place, &size) == PSF_OK,
+          "with GSUB and GPOS");
+    holds(psf_file_table(written, count, 0, cff, &place, &size) == PSF_OK && psf_font_open(written + place, size, &font) == PSF_OK
+          && font.glyphs == 3, "with a.sc");
+    holds(psf_file_subset_layout(file, length, 0, letter, 1, 0, 0, 0, 0, 0, 0, features, 0, 0, LIMIT, written, 1024, &count, &layout, &refusal)
+          == PSF_OK && layout.gsub == 1 && layout.gpos == 2, "no features");
+    holds(psf_file_table(written, count, 0, gpos, &place, &size) == PSF_NO_TABLE, "without GPOS");
+    holds(psf_file_table(written, count, 0, cff, &place, &size) == PSF_OK && psf_font_open(written + place, size, &font) == PSF_OK
+          && font.glyphs == 2, "without a.sc");
+    holds(psf_file_subset_layout(file, length, 0, letter, 1, 0, 0, 0, 0, 0, 1, features, 0, 0, LIMIT, written, 1024, &count, &layout, &refusal)
+          == PSF_OK && same_table(file, length, written, count, gpos) && same_table(file, length, written, count, gsub), "numbers that are kept");
+    holds(psf_file_subset_layout(file, length, 0, letter, 1, 0, 0, 0, 0, 0, 0, features, 0, 1, LIMIT, written, 1024, &count, &layout, &refusal)
+          == PSF_OK && layout.gpos == 1, "all features");
+    holds(psf_file_subset_layout(file, length, 1, letter, 1, 0, 0, 0, 0, 0, 0, features, 2, 0, LIMIT, written, 1024, &count, &layout, &refusal)
+          == PSF_NO_FACE, "no layout of no face");
+}
+
 static void check_texts(void) {
     uint8_t text[80];
     size_t count = 0;
@@ -576,8 +607,8 @@ static void check_texts(void) {
 }
 
 int main(int argc, char **argv) {
-    uint8_t file[1024], accents[256], variable[1024], whole[1024];
-    if (argc != 5) return 2;
+    uint8_t file[1024], accents[256], variable[1024], whole[1024], layout[1024];
+    if (argc != 6) return 2;
     size_t length = read_hex(argv[1], file, sizeof file), faces = 0, place = 0, size = 0, glyph = 99;
     holds(length == 228, "the length of the font");
     holds(psf_file_faces(file, length, &faces) == PSF_OK && faces == 1, "one face");
@@ -642,6 +673,9 @@ int main(int argc, char **argv) {
     length = read_hex(argv[4], whole, sizeof whole);
     holds(length == 412, "the length of the file with metrics");
     check_subset_file(whole, length, file);
+    length = read_hex(argv[5], layout, sizeof layout);
+    holds(length == 592, "the length of the file with layout tables");
+    check_subset_layout(layout, length);
     check_texts();
     printf("postscript.h: %s\n", failures ? "tests failed" : "all tests passed");
     return failures != 0;

@@ -21,7 +21,7 @@ import time
 import unittest
 
 import postscript
-from postscript import LIMIT, Error, Font, Operation, Status, VariableFont, WriteError
+from postscript import LIMIT, Error, Font, LayoutWarning, Operation, Status, VariableFont, WriteError
 
 FONTS = pathlib.Path("/usr/share/fonts/opentype")
 #: a variable font of Debian's package pango1.0-tests
@@ -193,6 +193,27 @@ class Small(Case):
         self.assertEqual(dict(Font.from_bytes(font.subset_file(unicodes=[65, 66], ignore_missing=True)).cmap), {65: 1})
         flat = Font.from_bytes(font.flat_file())
         self.assertEqual((dict(flat.cmap), flat[1].segments), (dict(font.cmap), font[1].segments))
+
+    def test_layout(self):
+        # smcp substitutes a.sc for a, and kern moves two letters a
+        font = Font.from_bytes(spelled("layout.hex"))
+
+        def cut(**options):
+            file = font.subset_file("a", **options)
+            tags = [file[place : place + 4].decode() for place in range(12, 12 + 16 * file[5], 16)]
+            return len(Font.from_bytes(file)), [tag for tag in tags if tag.startswith("G")]
+
+        self.assertEqual(cut(), (2, ["GPOS", "GSUB"]))
+        self.assertEqual(cut(features=("smcp",)), (3, ["GSUB"]))
+        self.assertEqual(cut(features="*"), (3, ["GPOS", "GSUB"]))
+        self.assertEqual(cut(features=None), (2, []))
+        self.assertEqual(cut(keep_numbers=True), (4, ["GPOS", "GSUB"]))
+        # the script list of GSUB is spoiled
+        spoiled = bytearray(spelled("layout.hex"))
+        place = int.from_bytes(spoiled[spoiled.index(b"GSUB") + 8 :][:4], "big")
+        spoiled[place + 4 : place + 6] = b"\xff\xff"
+        with self.assertWarnsRegex(LayoutWarning, "GSUB is lost: "):
+            Font.from_bytes(bytes(spoiled)).subset_file("a")
 
     def test_files_that_are_not_written(self):
         def error(call):

@@ -12,8 +12,8 @@ trap 'rm -r "$work"' EXIT
 mkdir "$work/$crate"
 cp -r "$top/bindings/rust/src" "$top/bindings/rust/tests" "$top/bindings/rust/examples" "$work/$crate"
 cp "$top/bindings/rust/build.rs" "$top/bindings/rust/README.md" "$top/bindings/rust/Cargo.toml" "$work/$crate"
-cp "$top/bindings/font.hex" "$top/bindings/accents.hex" "$top/bindings/variable.hex" "$top/bindings/whole.hex" "$work/$crate/tests"
-sed -i 's|"../../\(font\|accents\|variable\|whole\)\.hex"|"\1.hex"|' "$work/$crate/tests"/*.rs
+cp "$top/bindings/font.hex" "$top/bindings/accents.hex" "$top/bindings/variable.hex" "$top/bindings/whole.hex" "$top/bindings/layout.hex" "$work/$crate/tests"
+sed -i 's|"../../\(font\|accents\|variable\|whole\|layout\)\.hex"|"\1.hex"|' "$work/$crate/tests"/*.rs
 for tree in "$trees"/*; do
     mkdir -p "$work/$crate/lib/$(basename "$tree")-linux"
     cp "$tree/lib/libpostscript.a" "$work/$crate/lib/$(basename "$tree")-linux"

@@ -35,7 +35,7 @@ begin() {
     mkdir -p "$root/t/out" "$root/t/tests"
     cp -r "$top/dist" "$root/t/dist"
     cp "$top/bindings/python/test_postscript.py" "$root/t/tests"
-    cp "$top/bindings/font.hex" "$top/bindings/accents.hex" "$top/bindings/variable.hex" "$top/bindings/whole.hex" "$root/t"
+    cp "$top/bindings/font.hex" "$top/bindings/accents.hex" "$top/bindings/variable.hex" "$top/bindings/whole.hex" "$top/bindings/layout.hex" "$root/t"
     inside 'apt-get update -qq' > "$work/log" 2>&1 || { cat "$work/log"; exit 1; }
     got fonts-ebgaramond
 }

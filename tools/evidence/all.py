@@ -20,7 +20,7 @@ import time
 TOP = pathlib.Path(__file__).resolve().parents[2]
 LOGS = TOP / "evidence"
 #: in the paths of SCRIPTS, a name of crates.txt stands for the folder of the crate and of all crates that it uses
-C = "postscript_c bindings/c bindings/font.hex bindings/accents.hex bindings/variable.hex bindings/whole.hex"
+C = "postscript_c bindings/c bindings/font.hex bindings/accents.hex bindings/variable.hex bindings/whole.hex bindings/layout.hex"
 #: docs/results.md says what the scripts printed, so it is no reason to run them again
 PAGES = "README.md docs :(exclude)docs/results.md"
 EBGARAMOND = "/usr/share/fonts/opentype/ebgaramond/EBGaramond12-Regular.otf /usr/share/fonts/opentype/freefont/FreeSerif.otf"

@@ -510,7 +510,7 @@ def _tell_lost(layout: _Layout) -> None:
     """Warns of layout tables that are lost."""
     for tag, status in (("GSUB", layout.gsub), ("GPOS", layout.gpos), ("GDEF", layout.gdef)):
         if status > 2:
-            warnings.warn(f"{tag} is lost: {_text_of(status)}", LayoutWarning, stacklevel=4)
+            warnings.warn(f"{tag} is lost: {_text_of(status)}", LayoutWarning, stacklevel=3)
 
 
 def _rows_of(cmap: _View) -> List[_Character]:

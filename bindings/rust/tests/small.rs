@@ -1,6 +1,6 @@
 //! The font whose bytes `bindings/font.hex` spells: four glyphs, `.notdef`, `space`, `A` and `flower`. The expected values are
 //! the numbers of its char strings and of its dictionary, added up by hand. `bindings/accents.hex` spells one of accented glyphs.
-use postscript::{Bounds, Error, Font, Operation, Outline, OutlineSink, Point, Segment, WriteError};
+use postscript::{Bounds, Error, Font, Layout, LayoutTable, Operation, Outline, OutlineSink, Point, Segment, WriteError};
 
 fn bytes() -> Vec<u8> {
     hex(include_str!("../../font.hex"))
@@ -64,6 +64,28 @@ fn files_are_written() {
     assert_eq!(Font::from_file(&file, 0).unwrap().glyph_index('A'), Some(1));
     let file = font.flat_file().unwrap();
     assert_eq!(Font::from_file(&file, 0).unwrap().outline(1), font.outline(1));
+}
+
+/// In the file that `bindings/layout.hex` spells, `smcp` substitutes glyph 2 for glyph 1, the letter a, and `kern` moves two letters a.
+#[test]
+fn files_are_written_with_layout() {
+    let bytes = hex(include_str!("../../layout.hex"));
+    let font = Font::from_file(&bytes, 0).unwrap();
+    let kept = |gpos| Layout { gsub: LayoutTable::Kept, gpos, gdef: LayoutTable::Absent };
+    let (file, layout) = font.subset_file().text("a").write_with_layout().unwrap();
+    assert_eq!((Font::from_file(&file, 0).unwrap().glyph_count(), layout), (2, kept(LayoutTable::Kept)));
+    let (file, layout) = font.subset_file().text("a").features(&[*b"smcp"]).write_with_layout().unwrap();
+    assert_eq!((Font::from_file(&file, 0).unwrap().glyph_count(), layout), (3, kept(LayoutTable::NotChosen)));
+    let file = font.subset_file().text("a").all_features().write().unwrap();
+    assert_eq!(Font::from_file(&file, 0).unwrap().outline(2), font.outline(2));
+    let file = font.subset_file().text("a").without_layout().write().unwrap();
+    assert_eq!(Font::from_file(&file, 0).unwrap().glyph_count(), 2);
+    let place = bytes.windows(4).position(|tag| tag == b"GSUB").unwrap();
+    let place = u32::from_be_bytes(bytes[place + 8..place + 12].try_into().unwrap()) as usize;
+    let mut spoiled = bytes.clone();
+    spoiled[place + 4..place + 6].fill(255);
+    let (_, layout) = Font::from_file(&spoiled, 0).unwrap().subset_file().text("a").write_with_layout().unwrap();
+    assert_eq!(layout.gsub, LayoutTable::Lost(Error::CutTable));
 }
 
 #[test]
