@@ -197,7 +197,7 @@ fn cut(
 }
 
 /// Writes a file with only some characters and glyphs of a face, as [`postscript_files::subset_file`] does, and with layout
-/// tables that set its text as before.
+/// tables for its glyphs.
 ///
 /// The lookups of the features in `GSUB` are chosen. The subset keeps the glyphs of `subset_file`, and all glyphs of the face
 /// that the chosen lookups can make of them. It has these tables in addition, under the new glyph numbers:
