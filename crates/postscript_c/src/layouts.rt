@@ -116,7 +116,14 @@ pub(crate) fn laid_out(
     ensures { IsLaidOutBy choice.now tags.now all limit bytes.now face result }
 {
     let mut left = limit;
-    subset_with_layout(alloc, bytes, face, choice, features_of(tags, all), &mut left)
+    subset_with_layout(
+        alloc,
+        bytes,
+        face,
+        choice,
+        features_of(tags, all),
+        &mut left,
+    )
 }
 
 /// The same for a choice of characters and glyphs.

@@ -87,7 +87,13 @@ impl Reached {
     }
 
     /// Adds the lookups that a subtable names.
-    fn add_part(&mut self, gsub: &[u8], kind: usize, part: Option<usize>, limit: &mut u64) -> Result<()>
+    fn add_part(
+        &mut self,
+        gsub: &[u8],
+        kind: usize,
+        part: Option<usize>,
+        limit: &mut u64,
+    ) -> Result<()>
         requires near { IfSome part (λ at. at < 2 ^ 33) }
         ensures added { OnOk result (AddsOnly (NamesIn gsub.now kind part) self.old.lookups.items self.new.lookups.items) }
         ensures spends { limit.new ≤ limit.old }
@@ -146,12 +152,7 @@ impl Reached {
 ///
 /// - `TooLong`: the search costs more than the limit.
 /// - `Memory`: out of memory.
-pub fn with_called(
-    alloc: Global,
-    gsub: &[u8],
-    lookups: &[u16],
-    limit: &mut u64,
-) -> Result<Vec<u16>>
+pub fn with_called(alloc: Global, gsub: &[u8], lookups: &[u16], limit: &mut u64) -> Result<Vec<u16>>
     // Exactly the given lookups, and those that they call, directly or by others.
     ensures reached { IfOk result (λ all. AreReached gsub.now lookups.now all.items) }
     // The limit never grows.

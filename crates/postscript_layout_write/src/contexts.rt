@@ -271,7 +271,13 @@ fn actions_of(alloc: Global, gsub: &[u8], parts: Parts, limit: &mut u64) -> Resu
         return Err(Error::TooLarge);
     }
     let mut actions = Vec::new(alloc);
-    read_glyphs(&mut actions, gsub, parts.actions_at, parts.actions * 2, limit)?;
+    read_glyphs(
+        &mut actions,
+        gsub,
+        parts.actions_at,
+        parts.actions * 2,
+        limit,
+    )?;
     Ok(actions)
 }
 
@@ -332,7 +338,10 @@ fn made_of(
 fn can_apply(made: &Made) -> bool
     ensures { result ≡ ((made.now.before.all_some && made.now.input.all_some) && made.now.after.all_some) }
 {
-    both(both(made.before.all_some, made.input.all_some), made.after.all_some)
+    both(
+        both(made.before.all_some, made.input.all_some),
+        made.after.all_some,
+    )
 }
 
 /// Contexts as they are written: the offset of each, and the bytes.

@@ -232,9 +232,7 @@ fn put_next(
     if keeps_contexts(gsub, lookup, lookups, i) {
         put_contexts(alloc, bytes, gsub, lookup, kept, limit)?;
     } else {
-        put_own_rules(
-            alloc, bytes, gsub, lookup, lookups, i, kept, numbers, limit,
-        )?;
+        put_own_rules(alloc, bytes, gsub, lookup, lookups, i, kept, numbers, limit)?;
     }
     Ok(())
 }
@@ -268,9 +266,7 @@ fn put_each(
             return Err(Error::TooLarge);
         }
         offsets.push(bytes.len())?;
-        put_next(
-            alloc, bytes, gsub, lookup, lookups, i, kept, numbers, limit,
-        )?;
+        put_next(alloc, bytes, gsub, lookup, lookups, i, kept, numbers, limit)?;
     }
     Ok(())
 }

@@ -1,6 +1,7 @@
 //! Tables whose pairs are computed by hand from the specification. All numbers are of two bytes.
 use crate::{
     Error, flagged_positions, glyph_classes, glyph_definitions, kerning, positions, substitutions,
+    with_called,
 };
 use std::alloc::{AllocError, Global};
 use std::process::Abort;
@@ -152,9 +153,32 @@ const RULES: &[Row] = &[
         new: &[1, 4, 1, 0, 0],
     },
     Row {
-        what: "a context: no rules",
-        old: &[1, 4, 5, 8, 1, 8, 2, 8, 1, 5, 1, 1, 1],
+        what: "a context by glyphs: no rules",
+        old: &[1, 4, 5, 8, 1, 8, 1, 8, 1, 14, 1, 1, 1, 1, 4, 1, 1, 0, 0],
         new: &[1, 4, 1, 8, 0],
+    },
+    Row {
+        what: "a context: 1 or 2, then 5, where lookup 3 is applied to the second",
+        old: &[1, 4, 5, 8, 1, 8, 3, 2, 1, 14, 22, 1, 3, 1, 2, 1, 2, 1, 1, 5],
+        new: &[
+            1, 4, 6, 8, 1, 8, 3, 0, 2, 18, 24, 0, 1, 1, 3, 1, 1, 0, 1, 1, 1,
+        ],
+    },
+    Row {
+        what: "a chained context: 5 after 1 and before 2 to 6, where lookup 0 is applied",
+        old: &[
+            1, 4, 6, 0, 1, 8, 3, 1, 20, 1, 26, 1, 32, 1, 0, 0, 1, 1, 1, 1, 1, 5, 2, 1, 2, 6, 0,
+        ],
+        new: &[
+            1, 4, 6, 0, 1, 8, 3, 1, 20, 1, 26, 1, 32, 1, 0, 0, 1, 1, 0, 1, 1, 1, 1, 2, 1, 2,
+        ],
+    },
+    Row {
+        what: "a chained context of 5 after 2, which is not kept: no rules",
+        old: &[
+            1, 4, 6, 0, 1, 8, 3, 1, 18, 1, 24, 0, 1, 0, 0, 1, 1, 2, 1, 1, 5,
+        ],
+        new: &[1, 4, 6, 0, 0],
     },
 ];
 
@@ -367,7 +391,7 @@ fn rules(rt: HostRuntime) {
     for row in RULES {
         let old = table(rt.alloc(), HEAD, row.old).expect(&rt, "memory");
         let new = table(rt.alloc(), HEAD, row.new).expect(&rt, "memory");
-        let mut limit = 1000;
+        let mut limit = 10000;
         let written = substitutions(rt.alloc(), &old, &[0], &[1, 5, 6], &mut limit).expect(
             &rt, row.what,
         );
@@ -389,6 +413,24 @@ fn chosen(rt: HostRuntime) {
         &rt, "a table",
     );
     assert_eq!(rt; written.as_slice(), new.as_slice());
+}
+
+/// The context of lookup 0 applies lookup 2, and that of lookup 2 applies lookup 0. Lookup 1 is not called.
+#[test]
+fn called(rt: HostRuntime) {
+    let lookups = [
+        3, 8, 34, 40, 5, 0, 1, 8, 3, 1, 1, 12, 0, 2, 1, 1, 1, 1, 0, 0, 5, 0, 1, 8, 3, 1, 1, 12, 0,
+        0, 1, 1, 5,
+    ];
+    let gsub = table(rt.alloc(), HEAD, &lookups).expect(&rt, "memory");
+    for (given, all) in [(0, &[0, 2][..]), (1, &[1]), (2, &[2, 0])] {
+        let mut limit = 100;
+        let reached = with_called(rt.alloc(), &gsub, &[given], &mut limit).expect(&rt, "lookups");
+        assert_eq!(rt; reached.as_slice(), all);
+    }
+    let mut limit = 3;
+    let long = with_called(rt.alloc(), &gsub, &[0], &mut limit);
+    assert!(rt; long == Err(Error::TooLong) && limit == 0);
 }
 
 #[test]
