@@ -57,7 +57,7 @@ fn file<R: Abort>(rt: &R, alloc: Global) -> Vec<u8> {
 }
 
 /// Features, the number of new glyphs, the new glyph of grave, all that the new `GSUB` table makes of it, and the new `GPOS`
-/// table. By hand: `liga` and `kern` keep `.notdef` and grave, and `smcp` adds A.
+/// table. `liga` and `kern` keep `.notdef` and grave, and `smcp` adds A.
 const ROWS: &[(&[u32], u16, u16, &[u16], &str)] = &[
     (&[LIGA, KERN], 2, 1, &[0, 1], NEW_PAIRS),
     (&[SMCP], 3, 2, &[1, 2], ""),
@@ -99,7 +99,7 @@ fn files_with_layout_tables(rt: HostRuntime) {
     }
 }
 
-/// Glyphs keep their numbers, and the tables are copied. By hand: both lookups count, so grave brings A.
+/// Glyphs keep their numbers, and the tables are copied. Both lookups count, so grave brings A.
 #[test]
 fn files_with_copied_layout_tables(rt: HostRuntime) {
     let alloc = rt.alloc();
