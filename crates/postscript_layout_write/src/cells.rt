@@ -11,6 +11,9 @@ use crate::numbers::put_uint16;
 use crate::subtables::{Sets, put_glyphs};
 use std::alloc::Global;
 
+/// The most numbers of an array whose offsets of two bytes can follow them.
+const MOST: usize = 32766;
+
 /// The new numbers of marks or bases, and the rows of these glyphs one after the other.
 #[derive(Drop)]
 pub(crate) struct Rows {
@@ -30,13 +33,16 @@ impl Rows {
         }
     }
 
-    /// Adds the row of a glyph.
+    /// Adds the row of a glyph. Rows that take more than one array are too large.
     fn add(&mut self, glyph: u16, row: &[Cell]) -> Result<()>
         ensures glyphs { OnOk result (self.new.glyphs.items ≡ self.old.glyphs.items ++ glyph ∷ []) }
         ensures cells { OnOk result (self.new.cells.items ≡ self.old.cells.items ++ row.now) }
         ensures small { OnOk result (glyph < 65536) }
-        ensures memory { IfErr result (λ e. e ≡ errors.Memory) }
+        ensures why { IfErr result (λ e. (e ≡ errors.Memory) ⊎ (e ≡ errors.TooLarge)) }
     {
+        if row.len() > MOST || self.cells.len() > MOST - row.len() {
+            return Err(Error::TooLarge);
+        }
         self.glyphs.push(glyph)?;
         self.cells.extend_from_slice(row)?;
         Ok(())
@@ -109,7 +115,7 @@ pub(crate) fn array_of(alloc: Global, count: u16, cells: &[Cell]) -> Result<Vec<
     ensures text { IfOk result (λ text. HasCells count cells.now text.items 0) }
     ensures why { IfErr result (λ e. (e ≡ errors.Memory) ⊎ (e ≡ errors.TooLarge)) }
 {
-    if cells.len() > 32766 {
+    if cells.len() > MOST {
         return Err(Error::TooLarge);
     }
     let base = 2 + cells.len() * 2;
