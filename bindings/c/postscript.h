@@ -346,7 +346,8 @@ int32_t psf_file_subset(const uint8_t *file, size_t length, size_t face, const u
  * Kerning and the positions of marks are kept if kern, mark or mkmk is among the features. If keeps is not 0, all features count,
  * and the tables are copied. What is left out: docs/subsets.md.
  * Sets *layout on PSF_OK and PSF_NO_ROOM: a table may be lost. The limit holds for the runs, and once more for the layout tables.
- * Other errors: those of psf_file_subset; PSF_TOO_LONG also if the search for glyphs exceeds the limit. */
+ * If nothing is chosen, the file has only .notdef.
+ * Other errors: those of psf_file_subset except PSF_NO_GLYPHS; PSF_TOO_LONG also if the search for glyphs exceeds the limit. */
 int32_t psf_file_subset_layout(const uint8_t *file, size_t length, size_t face, const uint32_t *characters, size_t asked,
                                const size_t *glyphs, size_t named, const uint32_t *copied, size_t tables, uint32_t lenient,
                                uint32_t keeps, const uint32_t *features, size_t tags, uint32_t all, uint64_t limit,

@@ -225,7 +225,8 @@ class Small(Case):
         font = Font.from_bytes(spelled("whole.hex"))
         text = "U+0042: the font has no glyph for a character"
         self.assertEqual(error(lambda: font.subset_file("AB")), (Status.NO_CHARACTER, 66, None, text))
-        self.assertEqual(error(font.subset_file)[0], Status.NO_GLYPHS)
+        self.assertEqual(error(lambda: font.subset_file(features=None))[0], Status.NO_GLYPHS)
+        self.assertEqual(len(Font.from_bytes(font.subset_file())), 1)
         text = "table 'name': two tables have the same tag"
         self.assertEqual(error(lambda: font.subset_file("A", tables=("name", "name"))), (Status.SAME_TAG, None, "name", text))
         self.assertEqual(error(lambda: self.font.subset_file("A"))[::2], (Status.NO_TABLE, "hhea"))

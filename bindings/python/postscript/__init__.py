@@ -755,9 +755,9 @@ class Font:
         `features` there are no layout tables.
 
         Glyphs get new numbers in ascending order, unless `keep_numbers` is set. Raises `WriteError`: `Status.NO_CHARACTER` for a
-        character without a glyph, unless `ignore_missing` is set; `NO_GLYPHS` if nothing is left; `NO_TABLE`, `NO_MAP`, `NO_ADVANCES`,
-        `CUT_TABLE` and `SAME_TAG` for the tables; and the errors of `subset`. Raises `ValueError` if the font was not opened from a
-        file."""
+        character without a glyph, unless `ignore_missing` is set; `NO_GLYPHS` if nothing is left and `features` is None; `NO_TABLE`,
+        `NO_MAP`, `NO_ADVANCES`, `CUT_TABLE` and `SAME_TAG` for the tables; and the errors of `subset`. Raises `ValueError` if the font
+        was not opened from a file."""
         file, limit = self._whole(), self._limit_of_all
         asked, numbers = [*map(ord, text), *unicodes], list(glyphs)
         characters, named, copied = (c_uint32 * len(asked))(*asked), (c_size_t * len(numbers))(*numbers), _tags_of(tables)

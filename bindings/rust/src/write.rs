@@ -242,9 +242,9 @@ impl<'f> SubsetFile<'f> {
     ///
     /// # Errors
     ///
-    /// [`Error::NoCharacter`], [`Error::NoGlyphs`] if nothing is left, [`Error::NoTable`], [`Error::NoMap`], [`Error::NoAdvances`],
-    /// [`Error::CutTable`], [`Error::SameTag`], and those of [`Font::subset`]. [`Error::CutFile`] if the font was not opened by
-    /// [`Font::from_file`].
+    /// [`Error::NoCharacter`], [`Error::NoGlyphs`] if nothing is left and no layout tables are kept, [`Error::NoTable`],
+    /// [`Error::NoMap`], [`Error::NoAdvances`], [`Error::CutTable`], [`Error::SameTag`], and those of [`Font::subset`].
+    /// [`Error::CutFile`] if the font was not opened by [`Font::from_file`].
     ///
     /// [`Font::subset`]: crate::Font::subset
     /// [`Font::from_file`]: crate::Font::from_file
