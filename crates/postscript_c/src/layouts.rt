@@ -12,8 +12,8 @@ use postscript_layout_write::Error as Fault;
 use postscript_subset::{Error, Features, Outcome, Result, Subset, subset_with_layout};
 use std::alloc::Global;
 
-/// What became of the layout tables. Each number is 0 if the face has no such table, 1 if the new file has it, 2 if none
-/// of its features is chosen, and otherwise the status of the reason why it is lost: 45, 46 or 73.
+/// What became of the layout tables. Each number is 0 if the face has no such table, 1 if the new file has it, and 2 if none
+/// of its features is chosen. Otherwise the table is lost, and the number is the status of the reason: 45, 46 or 73.
 #[repr(C)]
 #[derive(Clone, Copy)]
 pub struct PsfLayout {
