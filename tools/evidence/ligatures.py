@@ -9,8 +9,9 @@ table, and fonts without GSUB, are skipped. `psotf subset` writes each font seve
 Latin-1, and with Vietnamese, Hebrew, Devanagari and Arabic letters, if the font has them; each with the features that it keeps by default,
 and with all features. The whole font and its subset then shape the same lines of these characters, drawn at random from SEED.
 
-A subset does not keep contexts, reverse chaining, and lookups with classes or sets of marks. So the features of GSUB that name such a
-lookup, or that were not chosen, are turned off, and so are the features of GPOS that are not made of pairs. Each list of LINES lines is
+A subset does not keep contexts by glyphs or classes, reverse chaining, and lookups of GSUB with classes or sets of marks. So the features of
+GSUB that name such a lookup, directly or by contexts, or that were not chosen, are turned off, and so are the features of GPOS with lookups
+other than pairs and marks, and those with classes or sets of marks if GDEF has no glyph classes. Each list of LINES lines is
 shaped with the other features as they are by default, with all of them on, with some of them on, and from right to left. Glyphs must have the
 same names, and clusters, advances and offsets must be the same. `psotf` must name the dropped lookups that fontTools finds. Fonts with a
 required feature that is not kept are only counted. `ots-sanitize` must accept the subset if it accepts the font. If `psotf` says that
@@ -66,20 +67,55 @@ def type_of(lookup, extension):
     return lookup.SubTable[0].ExtensionLookupType if lookup.LookupType == extension else lookup.LookupType
 
 
+def parts_of(lookup, extension):
+    """Returns the subtables of a lookup. Those of an extension are the ones that it points to."""
+    return [one.ExtSubTable if lookup.LookupType == extension else one for one in lookup.SubTable]
+
+
+def is_contextual(lookup):
+    """Returns whether a lookup of GSUB has contexts by sets of glyphs only."""
+    return type_of(lookup, 7) in (5, 6) and all(one.Format == 3 for one in parts_of(lookup, 7))
+
+
 def kept_lookups(font):
     """Returns whether each lookup of GSUB is kept, if it is chosen. A lookup without subtables has nothing to lose."""
-    return [not one.SubTable or (type_of(one, 7) in (1, 2, 3, 4) and one.LookupFlag < 16) for one in lookups_of(font, "GSUB")]
+    return [
+        not one.SubTable or ((type_of(one, 7) in (1, 2, 3, 4) or is_contextual(one)) and one.LookupFlag < 16)
+        for one in lookups_of(font, "GSUB")
+    ]
 
 
-def paired(font):
-    """Returns whether each lookup of GPOS is made of pairs that are kept."""
-    return [not one.SubTable or (type_of(one, 9) == 2 and one.LookupFlag < 16) for one in lookups_of(font, "GPOS")]
+def called(font):
+    """Returns the lookups that each lookup of GSUB applies by its contexts, if these are kept."""
+    return [
+        {record.LookupListIndex for part in parts_of(one, 7) for record in part.SubstLookupRecord} if one.SubTable and is_contextual(one) else set()
+        for one in lookups_of(font, "GSUB")
+    ]
+
+
+def whole_lookups(font):
+    """Returns whether each lookup of GSUB is kept, with all lookups that its contexts apply, directly or by others."""
+    whole, calls = kept_lookups(font), called(font)
+    while True:
+        left = [is_whole and all(i < len(whole) and whole[i] for i in calls[k]) for k, is_whole in enumerate(whole)]
+        if left == whole:
+            return whole
+        whole = left
+
+
+def placed(font):
+    """Returns whether each lookup of GPOS has pairs or marks that are kept. Those with classes or sets of marks need classes in GDEF."""
+    classes = "GDEF" in font and font["GDEF"].table.GlyphClassDef is not None
+    return [
+        not one.SubTable or (type_of(one, 9) in (2, 4, 5, 6) and (classes or one.LookupFlag < 16))
+        for one in lookups_of(font, "GPOS")
+    ]
 
 
 def allowed(font, chosen):
     """Returns the features that text may be shaped with, and the option that turns off all others."""
     lost = set()
-    for tag, kept in (("GSUB", kept_lookups(font)), ("GPOS", paired(font))):
+    for tag, kept in (("GSUB", whole_lookups(font)), ("GPOS", placed(font))):
         for feature, indices in records(font, tag):
             if not chosen(feature) or not all(kept[i] for i in indices if i < len(kept)):
                 lost.add(feature)
@@ -88,10 +124,15 @@ def allowed(font, chosen):
 
 
 def dropped(font, choice):
-    """Returns the chosen lookups of GSUB that are not kept. With all features, every lookup of the table is chosen."""
-    kept = kept_lookups(font)
+    """Returns the chosen lookups of GSUB that are not kept. With all features, every lookup of the table is chosen. Otherwise contexts that
+    are kept also choose the lookups that they apply."""
+    kept, calls = kept_lookups(font), called(font)
     named = {i for feature, indices in records(font, "GSUB") if feature in USUAL for i in indices}
-    return [i for i, is_kept in enumerate(kept) if not is_kept and (choice == "all" or i in named)]
+    while True:
+        more = named.union(*(calls[i] for i in named if i < len(calls)))
+        if more == named:
+            return [i for i, is_kept in enumerate(kept) if not is_kept and (choice == "all" or i in named)]
+        named = more
 
 
 def requires(font, off):
