@@ -9,7 +9,7 @@ ghost use Rattle.postscript_layout_write.specs.declared.error.Error.TheVariants 
 
 use crate::contexts::{Parts, is_contextual, parts_of};
 use crate::error::Result;
-use crate::limit::pay;
+use crate::limit::{pay, pay_all};
 use crate::numbers::word;
 use crate::rules::{part_at, type_of};
 use std::alloc::Global;
@@ -134,6 +134,7 @@ impl Reached {
             return Ok(());
         }
         let lookup = list + word(gsub, list + 2 + i * 2);
+        pay_all(limit, word(gsub, lookup + 4))?;
         if is_contextual(gsub, lookup) {
             self.add_contexts(gsub, lookup, limit)?;
         }

@@ -229,6 +229,7 @@ fn put_next(
     ensures spends { limit.new ≤ limit.old }
     ensures why { IfErr result (λ e. Fails limit.new e) }
 {
+    pay_all(limit, word(gsub, lookup + 4))?;
     if keeps_contexts(gsub, lookup, lookups, i) {
         put_contexts(alloc, bytes, gsub, lookup, kept, limit)?;
     } else {
