@@ -170,6 +170,18 @@ def shared(count, kind, subtable):
     return short(count) + short(2 + 2 * count) * count + short(kind) + short(0) + short(1) + short(8) + subtable
 
 
+def contexts(count, last):
+    """Returns a lookup list with many lookups at one offset. They have 30,000 contexts of all glyphs at one offset, and another subtable."""
+    context = short(3) + short(1) + short(1) + short(12) + short(0) + short(1) + COVERED
+    places = short(6 + 2 * 30_001) * 30_000 + short(6 + 2 * 30_001 + len(context))
+    return short(count) + short(2 + 2 * count) * count + short(5) + short(0) + short(30_001) + places + context + last
+
+
+def of_sets(sets, actions):
+    """Returns a context of many sets of all glyphs, with many actions."""
+    return short(3) + short(sets) + short(actions) + COVERED + short(6) * (sets - 5) + long(0) * actions
+
+
 #: a coverage table of 65,535 glyphs, and a subtable whose 65,535 sets have one place, each with 65,535 parts
 COVERED = short(2) + short(1) + short(0) + short(MANY - 1) + short(0)
 FILLED = short(1) + short(60_006) + short(MANY) + short(4) * 30_000 + COVERED + short(4) * 40_000
@@ -181,6 +193,10 @@ GSUBS = {
     "a list of 60,000 glyphs to substitute": chosen(
         named(1), shared(1, 1, short(1) + short(6) + short(1) + short(1) + short(60_000) + b"".join(map(short, range(60_000)))),
     ),
+    "10,000 lookups of 30,000 contexts and one by glyphs": chosen(named(10_000), contexts(10_000, short(1) * 4)),
+    "10,000 lookups of 30,001 contexts": chosen(named(10_000), contexts(10_000, short(3) + short(0) * 4)),
+    "a context of 65,535 sets and no actions": chosen(named(1), shared(1, 5, of_sets(MANY, 0))),
+    "10,000 contexts of 30,000 sets and actions": chosen(named(10_000), shared(10_000, 5, of_sets(30_000, 30_000))),
     "10,000 extensions of themselves": chosen(named(10_000), shared(10_000, 7, short(1) + short(7) + long(0))),
 }
 
