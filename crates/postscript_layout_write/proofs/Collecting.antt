@@ -6,13 +6,13 @@ use Rattle.std.proofs.lemmas.Bool.{le-ltb, lt-ltb}
 use Rattle.std.proofs.lemmas.List.{get_or_append_left, get_or_push}
 use Rattle.std.proofs.lemmas.List.Elements.{All-contains, All-weaker, Contains-append_left, Contains-push}
 use Rattle.postscript_layout.specs.Numbers.{word}
-use Rattle.postscript_layout_write.specs.Attaching.{AddsMarks}
+use Rattle.postscript_layout_write.specs.Typed.{AddsTyped}
 use Rattle.postscript_layout_write.specs.Entries.{AreEntries, entry, form_of}
 use Rattle.postscript_layout_write.specs.Holds.{Holds}
 use Rattle.postscript_layout_write.specs.Flags.{set_of}
-use Rattle.postscript_layout_write.specs.Lookups.{AddsForms, AddsPosition, AreForms, HasLookup, HasLookups, HasPosition, PutsLookup, has_marks, has_pairs}
+use Rattle.postscript_layout_write.specs.Lookups.{AddsForms, AddsPosition, AreForms, HasLookup, HasLookups, HasPosition, PutsLookup, has_contexts, has_pairs, has_typed}
 use Rattle.postscript_layout_write.specs.Pairs.{lookup_at}
-use Rattle.postscript_layout_write.specs.Scopes.{mark_set_text, new_flag, new_pair, pair_by, takes_marks}
+use Rattle.postscript_layout_write.specs.Scopes.{mark_set_text, new_flag, new_pair, pair_by, takes_contexts, takes_type}
 use Rattle.postscript_layout_write.specs.Sets.{Adds, AddsSubtable, AreOffsets, AreSets, HasSet, HasSubtable, no_pairs, some_pairs, no_subtable, one_subtable}
 use Rattle.postscript_layout_write.specs.Text.{AreOfForm, EntryFits, lookup_text, set_text, subtable_text}
 use Rattle.postscript_layout_write.specs.Values.{nothing}
@@ -27,7 +27,7 @@ use Rattle.postscript_layout_write.proofs.Firsts.{nat_cases}
 use Rattle.postscript_layout_write.proofs.Holding.{holds-last, holds-on, holds-whole}
 use Rattle.postscript_layout_write.proofs.Listing.{entries-as}
 use Rattle.postscript_layout_write.proofs.Lists.{push-each}
-use Rattle.postscript_layout_write.proofs.MarkWriting.{marks-on}
+use Rattle.postscript_layout_write.proofs.TypedWriting.{typed-on}
 
 -- a set and a subtable, with more bytes after them
 set-on : (form : Form) (g : ℕ → Adjustment) (bytes more : List ℕ) (at : ℕ) → HasSet form g bytes at → HasSet form g (bytes ++ more) at
@@ -308,27 +308,37 @@ lookup-on flag set f bytes more at h = record {
 
 position-on : (scope : Scope) (gpos kept : List ℕ) (lookup : ℕ) (bytes more : List ℕ) (at : ℕ) → HasPosition scope gpos kept lookup bytes at →
     HasPosition scope gpos kept lookup (bytes ++ more) at
-position-on scope gpos kept lookup bytes more at (has_pairs never h) =
-    has_pairs never (lookup-on (new_flag scope (word gpos (lookup + 2))) (set_of gpos lookup) (new_pair scope gpos kept lookup) bytes more at h)
-position-on scope gpos kept lookup bytes more at (has_marks takes h) =
-    has_marks takes (marks-on gpos kept lookup (new_flag scope (word gpos (lookup + 2))) bytes more at h)
+position-on scope gpos kept lookup bytes more at (has_pairs never none h) =
+    has_pairs never none (lookup-on (new_flag scope (word gpos (lookup + 2))) (set_of gpos lookup) (new_pair scope gpos kept lookup) bytes more at h)
+position-on scope gpos kept lookup bytes more at (has_typed takes h) =
+    has_typed takes (typed-on gpos kept lookup (new_flag scope (word gpos (lookup + 2))) bytes more at h)
+position-on scope gpos kept lookup bytes more at (has_contexts takes h) =
+    has_contexts takes (typed-on gpos kept lookup (new_flag scope (word gpos (lookup + 2))) bytes more at h)
 
-pub pairs-added : (scope : Scope) (gpos kept : List ℕ) (lookup : ℕ) (forms : Forms) (old new : List ℕ) → takes_marks scope gpos lookup ≡ false →
-    AreForms (new_pair scope gpos kept lookup) (length kept) forms → PutsLookup (new_flag scope (word gpos (lookup + 2))) (set_of gpos lookup) forms old new →
+pub pairs-added : (scope : Scope) (gpos kept : List ℕ) (lookup : ℕ) (forms : Forms) (old new : List ℕ) → takes_type scope gpos lookup ≡ false →
+    takes_contexts scope gpos lookup ≡ false → AreForms (new_pair scope gpos kept lookup) (length kept) forms → PutsLookup (new_flag scope (word gpos (lookup + 2))) (set_of gpos lookup) forms old new →
     AddsPosition scope gpos kept lookup old new
-pairs-added scope gpos kept lookup forms old new never are puts = record {
+pairs-added scope gpos kept lookup forms old new never none are puts = record {
   more = lookup_text (new_flag scope (word gpos (lookup + 2))) puts.offsets puts.bytes;
   bytes = puts.text;
-  has = has_pairs never (lookup-made (new_pair scope gpos kept lookup) (length kept) (λ x y far. ap form_of (first-far scope gpos kept lookup x y far))
+  has = has_pairs never none (lookup-made (new_pair scope gpos kept lookup) (length kept) (λ x y far. ap form_of (first-far scope gpos kept lookup x y far))
       (new_flag scope (word gpos (lookup + 2))) (set_of gpos lookup) forms old new puts are);
 }
 
-pub marks-added : (scope : Scope) (gpos kept : List ℕ) (lookup : ℕ) (old new : List ℕ) → takes_marks scope gpos lookup ≡ true →
-    AddsMarks gpos kept lookup (new_flag scope (word gpos (lookup + 2))) old new → AddsPosition scope gpos kept lookup old new
-marks-added scope gpos kept lookup old new takes adds = record {
+pub typed-added : (scope : Scope) (gpos kept : List ℕ) (lookup : ℕ) (old new : List ℕ) → takes_type scope gpos lookup ≡ true →
+    AddsTyped gpos kept lookup (new_flag scope (word gpos (lookup + 2))) old new → AddsPosition scope gpos kept lookup old new
+typed-added scope gpos kept lookup old new takes adds = record {
   more = adds.more;
   bytes = adds.bytes;
-  has = has_marks takes adds.has;
+  has = has_typed takes adds.has;
+}
+
+pub contexts-added : (scope : Scope) (gpos kept : List ℕ) (lookup : ℕ) (old new : List ℕ) → takes_contexts scope gpos lookup ≡ true →
+    AddsTyped gpos kept lookup (new_flag scope (word gpos (lookup + 2))) old new → AddsPosition scope gpos kept lookup old new
+contexts-added scope gpos kept lookup old new takes adds = record {
+  more = adds.more;
+  bytes = adds.bytes;
+  has = has_contexts takes adds.has;
 }
 
 pub lookups-more : (scope : Scope) (gpos kept : List ℕ) (i : ℕ) (offsets bytes newoffsets newbytes : List ℕ) → HasLookups scope gpos kept i offsets bytes →

@@ -1,23 +1,36 @@
 -- Contexts that are collected: coverage tables, subtables and lookups.
 use Rattle.std.proofs.Common.{◌≡◌, refl, sym, ap, subst, ◌∙◌, inl, inr, ℕ, ◌+◌, ◌*◌, ◌≤◌, ◌<◌, ◌&&◌, List, [], ◌∷◌, ◌++◌, length, length-append, get_or, append-nil, arith, Bool, true, false}
 use Rattle.std.specs.List.{All}
+use Rattle.std.specs.Prelude.{Option, if◌then◌else◌}
 use Rattle.std.proofs.lemmas.List.{append_assoc, get_or_append_left, get_or_push}
 use Rattle.std.proofs.lemmas.List.FromFn.{map-range_with_len_more}
 use Rattle.postscript_layout.specs.Numbers.{word}
-use Rattle.postscript_layout_write.specs.Contexts.{Context, all_some, covered_of, is_some_glyph, sets_at}
-use Rattle.postscript_layout_write.specs.Coverages.{Fits, HasContext, HasCoverage, HaveContexts, HaveCoverages, IsMade, IsPart, PutsContext, base_of, context_text, no_context}
+use Rattle.postscript_layout_write.specs.Contexts.{sets_at}
+use Rattle.postscript_layout_write.specs.Sequences.{Context, all_some, can_apply, covered_of, if_applies, is_some_glyph}
+use Rattle.postscript_layout_write.specs.Coverages.{AddsContexts, AddsSets, Fits, HasContext, HasCoverage, HaveContexts, HaveCoverages, IsMade, IsPart, PutsContext, base_of, context_text, no_context}
 use Rattle.postscript_layout_write.specs.Holds.{Holds}
+use Rattle.postscript_layout_write.specs.Labels.{having_at}
 use Rattle.postscript_layout_write.specs.RuleSets.{Begins}
+use Rattle.postscript_layout_write.specs.First.{all_below}
+use Rattle.postscript_layout_write.specs.declared.contexts.Contexts.{Contexts}
 use Rattle.postscript_layout_write.specs.declared.contexts.Made.{Made}
+use Rattle.postscript_layout_write.specs.declared.contexts.Part.{Part}
 use Rattle.postscript_layout_write.proofs.Firsts.{nat_cases}
 use Rattle.postscript_layout_write.proofs.Holding.{holds-last, holds-on}
 use Rattle.postscript_layout_write.proofs.Reading.{any-default}
+use Rattle.postscript_layout_write.proofs.RuleRows.{below-more}
 
 pub begins-trans : (a b c : List ℕ) → Begins a b → Begins b c → Begins a c
 begins-trans a b c p q = record {
   more = p.more ++ q.more;
   is = q.is ∙ ap (λ xs. xs ++ q.more) p.is ∙ append_assoc a p.more q.more;
 }
+
+pub begins-same : (old : List ℕ) → Begins old old
+begins-same old = record { more = []; is = sym (append-nil old) }
+
+pub holds-begins : {text old new : List ℕ} {offset : ℕ} → Begins old new → Holds text old offset → Holds text new offset
+holds-begins {text = text} {offset = offset} b h = subst (λ (xs : List ℕ). Holds text xs offset) (sym b.is) (holds-on b.more h)
 
 -- coverage tables with more bytes after them
 coverage-on : (set bytes new : List ℕ) (offset : ℕ) → Begins bytes new → HasCoverage set bytes offset → HasCoverage set new offset
@@ -73,8 +86,79 @@ pub sets-more : (gsub kept : List ℕ) (subtable array p : ℕ) →
     sets_at gsub kept subtable array (p + 1) ≡ sets_at gsub kept subtable array p ++ covered_of gsub kept (subtable + word gsub (array + p * 2)) ∷ []
 sets-more gsub kept subtable array p = map-range_with_len_more (λ q. covered_of gsub kept (subtable + word gsub (array + q * 2))) 0 p p (omega arith)
 
+-- parts
+pub part-none : (part : Part) (tables : List ℕ) → part.offsets.items ≡ [] → part.all_some ≡ true → IsPart [] part tables
+part-none part tables empty some = record { have = coverages-none part.offsets.items tables empty; some = some }
+
+pub adds-none : (part : Part) (tables : List ℕ) → AddsSets [] part tables part tables
+adds-none part tables = record {
+  have = λ sets is. subst (λ (xs : List (List ℕ)). IsPart xs part tables) (sym (append-nil sets)) is;
+  more = begins-same tables;
+}
+
+pub adds-both : (a b : List (List ℕ)) (x y z : Part) (s t u : List ℕ) → AddsSets a x s y t → AddsSets b y t z u → AddsSets (a ++ b) x s z u
+adds-both a b x y z s t u p q = record {
+  have = λ sets is. subst (λ (xs : List (List ℕ)). IsPart xs z u) (append_assoc sets a b) (q.have (sets ++ a) (p.have sets is));
+  more = begins-trans s t u p.more q.more;
+}
+
+pub adds-set : (set : List ℕ) (old new : Part) (tables newtables : List ℕ) (offset : ℕ) → Begins tables newtables → HasCoverage set newtables offset →
+    new.offsets.items ≡ old.offsets.items ++ offset ∷ [] → new.all_some ≡ (old.all_some && is_some_glyph set) →
+    AddsSets (set ∷ []) old tables new newtables
+adds-set set old new tables newtables offset more has pushed some = record {
+  have = λ sets is. record {
+    have = subst (λ (xs : List ℕ). HaveCoverages (sets ++ set ∷ []) xs newtables) (sym pushed)
+        (coverages-more sets set old.offsets.items tables newtables offset is.have more has);
+    some = some ∙ ap (λ (b : Bool). b && is_some_glyph set) is.some ∙ sym (all-some-more sets set);
+  };
+  more = more;
+}
+
+pub labelled-as : (gsub : List ℕ) (labels others : List (Option ℕ)) (array count : ℕ) (old new : Part) (tables newtables : List ℕ) → labels ≡ others →
+    AddsSets (having_at gsub labels array count) old tables new newtables → AddsSets (having_at gsub others array count) old tables new newtables
+labelled-as gsub labels others array count old new tables newtables same adds =
+    subst (λ (xs : List (Option ℕ)). AddsSets (having_at gsub xs array count) old tables new newtables) same adds
+
+-- a part to which sets were added, with more tables after them
+pub part-of : (added : List (List ℕ)) (old new : Part) (tables newtables final : List ℕ) → old.offsets.items ≡ [] → old.all_some ≡ true →
+    AddsSets added old tables new newtables → Begins newtables final → IsPart added new final
+part-of added old new tables newtables final empty some adds begins =
+    let is : IsPart added new newtables = adds.have [] (part-none old tables empty some) in
+    record { have = coverages-on added new.offsets.items newtables final begins is.have; some = is.some }
+
+-- contexts that can apply
+pub applies-same : (context : Context) (made : Made) → IsMade context made →
+    ((made.before.all_some && made.input.all_some) && made.after.all_some) ≡ can_apply context
+applies-same context made is =
+    ap (λ (b : Bool). (b && made.input.all_some) && made.after.all_some) is.before.some
+    ∙ ap (λ (b : Bool). (all_some context.before && b) && made.after.all_some) is.input.some
+    ∙ ap (λ (b : Bool). (all_some context.before && all_some context.input) && b) is.after.some
+
+pub adds-nothing : (old : Contexts) → AddsContexts [] old old
+adds-nothing old = record {
+  have = λ contexts has. subst (λ (xs : List Context). HaveContexts xs old.offsets.items old.bytes.items) (sym (append-nil contexts)) has;
+  more = begins-same old.bytes.items;
+}
+
+pub adds-not : (context : Context) (old : Contexts) → can_apply context ≡ false → AddsContexts (if_applies context) old old
+adds-not context old never = subst (λ (b : Bool). AddsContexts (if b then context ∷ [] else []) old old) (sym never) (adds-nothing old)
+
+pub adds-if : (context : Context) (old new : Contexts) → can_apply context ≡ true → AddsContexts (context ∷ []) old new → AddsContexts (if_applies context) old new
+adds-if context old new applies adds = subst (λ (b : Bool). AddsContexts (if b then context ∷ [] else []) old new) (sym applies) adds
+
+pub adds-then : (a b : List Context) (x y z : Contexts) → AddsContexts a x y → AddsContexts b y z → AddsContexts (a ++ b) x z
+adds-then a b x y z p q = record {
+  have = λ contexts has. subst (λ (xs : List Context). HaveContexts xs z.offsets.items z.bytes.items) (append_assoc contexts a b)
+      (q.have (contexts ++ a) (p.have contexts has));
+  more = begins-trans x.bytes.items y.bytes.items z.bytes.items p.more q.more;
+}
+
+-- the contexts of one part more
+pub adds-below : (f : ℕ → List Context) (k : ℕ) (x y z : Contexts) → AddsContexts (all_below f k) x y → AddsContexts (f k) y z → AddsContexts (all_below f (k + 1)) x z
+adds-below f k x y z p q = subst (λ (xs : List Context). AddsContexts xs x z) (sym (below-more f k)) (adds-then (all_below f k) (f k) x y z p q)
+
 -- contexts
-context-on : (context : Context) (bytes more : List ℕ) (offset : ℕ) → HasContext context bytes offset → HasContext context (bytes ++ more) offset
+pub context-on : (context : Context) (bytes more : List ℕ) (offset : ℕ) → HasContext context bytes offset → HasContext context (bytes ++ more) offset
 context-on context bytes more offset h = record {
   before = h.before;
   input = h.input;

@@ -1,25 +1,33 @@
 -- Contexts that were written are read as they were.
 use Rattle.std.proofs.Common.{◌≡◌, refl, sym, ap, subst, ◌∙◌, inl, inr, ℕ, zero, suc, ◌+◌, ◌*◌, ◌≤◌, ◌<◌, ◌==◌, ◌&&◌, List, [], ◌∷◌, ◌++◌, length, length-append, get_or, take, arith, add-one, Bool, true, false}
-use Rattle.std.specs.Prelude.{Option, None, Some, filter, is_some, map, nat_eq, nat_lt, slice_index, slice_index_or, if◌then◌else◌}
+use Rattle.std.specs.Prelude.{Option, None, Some, filter, is_some, map, nat_lt, slice_index, slice_index_or, if◌then◌else◌}
 use Rattle.std.specs.List.{All, Contains, range_with_len}
-use Rattle.std.proofs.lemmas.Bool.{eq-eqb, eqb-true}
+use Rattle.std.proofs.lemmas.Bool.{eq-eqb}
 use Rattle.std.proofs.lemmas.List.{ext_get_or, take_all, take_more}
 use Rattle.std.proofs.lemmas.List.Elements.{All-append, All-cons, All-nil, Contains-append_left, Contains-push, filter_passes}
 use Rattle.std.proofs.lemmas.List.FromFn.{get_or-map-range_with_len, get_or-range_with_len, length-map-range_with_len, length-range_with_len}
 use Rattle.postscript_layout.specs.Numbers.{word, long, words}
-use Rattle.postscript_layout.specs.Substitutions.{coverage_of, set_of}
-use Rattle.postscript_layout_write.specs.Contexts.{Context, actions_at, after_at, all_have_sets, all_some, can_apply, chained_parts, context_by, context_of, contexts_at, contexts_below, contexts_in, covered_of, covers, has_sets, if_applies, input_at, parts_of, sets_at}
-use Rattle.postscript_layout_write.specs.Coverages.{Fits, HasChained, HasContext, HasCoverage, HaveContexts, HaveCoverages, base_of, chained_text, context_text, counted_text, no_context}
+use Rattle.postscript_layout.specs.Substitutions.{coverage_of}
+use Rattle.postscript_layout.specs.Substitutions.{set_of as rule_set}
+use Rattle.postscript_layout_write.specs.Contexts.{actions_at, after_at, all_have_formats, context_of, contexts_at, contexts_below, contexts_in, has_format, input_at, parts_of, sets_at}
+use Rattle.postscript_layout_write.specs.Sequences.{Context, can_apply, covered_of, covers, if_applies, kept_by}
+use Rattle.postscript_layout_write.specs.declared.contexts.Parts.{Parts}
+use Rattle.postscript_layout_write.specs.declared.labels.Role.{Role}
+use Rattle.postscript_layout_write.specs.declared.labels.Role.TheVariants.{After, Before, Input, Start}
+use Rattle.postscript_layout_write.specs.ContextRules.{by_rules, is_label, label_of, labelled, labelled_at, rule_context, rule_of, rule_parts, sets_of}
+use Rattle.postscript_layout_write.specs.ContextRules.{rules_in as context_rules, set_of as context_set}
+use Rattle.postscript_layout_write.specs.Coverages.{HasChained, HasContext, HasCoverage, HaveCoverages, base_of, chained_text, context_text, counted_text, no_context}
 use Rattle.postscript_layout_write.specs.First.{all_below, first_some}
+use Rattle.postscript_layout_write.specs.Flags.{set_of, uses_set}
 use Rattle.postscript_layout_write.specs.Holds.{Holds}
 use Rattle.postscript_layout_write.specs.Ranges.{coverage_index, index_in, range_of}
-use Rattle.postscript_layout_write.specs.Rules.{first_rules, or_none, part_at, rules_covered, rules_in, rules_of_several, rules_of_type, set_at}
+use Rattle.postscript_layout_write.specs.Rules.{or_none, part_at, rules_covered, rules_in, rules_of_several, rules_of_type}
 use Rattle.postscript_layout_write.specs.Sets.{AreOffsets}
 use Rattle.postscript_layout_write.specs.Text.{array_text, coverage_text, offsets_text, uint16}
 use Rattle.postscript_layout_write.proofs.Covering.{filter-more, filter-same}
 use Rattle.postscript_layout_write.proofs.Firsts.{first-none, nat_cases}
 use Rattle.postscript_layout_write.proofs.Holding.{holds-array, holds-first, holds-in, holds-second, holds-word, length-array, length-uint16}
-use Rattle.postscript_layout_write.proofs.Reading.{Searched, any-default, length-coverage, length-offsets, missing, offsets-read, present, searched}
+use Rattle.postscript_layout_write.proofs.Reading.{Searched, any-default, length-offsets, missing, offsets-read, present, searched}
 use Rattle.postscript_layout_write.proofs.RuleReading.{words-read}
 use Rattle.postscript_layout_write.proofs.RuleRows.{below-more}
 
@@ -70,15 +78,15 @@ module _ (t : List ℕ) (c : ℕ) (set : List ℕ) (has : HasCoverage set t c) w
       by _ (present j within same) = sym (subst (λ i. p i ≡ true) same
           (subst (λ (xs : List ℕ). All (λ x. p x ≡ true) xs) (sym is) (filter_passes p (range_with_len 0 n)) j 0 within))
 
-  pub set-read : (n : ℕ) → IsKeptSet n set → covered_of t (range_with_len 0 n) c ≡ set
-  set-read n kept =
+  pub glyphs-read : (n : ℕ) → IsKeptSet n set → covered_of t (range_with_len 0 n) c ≡ set
+  glyphs-read n kept =
       ap (λ m. filter (λ k. covers t c (slice_index (range_with_len 0 n) k)) (range_with_len 0 m)) (length-range_with_len 0 n)
       ∙ filter-same (λ k. covers t c (slice_index (range_with_len 0 n) k)) kept.test n
       (λ k less. ap (covers t c) (get_or-range_with_len 0 n k 0 less ∙ omega arith) ∙ covers-read n kept.test kept.is k less)
       ∙ sym kept.is
 
 -- sets of an array of offsets
-pub AreKeptSets : (n : ℕ) (sets : List (List ℕ)) → Type 0
+unfoldable pub AreKeptSets : (n : ℕ) (sets : List (List ℕ)) → Type 0
 AreKeptSets n sets = (k : ℕ) → k < length sets → IsKeptSet n (slice_index_or sets k [])
 
 pub sets-read : (t : List ℕ) (s base n array : ℕ) (sets : List (List ℕ)) (offsets tables : List ℕ) (count : ℕ) → count ≡ length offsets → HaveCoverages sets offsets tables →
@@ -95,7 +103,7 @@ sets-read t s base n array sets offsets tables count many have held places kept 
     let place = places k (omega (arith, within, same)) in
     get_or-map-range_with_len f 0 count k k [] below (omega arith)
     ∙ ap (λ m. covered_of t (range_with_len 0 n) (s + m)) place
-    ∙ set-read t (s + (base + get_or offsets k 0)) (get_or sets k []) (record {
+    ∙ glyphs-read t (s + (base + get_or offsets k 0)) (get_or sets k []) (record {
       few = one.few;
       small = one.small;
       there = subst (Holds (coverage_text (get_or sets k [])) t) (omega arith) (holds-in held one.there);
@@ -122,7 +130,7 @@ counted-read t at base offsets few fit h = record {
 context-with : (before input after : List (List ℕ)) (actions : List ℕ) → Context
 context-with before input after actions = record { before = before; input = input; after = after; actions = actions }
 
-same-context : (a b : Context) → a.before ≡ b.before → a.input ≡ b.input → a.after ≡ b.after → a.actions ≡ b.actions → a ≡ b
+pub same-context : (a b : Context) → a.before ≡ b.before → a.input ≡ b.input → a.after ≡ b.after → a.actions ≡ b.actions → a ≡ b
 unfolding context-with
 same-context a b p q r s =
     ap (λ xs. context-with xs a.input a.after a.actions) p ∙ ap (λ xs. context-with b.before xs a.after a.actions) q
@@ -219,7 +227,7 @@ no-rules-in t s x three = by (coverage_index t (coverage_of t s) x)
   where
     by : (index : Option ℕ) → rules_covered t 6 s index x ≡ None
     by None = refl
-    by (Some i) = ap (λ m. rules_of_several t (if (m == 1) && nat_lt i (word t (s + 4)) then Some (set_of t s i) else None)) three
+    by (Some i) = ap (λ m. rules_of_several t (if (m == 1) && nat_lt i (word t (s + 4)) then Some (rule_set t s i) else None)) three
 
 -- lookups
 record IsHead (t : List ℕ) (l flag : ℕ) (offsets : List ℕ) : Type 0 where
@@ -228,7 +236,7 @@ record IsHead (t : List ℕ) (l flag : ℕ) (offsets : List ℕ) : Type 0 where
   count-is : word t (l + 4) ≡ length offsets
   offset-is : (k : ℕ) → k < length offsets → word t (l + 6 + k * 2) ≡ 6 + length offsets * 2 + get_or offsets k 0
 
-module _ (t : List ℕ) (l flag : ℕ) (contexts : List Context) (has : HasChained flag contexts t l) where
+module _ (t : List ℕ) (l flag set : ℕ) (contexts : List Context) (has : HasChained flag set contexts t l) where
   head : IsHead t l flag has.offsets
   unfolding chained_text
   head =
@@ -296,15 +304,21 @@ module _ (t : List ℕ) (l flag : ℕ) (contexts : List Context) (has : HasChain
   pub flag-read : word t (l + 2) ≡ flag
   flag-read = head.flag-is
 
-  pub sets-all : (m : ℕ) → m ≤ length has.offsets → all_have_sets t l 6 m ≡ true
+  pub set-read : uses_set flag ≡ true → set_of t l ≡ set
+  set-read uses =
+      let at = l + (6 + length has.offsets * 2) in
+      let text : Holds (uint16 set) t (at + 0) = subst (λ (b : Bool). Holds (if b then uint16 set else []) t (at + 0)) uses (holds-in subtables-held has.begins) in
+      ap (λ n. word t (l + 6 + n * 2)) head.count-is ∙ ap (word t) (omega arith) ∙ holds-word set has.set_small text
+
+  pub sets-all : (m : ℕ) → m ≤ length has.offsets → all_have_formats t l 6 m ≡ true
   sets-all zero less = refl
   sets-all (suc m) less =
-      ap (λ b. b && has_sets t (part_at t l 6 m)) (sets-all m (omega (arith, less)))
-      ∙ ap (has_sets t) (part-read m (omega (arith, less)))
-      ∙ eq-eqb (word t (place m)) 3 (format-read t (place m) 0 (get_or contexts m no_context) (context-there m (omega (arith, less))))
+      ap (λ b. b && has_format t (part_at t l 6 m)) (sets-all m (omega (arith, less)))
+      ∙ ap (has_format t) (part-read m (omega (arith, less)))
+      ∙ ap (λ w. nat_lt 0 w && nat_lt w 4) (format-read t (place m) 0 (get_or contexts m no_context) (context-there m (omega (arith, less))))
 
-  pub have-sets : all_have_sets t l 6 (word t (l + 4)) ≡ true
-  have-sets = ap (all_have_sets t l 6) head.count-is ∙ sets-all (length has.offsets) (omega arith)
+  pub have-sets : all_have_formats t l 6 (word t (l + 4)) ≡ true
+  have-sets = ap (all_have_formats t l 6) head.count-is ∙ sets-all (length has.offsets) (omega arith)
 
   pub no-rules : (x : ℕ) → rules_of_type t l 6 x ≡ []
   no-rules x = ap or_none (first-none (λ j. rules_in t 6 (part_at t l 6 j) x) (word t (l + 4))
@@ -321,6 +335,8 @@ module _ (t : List ℕ) (l flag : ℕ) (contexts : List Context) (has : HasChain
         let within : k < length has.offsets = omega (arith, less, same) in
         let context = get_or contexts k no_context in
         ap (contexts_in t (range_with_len 0 n) 6) (part-read k within)
+        ∙ ap (λ (b : Bool). if b then if_applies (context_of t (range_with_len 0 n) 6 (place k)) else by_rules t (range_with_len 0 n) 6 (place k))
+        (eq-eqb (word t (place k)) 3 (format-read t (place k) n context (context-there k within)))
         ∙ ap if_applies (context-read t (place k) n context (context-there k within) (kept k less))
         ∙ ap (λ (b : Bool). if b then context ∷ [] else []) (apply k less)
 
@@ -340,22 +356,38 @@ module _ (t : List ℕ) (l flag : ℕ) (contexts : List Context) (has : HasChain
         ∙ take_all (length contexts) contexts (omega arith)
 
 -- the contexts of an old lookup
-kept-sets : (gsub kept : List ℕ) (s array count : ℕ) → AreKeptSets (length kept) (sets_at gsub kept s array count)
+kept-sets : (kept : List ℕ) (f : ℕ → ℕ → Bool) (count : ℕ) → AreKeptSets (length kept) (map (λ p. kept_by kept (f p)) (range_with_len 0 count))
 unfolding AreKeptSets
-kept-sets gsub kept s array count k less =
-    let f = λ (p : ℕ). covered_of gsub kept (s + word gsub (array + p * 2)) in
+kept-sets kept f count k less =
+    let g = λ (p : ℕ). kept_by kept (f p) in
     record {
-      test = λ x. covers gsub (s + word gsub (array + k * 2)) (slice_index kept x);
-      is = get_or-map-range_with_len f 0 count k k [] (omega (arith, less, length-map-range_with_len f 0 count)) (omega arith);
+      test = λ x. f k (slice_index kept x);
+      is = get_or-map-range_with_len g 0 count k k [] (omega (arith, less, length-map-range_with_len g 0 count)) (omega arith);
     }
 
-kept-of : (gsub kept : List ℕ) (type s : ℕ) → IsKeptContext (length kept) (context_of gsub kept type s)
+kept-cons : (n : ℕ) (set : List ℕ) (sets : List (List ℕ)) → IsKeptSet n set → AreKeptSets n sets → AreKeptSets n (set ∷ sets)
+unfolding AreKeptSets
+kept-cons n set sets first rest zero less = first
+kept-cons n set sets first rest (suc k) less = rest k (omega (arith, less))
+
+pub kept-of : (gsub kept : List ℕ) (type s : ℕ) → IsKeptContext (length kept) (context_of gsub kept type s)
 kept-of gsub kept type s =
     let parts = parts_of gsub type s in
     record {
-      before = kept-sets gsub kept s parts.before_at parts.before;
-      input = kept-sets gsub kept s parts.input_at parts.input;
-      after = kept-sets gsub kept s parts.after_at parts.after;
+      before = kept-sets kept (λ p. covers gsub (s + word gsub (parts.before_at + p * 2))) parts.before;
+      input = kept-sets kept (λ p. covers gsub (s + word gsub (parts.input_at + p * 2))) parts.input;
+      after = kept-sets kept (λ p. covers gsub (s + word gsub (parts.after_at + p * 2))) parts.after;
+    }
+
+kept-rule : (gsub kept : List ℕ) (type s i : ℕ) (parts : Parts) → IsKeptContext (length kept) (rule_context gsub kept type s i parts)
+kept-rule gsub kept type s i parts =
+    let f : Role → ℕ → ℕ → Bool = λ role number glyph. is_label (label_of gsub type s role glyph) number in
+    record {
+      before = kept-sets kept (λ p. f Before (word gsub (parts.before_at + p * 2))) parts.before;
+      input = kept-cons (length kept) (labelled gsub kept type s Start i) (labelled_at gsub kept type s Input parts.input_at parts.input)
+          (record { test = λ k. f Start i (slice_index kept k); is = refl })
+          (kept-sets kept (λ p. f Input (word gsub (parts.input_at + p * 2))) parts.input);
+      after = kept-sets kept (λ p. f After (word gsub (parts.after_at + p * 2))) parts.after;
     }
 
 -- what holds of each context of a lookup
@@ -363,19 +395,34 @@ module _ (gsub kept : List ℕ) (lookup type : ℕ) where
   IsGood : Context → Type 0
   IsGood context = IsKeptContext (length kept) context × (can_apply context ≡ true)
 
-  good-in : (part : Option ℕ) → All IsGood (contexts_in gsub kept type part)
+  good-if : (context : Context) → IsKeptContext (length kept) context → All IsGood (if_applies context)
   unfolding IsGood
-  good-in None = All-nil IsGood
-  good-in (Some s) = by (can_apply (context_of gsub kept type s)) refl
+  good-if context kept-sets = by (can_apply context) refl
     where
-      by : (b : Bool) → can_apply (context_of gsub kept type s) ≡ b → All IsGood (if b then context_of gsub kept type s ∷ [] else [])
-      by true applies = All-cons IsGood (context_of gsub kept type s) [] (kept-of gsub kept type s, applies) (All-nil IsGood)
+      by : (b : Bool) → can_apply context ≡ b → All IsGood (if b then context ∷ [] else [])
+      by true applies = All-cons IsGood context [] (kept-sets, applies) (All-nil IsGood)
       by false fails = All-nil IsGood
 
+  good-all : (f : ℕ → List Context) (count : ℕ) → ((k : ℕ) → All IsGood (f k)) → All IsGood (all_below f count)
+  good-all f zero each = All-nil IsGood
+  good-all f (suc n) each = All-append IsGood (all_below f n) (f n) (good-all f n each) (each n)
+
+  good-set : (s i : ℕ) (set : Option ℕ) → All IsGood (context_rules gsub kept type s i set)
+  good-set s i None = All-nil IsGood
+  good-set s i (Some set) = good-all (λ r. if_applies (rule_context gsub kept type s i (rule_parts gsub type (rule_of gsub set r)))) (word gsub set)
+      (λ r. good-if (rule_context gsub kept type s i (rule_parts gsub type (rule_of gsub set r))) (kept-rule gsub kept type s i (rule_parts gsub type (rule_of gsub set r))))
+
+  good-in : (part : Option ℕ) → All IsGood (contexts_in gsub kept type part)
+  good-in None = All-nil IsGood
+  good-in (Some s) = by (word gsub s == 3)
+    where
+      by : (b : Bool) → All IsGood (if b then if_applies (context_of gsub kept type s) else by_rules gsub kept type s)
+      by true = good-if (context_of gsub kept type s) (kept-of gsub kept type s)
+      by false = good-all (λ i. context_rules gsub kept type s i (context_set gsub type s i)) (word gsub (sets_of gsub type s))
+          (λ i. good-set s i (context_set gsub type s i))
+
   good-below : (count : ℕ) → All IsGood (contexts_below gsub kept lookup type count)
-  good-below zero = All-nil IsGood
-  good-below (suc n) = All-append IsGood (contexts_below gsub kept lookup type n) (contexts_in gsub kept type (part_at gsub lookup type n))
-      (good-below n) (good-in (part_at gsub lookup type n))
+  good-below count = good-all (λ j. contexts_in gsub kept type (part_at gsub lookup type j)) count (λ j. good-in (part_at gsub lookup type j))
 
   pub kept-context : (k : ℕ) → k < length (contexts_at gsub kept lookup type) → IsKeptContext (length kept) (get_or (contexts_at gsub kept lookup type) k no_context)
   unfolding IsGood

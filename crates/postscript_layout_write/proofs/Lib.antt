@@ -18,12 +18,17 @@ pub mod RuleKept
 pub mod Covering
 pub mod ContextCollecting
 pub mod ContextReading
+pub mod Labelling
 pub mod Reaching
 pub mod Rows
 pub mod LigatureRows
 pub mod MarkWriting
 pub mod MarkReading
 pub mod MarkKept
+pub mod RowKept
+pub mod PositionContexts
+pub mod TypedWriting
+pub mod TypedKept
 pub mod PositionKept
 pub mod DefinitionSets
 pub mod DefinitionsKept

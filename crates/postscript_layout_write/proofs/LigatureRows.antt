@@ -15,7 +15,7 @@ ligature-on gpos None classes bytes more at h = h
 ligature-on gpos (Some ligature) classes bytes more at h = record {
   cells = h.cells;
   are = h.are;
-  has = cells-on (word gpos ligature) h.cells bytes more at h.has;
+  has = cells-on 0 (word gpos ligature) h.cells bytes more at h.has;
 }
 
 pub ligatures-less : (gpos : List ℕ) (subtable : Option ℕ) (kept : List ℕ) (x : ℕ) (glyphs offsets bytes : List ℕ) →
@@ -58,7 +58,7 @@ ligatures-more gpos subtable kept x ligature text glyphs offsets bytes newglyphs
             (subst (λ (o : Option ℕ). HasLigatureOf gpos o (classes_of gpos subtable) newbytes adds.place) (sym is) (record {
               cells = has.cells;
               are = has.are;
-              has = cells-in (word gpos ligature) has.cells newbytes text adds.place adds.placed.there has.has;
+              has = cells-in 0 (word gpos ligature) has.cells newbytes text adds.place adds.placed.there has.has;
             })))
       ];
       all = λ y less. elim (nat_cases y x) [

@@ -1,28 +1,22 @@
--- Subtables and lookups that attach marks attach the kept marks as before.
+-- Subtables that attach marks attach the kept marks as before.
 use Rattle.std.proofs.Common.{◌≡◌, refl, sym, ap, subst, ◌∙◌, inl, inr, ℕ, ◌+◌, ◌*◌, ◌≤◌, ◌<◌, ◌==◌, ◌&&◌, List, [], ◌∷◌, ◌++◌, length, get_or, arith, Bool, true, false}
-use Rattle.std.specs.Prelude.{Option, None, Some, nat_eq, nat_lt, if◌then◌else◌}
-use Rattle.std.proofs.lemmas.Bool.{eq-eqb, eqb-true, le-ltb, lt-ltb}
-use Rattle.postscript_layout.specs.Numbers.{word, long}
-use Rattle.postscript_layout_write.specs.Attaching.{AreRows, HasAttaching, HasBaseArray, HasLigatureArray, HasLigatureOf, HasMarks, HasSecondArray, are_bases, are_ligatures, at_class, attaching_head, attaching_text, base_in, base_row, classes_of, ligature_at, mark_row, no_marks, parts_text, row_covered, row_of}
-use Rattle.postscript_layout_write.specs.First.{first_some}
-use Rattle.postscript_layout_write.specs.Flags.{set_of, uses_set}
+use Rattle.std.specs.Prelude.{Option, None, Some, nat_lt, if◌then◌else◌}
+use Rattle.std.proofs.lemmas.Bool.{le-ltb, lt-ltb}
+use Rattle.postscript_layout.specs.Numbers.{word}
+use Rattle.postscript_layout_write.specs.Attaching.{AreRows, HasAttaching, IsArray, HasLigatureArray, HasLigatureOf, HasSecondArray, are_bases, are_ligatures, at_class, attaching_head, attaching_text, base_in, base_row, classes_of, ligature_at, mark_row, no_marks, row_covered, row_of}
 use Rattle.postscript_layout_write.specs.Holds.{Holds}
 use Rattle.postscript_layout_write.specs.Ligatures.{ToComponent, ligature_covered, ligature_of, to_component}
-use Rattle.postscript_layout_write.specs.Ligatures.{by_lookup as ligature_by_lookup, by_subtable as ligature_by, by_subtables as ligatures_by}
-use Rattle.postscript_layout_write.specs.Marks.{Attachment, Mark, anchor_at, anchor_covered, anchor_in, anchor_of, attached, attaches, attaching_at, by_lookup, by_subtable, by_subtables, mark_covered, mark_of, met, of_format1, type_at}
-use Rattle.postscript_layout_write.specs.Positions.{is_marks}
+use Rattle.postscript_layout_write.specs.Ligatures.{by_subtable as ligature_by}
+use Rattle.postscript_layout_write.specs.Marks.{Attachment, Mark, anchor_at, anchor_covered, anchor_in, anchor_of, attached, by_subtable, mark_covered, mark_of, met}
 use Rattle.postscript_layout_write.specs.Ranges.{coverage_index}
-use Rattle.postscript_layout_write.specs.RuleSets.{rule_head_text}
-use Rattle.postscript_layout_write.specs.Text.{array_text, coverage_text, offsets_text, uint16}
+use Rattle.postscript_layout_write.specs.Text.{array_text, coverage_text, uint16}
 use Rattle.postscript_layout_write.specs.declared.anchors.Anchor.{Anchor}
 use Rattle.postscript_layout_write.specs.declared.anchors.Side.TheVariants.{Bases, Marks}
-use Rattle.postscript_layout_write.proofs.Firsts.{first-none, first-same, nat_cases}
-use Rattle.postscript_layout_write.proofs.Holding.{holds-array, holds-first, holds-in, holds-second, holds-word}
+use Rattle.postscript_layout_write.proofs.Firsts.{nat_cases}
+use Rattle.postscript_layout_write.proofs.Holding.{holds-array, holds-first, holds-second}
 use Rattle.postscript_layout_write.proofs.MarkReading.{and-false, bases-read, coverage-read, ligatures-read, marks-read, row-none}
-use Rattle.postscript_layout_write.proofs.MarkWriting.{attaching-in}
-use Rattle.postscript_layout_write.proofs.Reading.{length-coverage, length-offsets, offsets-read}
+use Rattle.postscript_layout_write.proofs.Reading.{length-coverage}
 use Rattle.postscript_layout_write.proofs.Rows.{cells-in, rows-as}
-use Rattle.postscript_layout_write.proofs.RuleKept.{IsHead, head-read, length-rule-head}
 
 -- the marks and the bases of a glyph of the old table
 mark_at : List ℕ → Option ℕ → (glyph : ℕ) → Option Mark
@@ -194,7 +188,7 @@ module _ (type : ℕ) (gpos : List ℕ) (subtable : Option ℕ) (kept t : List �
       (λ x far. ap (λ (t : Bool). if t then mark_at gpos subtable (get_or kept x 0) else None) (le-ltb x (length kept) far))
       (λ x. coverage-read t (s + 12) has.marks x has.fits.few_marks (λ k less. (let low = has.first_has.are.fit k less in omega (arith, low, small)))
       (holds-first (coverage_text has.marks) _ rest))
-      (cells-in (length has.marks) has.first_has.cells t has.first (s + (20 + length has.marks * 2 + length has.bases * 2)) (holds-first has.first has.second rest3) has.first_has.has)
+      (cells-in 0 (length has.marks) has.first_has.cells t has.first (s + (20 + length has.marks * 2 + length has.bases * 2)) (holds-first has.first has.second rest3) has.first_has.has)
       x
 
   -- without marks, nothing is attached
@@ -209,7 +203,7 @@ module _ (type : ℕ) (gpos : List ℕ) (subtable : Option ℕ) (kept t : List �
   ]
 
   -- bases
-  module _ (bases : HasBaseArray gpos subtable kept has.bases has.second) where
+  module _ (bases : IsArray Bases gpos subtable kept has.bases has.second) where
     bases-are : AreRows (classes_of gpos subtable) (λ y. base_row (g y)) (length kept) has.bases bases.cells
     unfolding g
     bases-are = rows-as (classes_of gpos subtable) (λ y. row_of gpos subtable Bases (get_or kept y 0)) (λ y. base_row (g y)) (length kept) has.bases bases.cells
@@ -237,7 +231,7 @@ module _ (type : ℕ) (gpos : List ℕ) (subtable : Option ℕ) (kept t : List �
         (λ y far. ap (λ (t : Bool). if t then bases_at gpos subtable (get_or kept y 0) else None) (le-ltb y (length kept) far)) g-past
         (λ y. coverage-read t cover has.bases y has.fits.few_bases (λ k less. (let low = bases.are.fit k less in omega (arith, low, small)))
         (holds-first (coverage_text has.bases) _ rest2))
-        (cells-in (length has.bases) bases.cells t has.second array rest4 bases.has)
+        (cells-in 0 (length has.bases) bases.cells t has.second array rest4 bases.has)
         y class
 
   -- ligatures
@@ -311,120 +305,3 @@ module _ (type : ℕ) (gpos : List ℕ) (subtable : Option ℕ) (kept t : List �
       (ligature_at gpos subtable (get_or kept y 0))
       ∙ ap (λ (a : Option ToComponent). if nat_lt x (length kept) && nat_lt y (length kept) then a else None)
       (old-ligature gpos subtable (get_or kept x 0) (get_or kept y 0) component)
-
--- a type that attaches marks is no other one
-pub type-not : (type other : ℕ) → is_marks type ≡ true → is_marks other ≡ false → nat_eq type other ≡ false
-type-not type other is never = by (nat_eq type other) refl
-  where
-    by : (b : Bool) → nat_eq type other ≡ b → b ≡ false
-    by true e = (let same = eqb-true type other e in let wrong : true ≡ false = sym is ∙ ap is_marks same ∙ never in absurd (cc))
-    by false e = refl
-
-same-if : {X : Type 0} (b : Bool) (x : Option X) → x ≡ None → x ≡ (if b then x else None)
-same-if true x none = refl
-same-if false x none = none
-
-first-if : {X : Type 0} (b : Bool) (h : ℕ → Option X) (n : ℕ) → first_some (λ j. if b then h j else None) n ≡ (if b then first_some h n else None)
-first-if true h n = refl
-first-if false h n = first-none (λ j. None) n (λ k less. refl)
-
--- a lookup
-module _ (gpos kept : List ℕ) (lookup flag : ℕ) (t : List ℕ) (l : ℕ) (has : HasMarks gpos kept lookup flag t l) (keeps : is_marks (type_at gpos lookup) ≡ true) where
-  head : IsHead t l (type_at gpos lookup) flag (length has.offsets)
-  unfolding parts_text
-  head = (let few = has.few in head-read t l (type_at gpos lookup) flag (length has.offsets) has.type has.small (omega (arith, few))
-      (holds-first _ _ has.there))
-
-  pub mark-flag : word t (l + 2) ≡ flag
-  mark-flag = head.flag-is
-
-  pub mark-type : type_at t l ≡ type_at gpos lookup
-  mark-type = ap (λ (b : Bool). if b then word t (l + word t (l + 6) + 2) else word t l)
-      (ap (λ k. nat_eq k 9) head.type-is ∙ type-not (type_at gpos lookup) 9 keeps refl) ∙ head.type-is
-
-  pub word-type : word t l ≡ type_at gpos lookup
-  word-type = head.type-is
-
-  tail : Holds (offsets_text (6 + length has.offsets * 2) has.offsets ++ has.subtables) t (l + 6)
-  unfolding parts_text
-  tail = holds-second (rule_head_text (type_at gpos lookup) flag (length has.offsets)) _ 6
-      (length-rule-head (type_at gpos lookup) flag (length has.offsets)) has.there
-
-  behind : Holds has.subtables t (l + 6 + length has.offsets * 2)
-  behind = holds-second (offsets_text (6 + length has.offsets * 2) has.offsets) has.subtables (length has.offsets * 2)
-      (length-offsets (6 + length has.offsets * 2) has.offsets) tail
-
-  pub mark-set : uses_set flag ≡ true → set_of t l ≡ set_of gpos lookup
-  mark-set uses =
-      let text : Holds (uint16 (set_of gpos lookup)) t (l + 6 + length has.offsets * 2 + 0) =
-      subst (λ (b : Bool). Holds (if b then uint16 (set_of gpos lookup) else []) t (l + 6 + length has.offsets * 2 + 0)) uses (holds-in behind has.parts.set) in
-      ap (λ n. word t (l + 6 + n * 2)) head.count-is ∙ ap (word t) (omega arith) ∙ holds-word (set_of gpos lookup) has.parts.set_small text
-
-  part-has : (j : ℕ) → j < word gpos (lookup + 4) →
-      HasAttaching (type_at gpos lookup) gpos (attaching_at gpos lookup (type_at gpos lookup) j) kept t (l + 6 + length has.offsets * 2 + get_or has.offsets j 0)
-  part-has j less = attaching-in (type_at gpos lookup) gpos (attaching_at gpos lookup (type_at gpos lookup) j) kept t has.subtables (l + 6 + length has.offsets * 2) (get_or has.offsets j 0)
-      behind (has.parts.each j less)
-
-  part-read : (j : ℕ) → j < word gpos (lookup + 4) →
-      attaching_at t l (type_at gpos lookup) j ≡ Some (l + 6 + length has.offsets * 2 + get_or has.offsets j 0)
-  part-read j less =
-      let many = has.parts.many in
-      let part = l + word t (l + 6 + j * 2) in
-      let at = offsets-read t (l + 6) (6 + length has.offsets * 2) has.offsets j (omega (arith, many, less)) has.fit
-      (holds-first (offsets_text (6 + length has.offsets * 2) has.offsets) has.subtables tail) in
-      let place : part ≡ l + 6 + length has.offsets * 2 + get_or has.offsets j 0 = omega (arith, at) in
-      ap (λ (b : Bool). if b then of_format1 t part
-      else (if (word t l == 9) && (word t (part + 2) == type_at gpos lookup) then of_format1 t (part + long t (part + 4)) else None))
-      (eq-eqb (word t l) (type_at gpos lookup) head.type-is)
-      ∙ ap (of_format1 t) place
-      ∙ ap (λ (b : Bool). if b then Some (l + 6 + length has.offsets * 2 + get_or has.offsets j 0) else None)
-      (eq-eqb (word t (l + 6 + length has.offsets * 2 + get_or has.offsets j 0)) 1
-      (format-read (type_at gpos lookup) gpos (attaching_at gpos lookup (type_at gpos lookup) j) kept t (l + 6 + length has.offsets * 2 + get_or has.offsets j 0) (part-has j less)))
-
-  subtables-read : (type_at gpos lookup ≡ 5 → ⊥) → (x y : ℕ) → by_subtables t l (type_at gpos lookup) x y
-      ≡ (if nat_lt x (length kept) && nat_lt y (length kept) then by_subtables gpos lookup (type_at gpos lookup) (get_or kept x 0) (get_or kept y 0) else None)
-  subtables-read not x y =
-      let many = has.parts.many in
-      let h : ℕ → Option Attachment = λ j. by_subtable gpos (attaching_at gpos lookup (type_at gpos lookup) j) (get_or kept x 0) (get_or kept y 0) in
-      ap (first_some (λ j. by_subtable t (attaching_at t l (type_at gpos lookup) j) x y)) (head.count-is ∙ many)
-      ∙ first-same (λ j. by_subtable t (attaching_at t l (type_at gpos lookup) j) x y) (λ j. if nat_lt x (length kept) && nat_lt y (length kept) then h j else None)
-      (word gpos (lookup + 4))
-      (λ j less. ap (λ (p : Option ℕ). by_subtable t p x y) (part-read j less)
-      ∙ subtable-attached (type_at gpos lookup) gpos (attaching_at gpos lookup (type_at gpos lookup) j) kept t (l + 6 + length has.offsets * 2 + get_or has.offsets j 0)
-      (part-has j less) not x y)
-      ∙ first-if (nat_lt x (length kept) && nat_lt y (length kept)) h (word gpos (lookup + 4))
-
-  pub marks-attached : (x y : ℕ) → by_lookup t l x y
-      ≡ (if nat_lt x (length kept) && nat_lt y (length kept) then by_lookup gpos lookup (get_or kept x 0) (get_or kept y 0) else None)
-  marks-attached x y = ap (λ k. if attaches k then by_subtables t l k x y else None) mark-type ∙ by (attaches (type_at gpos lookup)) refl
-    where
-      by : (b : Bool) → attaches (type_at gpos lookup) ≡ b → (if b then by_subtables t l (type_at gpos lookup) x y else None)
-          ≡ (if nat_lt x (length kept) && nat_lt y (length kept)
-          then (if b then by_subtables gpos lookup (type_at gpos lookup) (get_or kept x 0) (get_or kept y 0) else None) else None)
-      by true is = subtables-read (λ five. (let wrong : true ≡ false = sym is ∙ ap attaches five in absurd (cc))) x y
-      by false is = (let none : Option Attachment = None in same-if (nat_lt x (length kept) && nat_lt y (length kept)) none refl)
-
-  components-read : type_at gpos lookup ≡ 5 → (x y component : ℕ) → ligatures_by t l x y component
-      ≡ (if nat_lt x (length kept) && nat_lt y (length kept) then ligatures_by gpos lookup (get_or kept x 0) (get_or kept y 0) component else None)
-  components-read five x y component =
-      let many = has.parts.many in
-      let h : ℕ → Option ToComponent = λ j. ligature_by gpos (attaching_at gpos lookup 5 j) (get_or kept x 0) (get_or kept y 0) component in
-      ap (first_some (λ j. ligature_by t (attaching_at t l 5 j) x y component)) (head.count-is ∙ many)
-      ∙ first-same (λ j. ligature_by t (attaching_at t l 5 j) x y component) (λ j. if nat_lt x (length kept) && nat_lt y (length kept) then h j else None)
-      (word gpos (lookup + 4))
-      (λ j less. ap (λ k. ligature_by t (attaching_at t l k j) x y component) (sym five)
-      ∙ ap (λ (p : Option ℕ). ligature_by t p x y component) (part-read j less)
-      ∙ subtable-component (type_at gpos lookup) gpos (attaching_at gpos lookup (type_at gpos lookup) j) kept t (l + 6 + length has.offsets * 2 + get_or has.offsets j 0)
-      (part-has j less) five x y component
-      ∙ ap (λ k. if nat_lt x (length kept) && nat_lt y (length kept) then ligature_by gpos (attaching_at gpos lookup k j) (get_or kept x 0) (get_or kept y 0) component else None) five)
-      ∙ first-if (nat_lt x (length kept) && nat_lt y (length kept)) h (word gpos (lookup + 4))
-
-  pub components-attached : (x y component : ℕ) → ligature_by_lookup t l x y component
-      ≡ (if nat_lt x (length kept) && nat_lt y (length kept) then ligature_by_lookup gpos lookup (get_or kept x 0) (get_or kept y 0) component else None)
-  components-attached x y component = ap (λ k. if k == 5 then ligatures_by t l x y component else None) mark-type ∙ by (nat_eq (type_at gpos lookup) 5) refl
-    where
-      by : (b : Bool) → nat_eq (type_at gpos lookup) 5 ≡ b → (if b then ligatures_by t l x y component else None)
-          ≡ (if nat_lt x (length kept) && nat_lt y (length kept)
-          then (if b then ligatures_by gpos lookup (get_or kept x 0) (get_or kept y 0) component else None) else None)
-      by true is = components-read (eqb-true (type_at gpos lookup) 5 is) x y component
-      by false is = (let none : Option ToComponent = None in same-if (nat_lt x (length kept) && nat_lt y (length kept)) none refl)

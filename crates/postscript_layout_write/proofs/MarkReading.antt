@@ -42,36 +42,41 @@ row-none (Some mark) is = absurd (cc)
 a-mark : (class : ℕ) (anchor : Anchor) → Mark
 a-mark class anchor = record { class = class; anchor = anchor }
 
+-- what a subtable says of a glyph, by the row of the glyph
+pub covered-read : {X : Type 0} (width n : ℕ) (glyphs : List ℕ) (cells : List Cell) (row : Option X → Option (ℕ → Cell)) (f : ℕ → Option X) (said : Option ℕ → Option X) →
+    AreRows width (λ x. row (f x)) n glyphs cells → ((o : Option X) → row o ≡ None → o ≡ None) → ((x : ℕ) → n ≤ x → f x ≡ None) → said None ≡ None →
+    ((k : ℕ) → k < length glyphs → IsRow width (row (f (get_or glyphs k 0))) cells (k * width) → said (Some k) ≡ f (get_or glyphs k 0)) →
+    (x : ℕ) (index : Option ℕ) → Searched glyphs x (λ i. i) index → said index ≡ f x
+covered-read width n glyphs cells row f said are no-row bounded uncovered each x _ (missing none) = elim (nat_cases x n) [
+  | inl less ↦ elim (are.all x less) [
+    | inl is ↦ uncovered ∙ sym (no-row (f x) is)
+    | inr there ↦ absurd (none there.0 there.1 (any-default glyphs there.0 0 x there.1 ∙ there.2))
+  ]
+  | inr far ↦ uncovered ∙ sym (bounded x far)
+]
+covered-read width n glyphs cells row f said are no-row bounded uncovered each x _ (present k less is) = each k less (are.each k less) ∙ ap f is
+
 -- the marks
 module _ (t : List ℕ) (n : ℕ) (glyphs : List ℕ) (cells : List Cell) (c a : ℕ) (f : ℕ → Option Mark) (are : AreRows 2 (λ x. mark_row (f x)) n glyphs cells)
     (bounded : (x : ℕ) → n ≤ x → f x ≡ None) (covered : (x : ℕ) → Searched glyphs x (λ i. i) (coverage_index t c x))
-    (held : HasCells (length glyphs) cells t a) where
+    (held : HasCells 0 (length glyphs) cells t a) where
   mark-there : (k : ℕ) (o : Option Mark) → k < length glyphs → IsRow 2 (mark_row o) cells (k * 2) → mark_in t a k ≡ o
   unfolding a-mark
   mark-there k None less row = absurd row
   mark-there k (Some mark) less row =
       let many = are.many in
       let class : word t (a + 2 + k * 4) ≡ mark.class = ap (word t) (omega arith)
-      ∙ number-read (length glyphs) cells t a held (k * 2 + 0) mark.class (omega (arith, many, less)) (row 0 (omega arith)) in
+      ∙ number-read 0 (length glyphs) cells t a a (omega arith) held (k * 2 + 0) mark.class (omega (arith, many, less)) (row 0 (omega arith)) in
       let anchor : anchor_at t a (word t (a + 4 + k * 4)) ≡ mark.anchor = ap (λ n. anchor_at t a (word t n)) {x = a + 4 + k * 4} {y = a + 2 + (k * 2 + 1) * 2} (omega arith)
-      ∙ anchor-read (length glyphs) cells t a held (k * 2 + 1) mark.anchor (omega (arith, many, less)) (row 1 (omega arith)) in
-      let count = count-read (length glyphs) cells t a held in
+      ∙ anchor-read 0 (length glyphs) cells t a a (omega arith) held (k * 2 + 1) mark.anchor (omega (arith, many, less)) (row 1 (omega arith)) in
+      let count = count-read 0 (length glyphs) cells t a a (omega arith) held in
       ap (λ (b : Bool). if b then Some (a-mark (word t (a + 2 + k * 4)) (anchor_at t a (word t (a + 4 + k * 4)))) else None)
       (lt-ltb k (word t a) (omega (arith, count, less)))
       ∙ ap (λ w. Some (a-mark w (anchor_at t a (word t (a + 4 + k * 4))))) class ∙ ap (λ (p : Anchor). Some (a-mark mark.class p)) anchor
 
   pub marks-read : (x : ℕ) → mark_covered t a (coverage_index t c x) ≡ f x
-  marks-read x = by (coverage_index t c x) (covered x)
-    where
-      by : (index : Option ℕ) → Searched glyphs x (λ i. i) index → mark_covered t a index ≡ f x
-      by _ (missing none) = elim (nat_cases x n) [
-        | inl less ↦ elim (are.all x less) [
-          | inl is ↦ sym (row-none (f x) is)
-          | inr there ↦ absurd (none there.0 there.1 (any-default glyphs there.0 0 x there.1 ∙ there.2))
-        ]
-        | inr far ↦ sym (bounded x far)
-      ]
-      by _ (present k less is) = mark-there k (f (get_or glyphs k 0)) less (are.each k less) ∙ ap f is
+  marks-read x = covered-read 2 n glyphs cells mark_row f (mark_covered t a) are row-none bounded refl
+      (λ k less row. mark-there k (f (get_or glyphs k 0)) less row) x (coverage_index t c x) (covered x)
 
 -- the bases
 bases-none : (o : Option (ℕ → Option Anchor)) → base_row o ≡ None → (class : ℕ) → at_class o class ≡ None
@@ -86,7 +91,7 @@ module _ (t : List ℕ) (n classes : ℕ) (glyphs : List ℕ) (cells : List Cell
     (are : AreRows classes (λ y. base_row (g y)) n glyphs cells)
     (bounded : (y : ℕ) → n ≤ y → g y ≡ None) (past : (y class : ℕ) → classes ≤ class → at_class (g y) class ≡ None)
     (covered : (y : ℕ) → Searched glyphs y (λ i. i) (coverage_index t c y))
-    (held : HasCells (length glyphs) cells t a) where
+    (held : HasCells 0 (length glyphs) cells t a) where
   -- a class of marks that the subtable does not have
   class-past : (index : Option ℕ) (class : ℕ) → classes ≤ class → anchor_covered t a classes index class ≡ None
   class-past None class far = refl
@@ -100,11 +105,11 @@ module _ (t : List ℕ) (n classes : ℕ) (glyphs : List ℕ) (cells : List Cell
   base-there k class (Some anchors) less within row =
       let many = are.many in
       let room : (k + 1) * classes ≤ length glyphs * classes = mul-le (k + 1) classes (length glyphs) classes (omega (arith, less)) (omega arith) in
-      let count = count-read (length glyphs) cells t a held in
+      let count = count-read 0 (length glyphs) cells t a a (omega arith) held in
       let o = word t (a + 2 + (k * classes + class) * 2) in
       ap (λ (b : Bool). if b && nat_lt class classes then (if o == 0 then None else Some (anchor_at t a o)) else None) (lt-ltb k (word t a) (omega (arith, count, less)))
       ∙ ap (λ (b : Bool). if b then (if o == 0 then None else Some (anchor_at t a o)) else None) (lt-ltb class classes within)
-      ∙ option-read (length glyphs) cells t a held (k * classes + class) (anchors class) (omega (arith, many, room, within)) (row class within)
+      ∙ option-read 0 (length glyphs) cells t a a (omega arith) held (k * classes + class) (anchors class) (omega (arith, many, room, within)) (row class within)
 
   pub bases-read : (y class : ℕ) → anchor_covered t a classes (coverage_index t c y) class ≡ at_class (g y) class
   bases-read y class = elim (nat_cases class classes) [
@@ -139,7 +144,7 @@ module _ (gpos : List ℕ) (ligature classes : ℕ) (t : List ℕ) (at : ℕ) (h
       | inl within ↦ inside less within
       | inr far ↦ past-class t at far ∙ sym (past-class gpos ligature far)
     ]
-    | inr far ↦ past-row t at (let same = count-read (word gpos ligature) has.cells t at has.has in omega (arith, same, far)) ∙ sym (past-row gpos ligature far)
+    | inr far ↦ past-row t at (let same = count-read 0 (word gpos ligature) has.cells t at at (omega arith) has.has in omega (arith, same, far)) ∙ sym (past-row gpos ligature far)
   ]
     where
       past-class : (s : List ℕ) (a : ℕ) → classes ≤ class → anchor_in s a classes r class ≡ None
@@ -155,18 +160,18 @@ module _ (gpos : List ℕ) (ligature classes : ℕ) (t : List ℕ) (at : ℕ) (h
       inside less within =
           let many = has.are.many in
           let room : (r + 1) * classes ≤ word gpos ligature * classes = mul-le (r + 1) classes (word gpos ligature) classes (omega (arith, less)) (omega arith) in
-          let count = count-read (word gpos ligature) has.cells t at has.has in
+          let count = count-read 0 (word gpos ligature) has.cells t at at (omega arith) has.has in
           let q = r * classes + class in
           let low : q < length has.cells = omega (arith, many, room, within) in
           let o = word t (at + 2 + q * 2) in
           ap (λ (b : Bool). if b && nat_lt class classes then (if o == 0 then None else Some (anchor_at t at o)) else None) (lt-ltb r (word t at) (omega (arith, count, less)))
           ∙ ap (λ (b : Bool). if b then (if o == 0 then None else Some (anchor_at t at o)) else None) (lt-ltb class classes within)
-          ∙ option-read (word gpos ligature) has.cells t at has.has q (anchor_in gpos ligature classes r class) low
+          ∙ option-read 0 (word gpos ligature) has.cells t at at (omega arith) has.has q (anchor_in gpos ligature classes r class) low
           (has.are.each q low ∙ ap (λ k. cell_of (anchor_in gpos ligature classes k (q % classes))) (div-mul-add r classes class within)
           ∙ ap (λ k. cell_of (anchor_in gpos ligature classes r k)) (mod-mul-add r classes class within))
 
   ligature-read : (mark : Option Mark) (component : ℕ) → to_component t classes mark (Some at) component ≡ to_component gpos classes mark (Some ligature) component
-  ligature-read mark component = to-component-same t gpos classes at ligature component mark (count-read (word gpos ligature) has.cells t at has.has) component-read
+  ligature-read mark component = to-component-same t gpos classes at ligature component mark (count-read 0 (word gpos ligature) has.cells t at at (omega arith) has.has) component-read
 
 module _ (gpos t : List ℕ) (n classes : ℕ) (glyphs offsets bytes : List ℕ) (c a : ℕ) (g : ℕ → Option ℕ)
     (same : length offsets ≡ length glyphs)
@@ -202,7 +207,7 @@ module _ (gpos t : List ℕ) (n classes : ℕ) (glyphs offsets bytes : List ℕ)
       (record {
         cells = h.cells;
         are = h.are;
-        has = cells-within (word gpos ligature) h.cells t bytes (a + 2 + length offsets * 2) (get_or offsets k 0) tables h.has;
+        has = cells-within 0 (word gpos ligature) h.cells t bytes (a + 2 + length offsets * 2) (get_or offsets k 0) tables h.has;
       })
       mark component
 

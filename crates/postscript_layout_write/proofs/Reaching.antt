@@ -1,24 +1,21 @@
 -- Lists of lookups that grow.
-use Rattle.std.proofs.Common.{◌≡◌, refl, sym, ap, subst, ◌∙◌, inl, inr, ℕ, zero, suc, ◌+◌, ◌≤◌, ◌<◌, ◌==◌, ◌||◌, List, [], ◌∷◌, ◌++◌, length, length-append, get_or, take, append-nil, arith, Bool, true, false}
-use Rattle.std.specs.Prelude.{◌⊎◌, nat_eq, slice_index_or, slice_set}
+use Rattle.std.proofs.Common.{◌≡◌, refl, sym, ap, subst, ◌∙◌, inl, inr, ℕ, zero, suc, ◌+◌, ◌≤◌, ◌<◌, ◌==◌, ◌||◌, List, [], ◌∷◌, ◌++◌, length, get_or, take, arith, Bool, true, false}
+use Rattle.std.specs.Prelude.{◌⊎◌, nat_eq, slice_set}
 use Rattle.std.specs.List.{Contains}
 use Rattle.std.proofs.lemmas.Bool.{eqb-true}
-use Rattle.std.proofs.lemmas.List.{append_assoc, get_or_append_left, take_all, take_more}
+use Rattle.std.proofs.lemmas.List.{get_or_append_left, take_more}
 use Rattle.std.proofs.lemmas.List.Elements.{Contains-append_cases, Contains-append_left, Contains-get_or, Contains-push}
-use Rattle.postscript_layout_write.specs.Calls.{AreReached, Calls, IsClosed}
+use Rattle.postscript_layout_write.specs.Calls.{AreReached, Calls}
 use Rattle.postscript_layout_write.specs.Reaching.{AddsOnly, AreNoted, IsFollowed}
 use Rattle.postscript_layout_write.specs.RuleSets.{Begins}
 use Rattle.postscript_layout_write.specs.Substituting.{is_chosen}
-use Rattle.postscript_layout_write.proofs.ContextCollecting.{begins-trans}
+use Rattle.postscript_layout_write.proofs.ContextCollecting.{begins-same, begins-trans}
 use Rattle.postscript_layout_write.proofs.Covering.{set-mark}
 use Rattle.postscript_layout_write.proofs.Firsts.{nat_cases}
 use Rattle.postscript_layout_write.proofs.Reading.{any-default}
 
 pub begins-has : (old new : List ℕ) (m : ℕ) → Begins old new → Contains old m → Contains new m
 begins-has old new m b there = subst (λ (xs : List ℕ). Contains xs m) (sym b.is) (Contains-append_left old b.more m there)
-
-pub begins-same : (old : List ℕ) → Begins old old
-begins-same old = record { more = []; is = sym (append-nil old) }
 
 pub adds-none : (P : ℕ → Type 0) (old : List ℕ) → ((m : ℕ) → P m → Contains old m) → AddsOnly P old old
 adds-none P old there = record { begins = begins-same old; there = there; only = λ m is. inl is }

@@ -134,12 +134,18 @@ one-value : (t : List ℕ) (at : ℕ) → values_at t at 4 ≡ values-of 0 0 (wo
 unfolding values_below values-of
 one-value t at = refl
 
-size-15 : size_of 15 ≡ 8
+pub size-15 : size_of 15 ≡ 8
 unfolding values_below
 size-15 = refl
 
+-- a record with all four values
+pub four-values : (t : List ℕ) (at : ℕ) (v : Values) → word t (at + 0) ≡ v.x_placement → word t (at + 2) ≡ v.y_placement → word t (at + 4) ≡ v.x_advance →
+    word t (at + 6) ≡ v.y_advance → values_at t at 15 ≡ v
+unfolding values-of
+four-values t at v x y w h = all-values t at ∙ same-values _ v x y w h
+
 values-read : (t : List ℕ) (at : ℕ) (v : Values) → ValuesFit v → Holds (values_text v) t at → values_at t at 15 ≡ v
-unfolding values_text values-of
+unfolding values_text
 values-read t at v fit h =
     let x = holds-word v.x_placement fit.x_placement (holds-first (uint16 v.x_placement) _ h) in
     let h2 = holds-second (uint16 v.x_placement) _ 2 (length-uint16 v.x_placement) h in
@@ -148,7 +154,7 @@ values-read t at v fit h =
     let w = holds-word v.x_advance fit.x_advance (holds-first (uint16 v.x_advance) _ h3) in
     let h4 = holds-second (uint16 v.x_advance) _ 2 (length-uint16 v.x_advance) h3 in
     let z = holds-word v.y_advance fit.y_advance h4 in
-    all-values t at ∙ same-values _ v (ap (word t) (omega arith) ∙ x) y (ap (word t) (omega arith) ∙ w) (ap (word t) (omega arith) ∙ z)
+    four-values t at v (ap (word t) (omega arith) ∙ x) y (ap (word t) (omega arith) ∙ w) (ap (word t) (omega arith) ∙ z)
 
 pub adjustment-read : (t : List ℕ) (at : ℕ) (form : Form) (a : Adjustment) → form_of a ≡ Some form → AdjustmentFits form a →
     Holds (adjustment_text form a) t at → adjustment_at t at (format1 form) (format2 form) ≡ a

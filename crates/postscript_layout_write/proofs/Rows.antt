@@ -121,11 +121,11 @@ cells-more base cells i numbers number pool new many each placed = push-each (λ
     (λ k less. subst (λ (xs : List ℕ). IsCell base xs (get_or cells k no_cell) (get_or numbers k 0)) (sym placed.bytes)
     (cell-on base pool placed.more (get_or cells k no_cell) (get_or numbers k 0) (each k less))) placed.is
 
-pub cells-made : (count : ℕ) (cells : List Cell) (numbers pool text : List ℕ) → count < 65536 → length numbers ≡ length cells →
-    ((k : ℕ) → k < length cells → IsCell (2 + length cells * 2) pool (get_or cells k no_cell) (get_or numbers k 0)) →
-    text ≡ uint16 count ++ (array_text numbers ++ pool) → HasCells count cells text 0
+pub cells-made : (lead count : ℕ) (cells : List Cell) (numbers pool text : List ℕ) → count < 65536 → length numbers ≡ length cells →
+    ((k : ℕ) → k < length cells → IsCell (lead + (2 + length cells * 2)) pool (get_or cells k no_cell) (get_or numbers k 0)) →
+    text ≡ uint16 count ++ (array_text numbers ++ pool) → HasCells lead count cells text 0
 unfolding cells_text
-cells-made count cells numbers pool text small same each is = record {
+cells-made lead count cells numbers pool text small same each is = record {
   numbers = numbers;
   pool = pool;
   small = small;
@@ -134,8 +134,8 @@ cells-made count cells numbers pool text small same each is = record {
   there = subst (λ (xs : List ℕ). Holds (cells_text count numbers pool) xs 0) (sym is) (holds-whole (cells_text count numbers pool));
 }
 
--- an array that is read
-module _ (count : ℕ) (cells : List Cell) (t : List ℕ) (at : ℕ) (has : HasCells count cells t at) where
+-- an array that is read, with offsets from the start of a table
+module _ (lead count : ℕ) (cells : List Cell) (t : List ℕ) (start at : ℕ) (after : at ≡ start + lead) (has : HasCells lead count cells t at) where
   behind : Holds (array_text has.numbers ++ has.pool) t (at + 2)
   unfolding cells_text
   behind = holds-second (uint16 count) _ 2 (length-uint16 count) has.there
@@ -144,11 +144,11 @@ module _ (count : ℕ) (cells : List Cell) (t : List ℕ) (at : ℕ) (has : HasC
   unfolding cells_text
   count-read = holds-word count has.small (holds-first (uint16 count) _ has.there)
 
-  pool-held : Holds has.pool t (at + (2 + length cells * 2))
-  pool-held = subst (Holds has.pool t) (let same = has.same in omega (arith, same))
+  pool-held : Holds has.pool t (start + (lead + (2 + length cells * 2)))
+  pool-held = subst (Holds has.pool t) (let same = has.same in omega (arith, same, after))
       (holds-second (array_text has.numbers) has.pool (length has.numbers * 2) (length-array has.numbers) behind)
 
-  number-small : (cell : Cell) (number : ℕ) → IsCell (2 + length cells * 2) has.pool cell number → number < 65536
+  number-small : (cell : Cell) (number : ℕ) → IsCell (lead + (2 + length cells * 2)) has.pool cell number → number < 65536
   number-small (Number n) number is = (let same = is.0 in let small = is.1 in omega (arith, same, small))
   number-small (At anchor) number is = is.small
 
@@ -157,43 +157,43 @@ module _ (count : ℕ) (cells : List Cell) (t : List ℕ) (at : ℕ) (has : HasC
       (number-small (get_or cells k no_cell) (get_or has.numbers k 0) (has.each k less)) (holds-first (array_text has.numbers) has.pool behind)
 
   cell-there : (k : ℕ) (cell : Cell) → k < length cells → get_or cells k no_cell ≡ cell →
-      IsCell (2 + length cells * 2) has.pool cell (word t (at + 2 + k * 2))
-  cell-there k cell less is = subst (λ n. IsCell (2 + length cells * 2) has.pool cell n) (sym (word-read k less))
-      (subst (λ (x : Cell). IsCell (2 + length cells * 2) has.pool x (get_or has.numbers k 0)) is (has.each k less))
+      IsCell (lead + (2 + length cells * 2)) has.pool cell (word t (at + 2 + k * 2))
+  cell-there k cell less is = subst (λ n. IsCell (lead + (2 + length cells * 2)) has.pool cell n) (sym (word-read k less))
+      (subst (λ (x : Cell). IsCell (lead + (2 + length cells * 2)) has.pool x (get_or has.numbers k 0)) is (has.each k less))
 
   pub number-read : (k n : ℕ) → k < length cells → get_or cells k no_cell ≡ Number n → word t (at + 2 + k * 2) ≡ n
   number-read k n less is = (cell-there k (Number n) less is).0
 
-  anchor-held : (anchor : Anchor) (number : ℕ) → IsAnchor (2 + length cells * 2) has.pool anchor number → anchor_at t at number ≡ anchor
+  anchor-held : (anchor : Anchor) (number : ℕ) → IsAnchor (lead + (2 + length cells * 2)) has.pool anchor number → anchor_at t start number ≡ anchor
   unfolding anchor_text
   anchor-held anchor number is =
-      let held : Holds (anchor_text anchor) t (at + number) = subst (Holds (anchor_text anchor) t) (let place = is.is in omega (arith, place)) (holds-in pool-held is.there) in
-      let format : word t (at + number) ≡ 1 = holds-word 1 (omega arith) (holds-first (uint16 1) _ held) in
-      let rest : Holds (uint16 anchor.x ++ uint16 anchor.y) t (at + number + 2) = holds-second (uint16 1) _ 2 (length-uint16 1) held in
-      let x : word t (at + number + 2) ≡ anchor.x = holds-word anchor.x is.x (holds-first (uint16 anchor.x) _ rest) in
-      let y : word t (at + number + 4) ≡ anchor.y = ap (word t) (omega arith) ∙ holds-word anchor.y is.y (holds-second (uint16 anchor.x) _ 2 (length-uint16 anchor.x) rest) in
-      ap (λ (b : Bool). if b && (nat_lt 0 (word t (at + number)) && nat_lt (word t (at + number)) 4)
-      then point (word t (at + number + 2)) (word t (at + number + 4)) else point 0 0) (lt-ltb 0 number (let place = is.is in omega (arith, place)))
-      ∙ ap (λ n. if nat_lt 0 n && nat_lt n 4 then point (word t (at + number + 2)) (word t (at + number + 4)) else point 0 0) format
-      ∙ ap (λ n. point n (word t (at + number + 4))) x ∙ ap (λ n. point anchor.x n) y
+      let held : Holds (anchor_text anchor) t (start + number) = subst (Holds (anchor_text anchor) t) (let place = is.is in omega (arith, place)) (holds-in pool-held is.there) in
+      let format : word t (start + number) ≡ 1 = holds-word 1 (omega arith) (holds-first (uint16 1) _ held) in
+      let rest : Holds (uint16 anchor.x ++ uint16 anchor.y) t (start + number + 2) = holds-second (uint16 1) _ 2 (length-uint16 1) held in
+      let x : word t (start + number + 2) ≡ anchor.x = holds-word anchor.x is.x (holds-first (uint16 anchor.x) _ rest) in
+      let y : word t (start + number + 4) ≡ anchor.y = ap (word t) (omega arith) ∙ holds-word anchor.y is.y (holds-second (uint16 anchor.x) _ 2 (length-uint16 anchor.x) rest) in
+      ap (λ (b : Bool). if b && (nat_lt 0 (word t (start + number)) && nat_lt (word t (start + number)) 4)
+      then point (word t (start + number + 2)) (word t (start + number + 4)) else point 0 0) (lt-ltb 0 number (let place = is.is in omega (arith, place)))
+      ∙ ap (λ n. if nat_lt 0 n && nat_lt n 4 then point (word t (start + number + 2)) (word t (start + number + 4)) else point 0 0) format
+      ∙ ap (λ n. point n (word t (start + number + 4))) x ∙ ap (λ n. point anchor.x n) y
 
-  pub anchor-read : (k : ℕ) (anchor : Anchor) → k < length cells → get_or cells k no_cell ≡ At anchor → anchor_at t at (word t (at + 2 + k * 2)) ≡ anchor
+  pub anchor-read : (k : ℕ) (anchor : Anchor) → k < length cells → get_or cells k no_cell ≡ At anchor → anchor_at t start (word t (at + 2 + k * 2)) ≡ anchor
   anchor-read k anchor less is = anchor-held anchor (word t (at + 2 + k * 2)) (cell-there k (At anchor) less is)
 
   -- a cell of an anchor that may be missing
   pub option-read : (k : ℕ) (o : Option Anchor) → k < length cells → get_or cells k no_cell ≡ cell_of o →
-      (if word t (at + 2 + k * 2) == 0 then None else Some (anchor_at t at (word t (at + 2 + k * 2)))) ≡ o
-  option-read k None less is = ap (λ (b : Bool). if b then None else Some (anchor_at t at (word t (at + 2 + k * 2))))
+      (if word t (at + 2 + k * 2) == 0 then None else Some (anchor_at t start (word t (at + 2 + k * 2)))) ≡ o
+  option-read k None less is = ap (λ (b : Bool). if b then None else Some (anchor_at t start (word t (at + 2 + k * 2))))
       (eq-eqb (word t (at + 2 + k * 2)) 0 (number-read k 0 less is))
   option-read k (Some anchor) less is = (let w = word t (at + 2 + k * 2) in let placed = cell-there k (At anchor) less is in
       let far = placed.is in
-      ap (λ (b : Bool). if b then None else Some (anchor_at t at w)) (ne_eqb w 0 (omega (arith, far)))
+      ap (λ (b : Bool). if b then None else Some (anchor_at t start w)) (ne_eqb w 0 (omega (arith, far)))
       ∙ ap (λ (a : Anchor). Some a) (anchor-held anchor w placed))
 
 -- an array in other bytes
-pub cells-within : (count : ℕ) (cells : List Cell) (t bytes : List ℕ) (at offset : ℕ) → Holds bytes t at → HasCells count cells bytes offset →
-    HasCells count cells t (at + offset)
-cells-within count cells t bytes at offset h has = record {
+pub cells-within : (lead count : ℕ) (cells : List Cell) (t bytes : List ℕ) (at offset : ℕ) → Holds bytes t at → HasCells lead count cells bytes offset →
+    HasCells lead count cells t (at + offset)
+cells-within lead count cells t bytes at offset h has = record {
   numbers = has.numbers;
   pool = has.pool;
   small = has.small;
@@ -202,11 +202,11 @@ cells-within count cells t bytes at offset h has = record {
   there = holds-in h has.there;
 }
 
-pub cells-in : (count : ℕ) (cells : List Cell) (t bytes : List ℕ) (at : ℕ) → Holds bytes t at → HasCells count cells bytes 0 → HasCells count cells t at
-cells-in count cells t bytes at h has = subst (HasCells count cells t) (omega arith) (cells-within count cells t bytes at 0 h has)
+pub cells-in : (lead count : ℕ) (cells : List Cell) (t bytes : List ℕ) (at : ℕ) → Holds bytes t at → HasCells lead count cells bytes 0 → HasCells lead count cells t at
+cells-in lead count cells t bytes at h has = subst (HasCells lead count cells t) (omega arith) (cells-within lead count cells t bytes at 0 h has)
 
-pub cells-on : (count : ℕ) (cells : List Cell) (bytes more : List ℕ) (at : ℕ) → HasCells count cells bytes at → HasCells count cells (bytes ++ more) at
-cells-on count cells bytes more at has = record {
+pub cells-on : (lead count : ℕ) (cells : List Cell) (bytes more : List ℕ) (at : ℕ) → HasCells lead count cells bytes at → HasCells lead count cells (bytes ++ more) at
+cells-on lead count cells bytes more at has = record {
   numbers = has.numbers;
   pool = has.pool;
   small = has.small;

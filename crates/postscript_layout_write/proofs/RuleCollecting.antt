@@ -1,19 +1,21 @@
 -- Rules that are collected: sets, subtables and lookups.
-use Rattle.std.proofs.Common.{◌≡◌, refl, sym, ap, subst, ◌∙◌, inl, inr, ℕ, ◌+◌, ◌%◌, ◌≤◌, ◌<◌, ◌&&◌, List, [], ◌∷◌, ◌++◌, length, length-append, get_or, arith, Bool, true, false}
+use Rattle.std.proofs.Common.{◌≡◌, refl, sym, ap, subst, ◌∙◌, inl, inr, ℕ, ◌+◌, ◌≤◌, ◌<◌, ◌&&◌, List, [], ◌∷◌, ◌++◌, length, length-append, get_or, arith, Bool, true, false}
 use Rattle.std.specs.Prelude.{◌⊎◌, if◌then◌else◌}
 use Rattle.std.specs.List.{Contains}
 use Rattle.std.proofs.lemmas.Bool.{le-ltb, lt-ltb}
 use Rattle.std.proofs.lemmas.List.{get_or_append_left, get_or_push}
 use Rattle.std.proofs.lemmas.List.Elements.{Contains-append_left, Contains-push}
-use Rattle.postscript_layout_write.specs.Contexts.{Context, contexts_at}
+use Rattle.postscript_layout_write.specs.Contexts.{contexts_at}
+use Rattle.postscript_layout_write.specs.Sequences.{Context}
 use Rattle.postscript_layout_write.specs.Coverages.{HasChained, chained_text}
+use Rattle.postscript_layout_write.specs.Flags.{set_of, uses_set}
 use Rattle.postscript_layout_write.specs.Holds.{Holds}
 use Rattle.postscript_layout_write.specs.Pairs.{flag_of, lookup_at}
 use Rattle.postscript_layout_write.specs.Renumbering.{kept_rules}
 use Rattle.postscript_layout_write.specs.RuleLookups.{HasNewLookup, HasRuleLookups, PutsNext, has_contexts, has_rules, new_type, puts_contexts, puts_rules}
-use Rattle.postscript_layout_write.specs.RuleSets.{AddsRules, AreRuleSets, HasRuleLookup, HasRules, HasRuleSubtable, PutsRules, has_ligatures, has_none, has_one, has_several, has_single, no_rules, puts_none, puts_one, rule_head_text, rules_text, some_rules}
+use Rattle.postscript_layout_write.specs.RuleSets.{AddsRules, AreRuleSets, HasRuleLookup, HasRules, HasRuleSubtable, PutsRules, has_ligatures, has_none, has_one, has_several, has_single, bare_text, no_rules, puts_none, puts_one, rule_front_text, rule_head_text, rules_text, some_rules, subtable_offset}
 use Rattle.postscript_layout_write.specs.Rules.{rules_of_type, type_at}
-use Rattle.postscript_layout_write.specs.Substituting.{is_chosen, is_kept, keeps, new_rules, rules_at}
+use Rattle.postscript_layout_write.specs.Substituting.{is_kept, is_taken, keeps, new_flag, new_rules, rules_at}
 use Rattle.postscript_layout_write.specs.Text.{uint16}
 use Rattle.postscript_layout_write.proofs.Firsts.{nat_cases}
 use Rattle.postscript_layout_write.proofs.Holding.{holds-first, holds-in, holds-last, holds-on, holds-second}
@@ -98,8 +100,8 @@ rules-far : (gsub kept : List ℕ) (lookup x : ℕ) → length kept ≤ x → ru
 rules-far gsub kept lookup x far =
     ap (λ (t : Bool). if t then kept_rules kept (rules_of_type gsub lookup (type_at gsub lookup) (get_or kept x 0)) else []) (le-ltb x (length kept) far)
 
-new-far : (gsub chosen kept : List ℕ) (i x : ℕ) → length kept ≤ x → new_rules gsub chosen kept i x ≡ []
-new-far gsub chosen kept i x far = by (keeps gsub chosen i (lookup_at gsub i))
+new-far : (whole : Bool) (gsub chosen kept : List ℕ) (i x : ℕ) → length kept ≤ x → new_rules whole gsub chosen kept i x ≡ []
+new-far whole gsub chosen kept i x far = by (keeps whole gsub chosen i (lookup_at gsub i))
   where
     by : (t : Bool) → (if t then rules_at gsub kept (lookup_at gsub i) x else []) ≡ []
     by true = rules-far gsub kept (lookup_at gsub i) x far
@@ -119,22 +121,27 @@ subtable-on type f bytes more at s = record {
   there = holds-on more s.there;
 }
 
-lookup-on : (type flag : ℕ) (f : ℕ → List (List ℕ)) (bytes more : List ℕ) (at : ℕ) → HasRuleLookup type flag f bytes at → HasRuleLookup type flag f (bytes ++ more) at
-lookup-on type flag f bytes more at (has_none none t fl h) = has_none none t fl (holds-on more h)
-lookup-on type flag f bytes more at (has_one t fl h s) = has_one t fl (holds-on more h) (subtable-on type f bytes more (at + 8) s)
+lookup-on : (type flag set : ℕ) (f : ℕ → List (List ℕ)) (bytes more : List ℕ) (at : ℕ) → HasRuleLookup type flag set f bytes at →
+    HasRuleLookup type flag set f (bytes ++ more) at
+lookup-on type flag set f bytes more at (has_none none small h) = has_none none small (holds-on more h)
+lookup-on type flag set f bytes more at (has_one small h s) = has_one small (holds-on more h) (subtable-on type f bytes more (at + subtable_offset flag) s)
 
-length-eight : (type flag count n : ℕ) → length (rule_head_text type flag count ++ uint16 n) ≡ 8
-unfolding rule_head_text uint16
-length-eight type flag count n = refl
+length-rule-front : (type flag set : ℕ) → length (rule_front_text type flag set) ≡ subtable_offset flag
+unfolding rule_front_text rule_head_text uint16
+length-rule-front type flag set = by (uses_set flag)
+  where
+    by : (b : Bool) → length (rule_head_text type flag 1 ++ (uint16 (if b then 10 else 8) ++ (if b then uint16 set else []))) ≡ (if b then 10 else 8)
+    by true = refl
+    by false = refl
 
-more-of : (type flag : ℕ) (firsts numbers sets old new : List ℕ) → PutsRules type flag firsts numbers sets old new → (more : List ℕ) × (new ≡ old ++ more)
-more-of type flag firsts numbers sets old new (puts_none none t fl is) = (rule_head_text type flag 0, is)
-more-of type flag firsts numbers sets old new (puts_one t fl fit few is) = ((rule_head_text type flag 1 ++ uint16 8) ++ rules_text type firsts numbers sets, is)
+more-of : (type flag set : ℕ) (firsts numbers sets old new : List ℕ) → PutsRules type flag set firsts numbers sets old new → (more : List ℕ) × (new ≡ old ++ more)
+more-of type flag set firsts numbers sets old new (puts_none none small is) = (bare_text type flag set, is)
+more-of type flag set firsts numbers sets old new (puts_one small fit few is) = (rule_front_text type flag set ++ rules_text type firsts numbers sets, is)
 
-lookup-made : (type flag : ℕ) (f : ℕ → List (List ℕ)) (n : ℕ) (firsts numbers sets old new : List ℕ) → ((x : ℕ) → n ≤ x → f x ≡ []) →
-    PutsRules type flag firsts numbers sets old new → AreRuleSets type f n firsts numbers sets → HasRuleLookup type flag f new (length old)
-lookup-made type flag f n firsts numbers sets old new far (puts_none none t fl is) are =
-    has_none nothing t fl (subst (λ (xs : List ℕ). Holds (rule_head_text type flag 0) xs (length old)) (sym is) (holds-last old (rule_head_text type flag 0)))
+lookup-made : (type flag set : ℕ) (f : ℕ → List (List ℕ)) (n : ℕ) (firsts numbers sets old new : List ℕ) → ((x : ℕ) → n ≤ x → f x ≡ []) →
+    PutsRules type flag set firsts numbers sets old new → AreRuleSets type f n firsts numbers sets → HasRuleLookup type flag set f new (length old)
+lookup-made type flag set f n firsts numbers sets old new far (puts_none none small is) are =
+    has_none nothing small (subst (λ (xs : List ℕ). Holds (bare_text type flag set) xs (length old)) (sym is) (holds-last old (bare_text type flag set)))
   where
     nothing : (x : ℕ) → f x ≡ []
     nothing x = elim (nat_cases x n) [
@@ -144,8 +151,8 @@ lookup-made type flag f n firsts numbers sets old new far (puts_none none t fl i
       ]
       | inr past ↦ far x past
     ]
-lookup-made type flag f n firsts numbers sets old new far (puts_one t fl fit few is) are =
-    has_one t fl (holds-first (rule_head_text type flag 1 ++ uint16 8) (rules_text type firsts numbers sets) whole) (record {
+lookup-made type flag set f n firsts numbers sets old new far (puts_one small fit few is) are =
+    has_one small (holds-first (rule_front_text type flag set) (rules_text type firsts numbers sets) whole) (record {
       firsts = firsts;
       numbers = numbers;
       sets = sets;
@@ -154,67 +161,75 @@ lookup-made type flag f n firsts numbers sets old new far (puts_one t fl fit few
       bounded = far;
       fit = fit;
       few = few;
-      there = holds-second (rule_head_text type flag 1 ++ uint16 8) (rules_text type firsts numbers sets) 8 (length-eight type flag 1 8) whole;
+      there = holds-second (rule_front_text type flag set) (rules_text type firsts numbers sets) (subtable_offset flag) (length-rule-front type flag set) whole;
     })
   where
-    whole : Holds ((rule_head_text type flag 1 ++ uint16 8) ++ rules_text type firsts numbers sets) new (length old)
-    whole = subst (λ (xs : List ℕ). Holds ((rule_head_text type flag 1 ++ uint16 8) ++ rules_text type firsts numbers sets) xs (length old)) (sym is)
-        (holds-last old ((rule_head_text type flag 1 ++ uint16 8) ++ rules_text type firsts numbers sets))
+    whole : Holds (rule_front_text type flag set ++ rules_text type firsts numbers sets) new (length old)
+    whole = subst (λ (xs : List ℕ). Holds (rule_front_text type flag set ++ rules_text type firsts numbers sets) xs (length old)) (sym is)
+        (holds-last old (rule_front_text type flag set ++ rules_text type firsts numbers sets))
 
-chained-on : (flag : ℕ) (contexts : List Context) (bytes more : List ℕ) (at : ℕ) → HasChained flag contexts bytes at → HasChained flag contexts (bytes ++ more) at
-chained-on flag contexts bytes more at h = record {
+chained-on : (flag set : ℕ) (contexts : List Context) (bytes more : List ℕ) (at : ℕ) → HasChained flag set contexts bytes at →
+    HasChained flag set contexts (bytes ++ more) at
+chained-on flag set contexts bytes more at h = record {
   offsets = h.offsets;
   subtables = h.subtables;
   have = h.have;
   few = h.few;
   fit = h.fit;
   small = h.small;
+  set_small = h.set_small;
+  begins = h.begins;
   there = holds-on more h.there;
 }
 
-new-on : (gsub chosen kept : List ℕ) (i : ℕ) (bytes more : List ℕ) (at : ℕ) → HasNewLookup gsub chosen kept i bytes at → HasNewLookup gsub chosen kept i (bytes ++ more) at
-new-on gsub chosen kept i bytes more at (has_rules is h) =
-    has_rules is (lookup-on (new_type gsub (lookup_at gsub i)) (flag_of gsub i % 16) (new_rules gsub chosen kept i) bytes more at h)
-new-on gsub chosen kept i bytes more at (has_contexts is h) =
-    has_contexts is (chained-on (flag_of gsub i % 16) (contexts_at gsub kept (lookup_at gsub i) (type_at gsub (lookup_at gsub i))) bytes more at h)
+new-on : (whole : Bool) (gsub chosen kept : List ℕ) (i : ℕ) (bytes more : List ℕ) (at : ℕ) → HasNewLookup whole gsub chosen kept i bytes at →
+    HasNewLookup whole gsub chosen kept i (bytes ++ more) at
+new-on whole gsub chosen kept i bytes more at (has_rules is h) =
+    has_rules is (lookup-on (new_type gsub (lookup_at gsub i)) (new_flag whole (flag_of gsub i)) (set_of gsub (lookup_at gsub i)) (new_rules whole gsub chosen kept i) bytes more at h)
+new-on whole gsub chosen kept i bytes more at (has_contexts is h) = has_contexts is
+    (chained-on (new_flag whole (flag_of gsub i)) (set_of gsub (lookup_at gsub i)) (contexts_at gsub kept (lookup_at gsub i) (type_at gsub (lookup_at gsub i))) bytes more at h)
 
 -- lookup i is appended
-next-more : (gsub chosen kept : List ℕ) (i : ℕ) (old new : List ℕ) → PutsNext gsub chosen kept (lookup_at gsub i) i old new → (more : List ℕ) × (new ≡ old ++ more)
-next-more gsub chosen kept i old new (puts_rules is p) =
-    more-of (new_type gsub (lookup_at gsub i)) (flag_of gsub i % 16) p.firsts p.numbers p.sets old new p.puts
-next-more gsub chosen kept i old new (puts_contexts is p) = (chained_text (flag_of gsub i % 16) p.offsets p.subtables, p.puts.text)
+next-more : (whole : Bool) (gsub chosen kept : List ℕ) (i : ℕ) (old new : List ℕ) → PutsNext whole gsub chosen kept (lookup_at gsub i) i old new →
+    (more : List ℕ) × (new ≡ old ++ more)
+next-more whole gsub chosen kept i old new (puts_rules is p) =
+    more-of (new_type gsub (lookup_at gsub i)) (new_flag whole (flag_of gsub i)) (set_of gsub (lookup_at gsub i)) p.firsts p.numbers p.sets old new p.puts
+next-more whole gsub chosen kept i old new (puts_contexts is p) = (chained_text (new_flag whole (flag_of gsub i)) p.offsets p.subtables, p.puts.text)
 
-next-made : (gsub chosen kept : List ℕ) (i : ℕ) (old new : List ℕ) → PutsNext gsub chosen kept (lookup_at gsub i) i old new → HasNewLookup gsub chosen kept i new (length old)
-next-made gsub chosen kept i old new (puts_rules is p) = has_rules is
-    (lookup-made (new_type gsub (lookup_at gsub i)) (flag_of gsub i % 16) (new_rules gsub chosen kept i) (length kept) p.firsts p.numbers p.sets old new
-    (λ x far. new-far gsub chosen kept i x far) p.puts p.are)
-next-made gsub chosen kept i old new (puts_contexts is p) = has_contexts is (record {
+next-made : (whole : Bool) (gsub chosen kept : List ℕ) (i : ℕ) (old new : List ℕ) → PutsNext whole gsub chosen kept (lookup_at gsub i) i old new →
+    HasNewLookup whole gsub chosen kept i new (length old)
+next-made whole gsub chosen kept i old new (puts_rules is p) = has_rules is
+    (lookup-made (new_type gsub (lookup_at gsub i)) (new_flag whole (flag_of gsub i)) (set_of gsub (lookup_at gsub i)) (new_rules whole gsub chosen kept i) (length kept)
+    p.firsts p.numbers p.sets old new (λ x far. new-far whole gsub chosen kept i x far) p.puts p.are)
+next-made whole gsub chosen kept i old new (puts_contexts is p) = has_contexts is (record {
   offsets = p.offsets;
   subtables = p.subtables;
   have = p.have;
   few = p.puts.few;
   fit = p.puts.fit;
   small = p.puts.small;
-  there = subst (λ (xs : List ℕ). Holds (chained_text (flag_of gsub i % 16) p.offsets p.subtables) xs (length old)) (sym p.puts.text)
-      (holds-last old (chained_text (flag_of gsub i % 16) p.offsets p.subtables));
+  set_small = p.set_small;
+  begins = p.begins;
+  there = subst (λ (xs : List ℕ). Holds (chained_text (new_flag whole (flag_of gsub i)) p.offsets p.subtables) xs (length old)) (sym p.puts.text)
+      (holds-last old (chained_text (new_flag whole (flag_of gsub i)) p.offsets p.subtables));
 })
 
-pub rule-lookups-more : (gsub chosen kept : List ℕ) (i : ℕ) (offsets bytes newoffsets newbytes : List ℕ) →
-    HasRuleLookups gsub chosen kept i offsets bytes → PutsNext gsub chosen kept (lookup_at gsub i) i bytes newbytes → newoffsets ≡ offsets ++ length bytes ∷ [] →
-    HasRuleLookups gsub chosen kept (i + 1) newoffsets newbytes
-rule-lookups-more gsub chosen kept i offsets bytes newoffsets newbytes has puts is =
-    let more = next-more gsub chosen kept i bytes newbytes puts in
-    subst (λ (xs : List ℕ). HasRuleLookups gsub chosen kept (i + 1) xs newbytes) (sym is) (record {
+pub rule-lookups-more : (whole : Bool) (gsub chosen kept : List ℕ) (i : ℕ) (offsets bytes newoffsets newbytes : List ℕ) →
+    HasRuleLookups whole gsub chosen kept i offsets bytes → PutsNext whole gsub chosen kept (lookup_at gsub i) i bytes newbytes → newoffsets ≡ offsets ++ length bytes ∷ [] →
+    HasRuleLookups whole gsub chosen kept (i + 1) newoffsets newbytes
+rule-lookups-more whole gsub chosen kept i offsets bytes newoffsets newbytes has puts is =
+    let more = next-more whole gsub chosen kept i bytes newbytes puts in
+    subst (λ (xs : List ℕ). HasRuleLookups whole gsub chosen kept (i + 1) xs newbytes) (sym is) (record {
       many = (let many = has.many in omega (arith, many, length-append offsets (length bytes ∷ [])));
       each = λ k less. elim (nat_cases k i) [
-        | inl early ↦ subst (λ w. HasNewLookup gsub chosen kept k newbytes w)
+        | inl early ↦ subst (λ w. HasNewLookup whole gsub chosen kept k newbytes w)
             (sym (get_or_append_left offsets (length bytes ∷ []) 0 k (let many = has.many in omega (arith, many, early))))
-            (subst (λ (xs : List ℕ). HasNewLookup gsub chosen kept k xs (get_or offsets k 0)) (sym more.1)
-            (new-on gsub chosen kept k bytes more.0 (get_or offsets k 0) (has.each k early)))
+            (subst (λ (xs : List ℕ). HasNewLookup whole gsub chosen kept k xs (get_or offsets k 0)) (sym more.1)
+            (new-on whole gsub chosen kept k bytes more.0 (get_or offsets k 0) (has.each k early)))
         | inr late ↦ (let same : i ≡ k = omega (arith, less, late) in
-            subst (λ j. HasNewLookup gsub chosen kept j newbytes (get_or (offsets ++ length bytes ∷ []) j 0)) same
-            (subst (λ w. HasNewLookup gsub chosen kept i newbytes w) (sym (get_or_push offsets (length bytes) 0 i has.many))
-            (next-made gsub chosen kept i bytes newbytes puts)))
+            subst (λ j. HasNewLookup whole gsub chosen kept j newbytes (get_or (offsets ++ length bytes ∷ []) j 0)) same
+            (subst (λ w. HasNewLookup whole gsub chosen kept i newbytes w) (sym (get_or_push offsets (length bytes) 0 i has.many))
+            (next-made whole gsub chosen kept i bytes newbytes puts)))
       ];
     })
 
@@ -232,23 +247,25 @@ subtable-in type f t bytes at offset h s = record {
   there = holds-in h s.there;
 }
 
-pub lookup-in : (type flag : ℕ) (f : ℕ → List (List ℕ)) (t bytes : List ℕ) (at offset : ℕ) → Holds bytes t at → HasRuleLookup type flag f bytes offset →
-    HasRuleLookup type flag f t (at + offset)
-lookup-in type flag f t bytes at offset h (has_none none a b k) = has_none none a b (holds-in h k)
-lookup-in type flag f t bytes at offset h (has_one a b k s) =
-    has_one a b (holds-in h k) (subst (λ n. HasRuleSubtable type f t n) (omega arith) (subtable-in type f t bytes at (offset + 8) h s))
+pub lookup-in : (type flag set : ℕ) (f : ℕ → List (List ℕ)) (t bytes : List ℕ) (at offset : ℕ) → Holds bytes t at → HasRuleLookup type flag set f bytes offset →
+    HasRuleLookup type flag set f t (at + offset)
+lookup-in type flag set f t bytes at offset h (has_none none small k) = has_none none small (holds-in h k)
+lookup-in type flag set f t bytes at offset h (has_one small k s) =
+    has_one small (holds-in h k) (subst (λ n. HasRuleSubtable type f t n) (omega arith) (subtable-in type f t bytes at (offset + subtable_offset flag) h s))
 
-pub new-in : (gsub chosen kept : List ℕ) (i : ℕ) (t bytes : List ℕ) (at offset : ℕ) → Holds bytes t at → HasNewLookup gsub chosen kept i bytes offset →
-    HasNewLookup gsub chosen kept i t (at + offset)
-new-in gsub chosen kept i t bytes at offset h (has_rules is k) =
-    has_rules is (lookup-in (new_type gsub (lookup_at gsub i)) (flag_of gsub i % 16) (new_rules gsub chosen kept i) t bytes at offset h k)
-new-in gsub chosen kept i t bytes at offset h (has_contexts is k) = has_contexts is (record {
+pub new-in : (whole : Bool) (gsub chosen kept : List ℕ) (i : ℕ) (t bytes : List ℕ) (at offset : ℕ) → Holds bytes t at →
+    HasNewLookup whole gsub chosen kept i bytes offset → HasNewLookup whole gsub chosen kept i t (at + offset)
+new-in whole gsub chosen kept i t bytes at offset h (has_rules is k) = has_rules is
+    (lookup-in (new_type gsub (lookup_at gsub i)) (new_flag whole (flag_of gsub i)) (set_of gsub (lookup_at gsub i)) (new_rules whole gsub chosen kept i) t bytes at offset h k)
+new-in whole gsub chosen kept i t bytes at offset h (has_contexts is k) = has_contexts is (record {
   offsets = k.offsets;
   subtables = k.subtables;
   have = k.have;
   few = k.few;
   fit = k.fit;
   small = k.small;
+  set_small = k.set_small;
+  begins = k.begins;
   there = holds-in h k.there;
 })
 
@@ -257,17 +274,17 @@ and-first : (a b : Bool) → (a && b) ≡ true → a ≡ true
 and-first true b is = refl
 and-first false b is = absurd (cc)
 
-pub then-sets : (gsub chosen kept : List ℕ) (i lookup type n : ℕ) (firsts numbers bytes : List ℕ) → keeps gsub chosen i lookup ≡ true → type ≡ type_at gsub lookup →
+pub then-sets : (whole : Bool) (gsub chosen kept : List ℕ) (i lookup type n : ℕ) (firsts numbers bytes : List ℕ) → keeps whole gsub chosen i lookup ≡ true → type ≡ type_at gsub lookup →
     AreRuleSets type (rules_at gsub kept lookup) n firsts numbers bytes →
-    AreRuleSets (new_type gsub lookup) (λ x. if keeps gsub chosen i lookup then rules_at gsub kept lookup x else []) n firsts numbers bytes
-then-sets gsub chosen kept i lookup type n firsts numbers bytes there is are =
-    let kind : is_kept (type_at gsub lookup) ≡ true = and-first _ _ (and-first _ (is_chosen chosen i) there) in
+    AreRuleSets (new_type gsub lookup) (λ x. if keeps whole gsub chosen i lookup then rules_at gsub kept lookup x else []) n firsts numbers bytes
+then-sets whole gsub chosen kept i lookup type n firsts numbers bytes there is are =
+    let kind : is_kept (type_at gsub lookup) ≡ true = and-first _ (is_taken whole gsub chosen i lookup) there in
     let same : type ≡ new_type gsub lookup = is ∙ sym (ap (λ (b : Bool). if b then type_at gsub lookup else 1) kind) in
     subst (λ (b : Bool). AreRuleSets (new_type gsub lookup) (λ x. if b then rules_at gsub kept lookup x else []) n firsts numbers bytes) (sym there)
     (subst (λ t. AreRuleSets t (rules_at gsub kept lookup) n firsts numbers bytes) same are)
 
-pub else-sets : (gsub chosen kept : List ℕ) (i lookup n : ℕ) (firsts numbers bytes : List ℕ) → keeps gsub chosen i lookup ≡ false → firsts ≡ [] → numbers ≡ [] →
-    AreRuleSets (new_type gsub lookup) (λ x. if keeps gsub chosen i lookup then rules_at gsub kept lookup x else []) n firsts numbers bytes
-else-sets gsub chosen kept i lookup n firsts numbers bytes never a b =
-    sets-none (new_type gsub lookup) (λ x. if keeps gsub chosen i lookup then rules_at gsub kept lookup x else []) n firsts numbers bytes a b
+pub else-sets : (whole : Bool) (gsub chosen kept : List ℕ) (i lookup n : ℕ) (firsts numbers bytes : List ℕ) → keeps whole gsub chosen i lookup ≡ false → firsts ≡ [] → numbers ≡ [] →
+    AreRuleSets (new_type gsub lookup) (λ x. if keeps whole gsub chosen i lookup then rules_at gsub kept lookup x else []) n firsts numbers bytes
+else-sets whole gsub chosen kept i lookup n firsts numbers bytes never a b =
+    sets-none (new_type gsub lookup) (λ x. if keeps whole gsub chosen i lookup then rules_at gsub kept lookup x else []) n firsts numbers bytes a b
     (λ x less. ap (λ (t : Bool). if t then rules_at gsub kept lookup x else []) never)

@@ -1,24 +1,26 @@
 -- Lookups of rules that were written are read as they were, and the whole table.
-use Rattle.std.proofs.Common.{◌≡◌, refl, sym, ap, subst, ◌∙◌, inl, inr, ℕ, ◌+◌, ◌*◌, ◌%◌, ◌≤◌, ◌<◌, ◌==◌, ◌&&◌, ◌||◌, List, [], ◌++◌, length, get_or, arith, Bool, true, false}
-use Rattle.std.specs.Prelude.{Option, None, Some, ◌⊎◌, nat_eq, nat_lt, if◌then◌else◌}
+use Rattle.std.proofs.Common.{◌≡◌, refl, sym, ap, subst, ◌∙◌, inl, inr, ℕ, ◌+◌, ◌*◌, ◌≤◌, ◌<◌, ◌==◌, ◌&&◌, ◌||◌, List, [], ◌++◌, length, get_or, arith, Bool, true, false}
+use Rattle.std.specs.Prelude.{Option, None, Some, ◌⊎◌, nat_eq, if◌then◌else◌}
 use Rattle.std.specs.List.{range_with_len}
 use Rattle.std.proofs.lemmas.Bool.{eq-eqb, eqb-true}
 use Rattle.postscript_layout.specs.Numbers.{word, long}
-use Rattle.postscript_layout_write.specs.Contexts.{all_have_sets, contexts_at, contexts_of, is_contextual}
+use Rattle.postscript_layout_write.specs.Contexts.{all_have_formats, contexts_at, contexts_of, is_contextual}
 use Rattle.postscript_layout_write.specs.Coverages.{HasChained}
 use Rattle.postscript_layout_write.specs.First.{first_some}
+use Rattle.postscript_layout_write.specs.Flags.{set_of, uses_set}
 use Rattle.postscript_layout_write.specs.Holds.{Holds}
 use Rattle.postscript_layout_write.specs.Pairs.{flag_of, lookup_at, lookups_of}
 use Rattle.postscript_layout_write.specs.RuleLookups.{HasNewLookup, HasRuleLookups, has_contexts, has_rules, new_type}
 use Rattle.postscript_layout_write.specs.Rules.{all_rules, first_rules, or_none, part_at, rules_in, rules_of, rules_of_type, type_at, type_of}
-use Rattle.postscript_layout_write.specs.RuleSets.{HasRuleLookup, has_none, has_one, rule_head_text}
+use Rattle.postscript_layout_write.specs.RuleSets.{HasRuleLookup, bare_text, has_none, has_one, rule_front_text, rule_head_text, subtable_offset}
+use Rattle.postscript_layout_write.specs.Scopes.{mark_set_text}
 use Rattle.postscript_layout_write.specs.ScriptLists.{ListsEnd}
 use Rattle.postscript_layout_write.specs.Sets.{AreOffsets}
-use Rattle.postscript_layout_write.specs.Substituting.{KeepsSubstitutions, is_chosen, is_kept, keeps, keeps_contexts, new_contexts, new_rules, rules_at}
+use Rattle.postscript_layout_write.specs.Substituting.{KeepsRules, is_kept, is_taken, keeps, keeps_contexts, new_contexts, new_flag, new_rules, rules_at}
 use Rattle.postscript_layout_write.specs.Text.{front_text, list_text, uint16}
 use Rattle.postscript_layout_write.proofs.Holding.{holds-first, holds-second, holds-word, length-uint16}
 use Rattle.postscript_layout_write.proofs.Kept.{count-held, keeps-lists, lookups-held, place-read}
-use Rattle.postscript_layout_write.proofs.ContextReading.{applying-context, contexts-read, flag-read, have-sets, kept-context, no-rules as no-rules-six, type-read}
+use Rattle.postscript_layout_write.proofs.ContextReading.{applying-context, contexts-read, flag-read, have-sets, kept-context, no-rules as no-rules-six, set-read as chained-set, type-read}
 use Rattle.postscript_layout_write.proofs.RuleCollecting.{new-in}
 use Rattle.postscript_layout_write.proofs.RuleReading.{subtable-rules}
 
@@ -44,9 +46,10 @@ unfolding rule_head_text uint16
 length-rule-head type flag count = refl
 
 -- what a lookup says
-record IsLookupRead (t : List ℕ) (l type flag : ℕ) (f : ℕ → List (List ℕ)) : Type 0 where
+record IsLookupRead (t : List ℕ) (l type flag set : ℕ) (f : ℕ → List (List ℕ)) : Type 0 where
   type-is : word t l ≡ type
   flag-is : word t (l + 2) ≡ flag
+  set-is : uses_set flag ≡ true → set_of t l ≡ set
   rules-are : (x : ℕ) → rules_of_type t l type x ≡ f x
 
 no-rules : (t : List ℕ) (l type x : ℕ) → word t (l + 4) ≡ 0 → rules_of_type t l type x ≡ []
@@ -63,29 +66,53 @@ one-rules t l type x one = by (type == 4)
     by true = ap (λ n. all_rules t l type x n) one
     by false = ap (λ n. or_none (first_some (λ j. rules_in t type (part_at t l type j) x) n)) one
 
-part-read : (t : List ℕ) (l type : ℕ) → word t l ≡ type → word t (l + 6) ≡ 8 → part_at t l type 0 ≡ Some (l + 8)
-part-read t l type is at =
+offset-small : (flag : ℕ) → subtable_offset flag < 65536
+offset-small flag = by (uses_set flag)
+  where
+    by : (b : Bool) → (if b then 10 else 8) < 65536
+    by true = omega arith
+    by false = omega arith
+
+part-read : (t : List ℕ) (l type offset : ℕ) → word t l ≡ type → word t (l + 6) ≡ offset → part_at t l type 0 ≡ Some (l + offset)
+part-read t l type offset is at =
     let part = l + word t (l + 6 + 0 * 2) in
-    let place : part ≡ l + 8 = ap (λ n. l + word t n) {x = l + 6 + 0 * 2} {y = l + 6} (omega arith) ∙ ap (λ n. l + n) at in
+    let place : part ≡ l + offset = ap (λ n. l + word t n) {x = l + 6 + 0 * 2} {y = l + 6} (omega arith) ∙ ap (λ n. l + n) at in
     ap (λ (b : Bool). if b then Some part else (if (word t l == 7) && (word t (part + 2) == type) then Some (part + long t (part + 4)) else None)) (eq-eqb (word t l) type is)
     ∙ ap (λ n. Some n) place
 
-lookup-read : (t : List ℕ) (l type flag : ℕ) (f : ℕ → List (List ℕ)) → HasRuleLookup type flag f t l → IsLookupRead t l type flag f
-lookup-read t l type flag f (has_none none a b h) =
-    let head = head-read t l type flag 0 a b (omega arith) h in
+-- the set of marks after the offsets of the subtables
+set-read : (t : List ℕ) (l flag set count at : ℕ) → set < 65536 → word t (l + 4) ≡ count → l + 6 + count * 2 ≡ at → Holds (mark_set_text flag set) t at →
+    uses_set flag ≡ true → set_of t l ≡ set
+set-read t l flag set count at small many place h uses =
+    ap (λ n. word t (l + 6 + n * 2)) many ∙ ap (word t) place
+    ∙ holds-word set small (subst (λ (b : Bool). Holds (if b then uint16 set else []) t at) uses h)
+
+lookup-read : (t : List ℕ) (l type flag set : ℕ) (f : ℕ → List (List ℕ)) → HasRuleLookup type flag set f t l → IsLookupRead t l type flag set f
+unfolding bare_text rule_front_text
+lookup-read t l type flag set f (has_none none small h) =
+    let front = rule_head_text type flag 0 in
+    let head = head-read t l type flag 0 small.type_small small.flag_small (omega arith) (holds-first front (mark_set_text flag set) h) in
     record {
       type-is = head.type-is;
       flag-is = head.flag-is;
+      set-is = set-read t l flag set 0 (l + 6) small.set_small head.count-is (omega arith)
+          (holds-second front (mark_set_text flag set) 6 (length-rule-head type flag 0) h);
       rules-are = λ x. no-rules t l type x head.count-is ∙ sym (none x);
     }
-lookup-read t l type flag f (has_one a b h s) =
-    let head = head-read t l type flag 1 a b (omega arith) (holds-first (rule_head_text type flag 1) (uint16 8) h) in
-    let at = holds-word 8 (omega arith) (holds-second (rule_head_text type flag 1) (uint16 8) 6 (length-rule-head type flag 1) h) in
+lookup-read t l type flag set f (has_one small h s) =
+    let front = rule_head_text type flag 1 in
+    let offset = uint16 (subtable_offset flag) in
+    let head = head-read t l type flag 1 small.type_small small.flag_small (omega arith) (holds-first front (offset ++ mark_set_text flag set) h) in
+    let rest = holds-second front (offset ++ mark_set_text flag set) 6 (length-rule-head type flag 1) h in
+    let at = holds-word (subtable_offset flag) (offset-small flag) (holds-first offset (mark_set_text flag set) rest) in
     record {
       type-is = head.type-is;
       flag-is = head.flag-is;
-      rules-are = λ x. one-rules t l type x head.count-is ∙ ap (λ (p : Option ℕ). or_none (rules_in t type p x)) (part-read t l type head.type-is at)
-          ∙ subtable-rules t (l + 8) type f s x;
+      set-is = set-read t l flag set 1 (l + 6 + 2) small.set_small head.count-is (omega arith)
+          (holds-second offset (mark_set_text flag set) 2 (length-uint16 (subtable_offset flag)) rest);
+      rules-are = λ x. one-rules t l type x head.count-is
+          ∙ ap (λ (p : Option ℕ). or_none (rules_in t type p x)) (part-read t l type (subtable_offset flag) head.type-is at)
+          ∙ subtable-rules t (l + subtable_offset flag) type f s x;
     }
 
 -- the type that is written is a type that is kept
@@ -115,7 +142,7 @@ module _ (gsub : List ℕ) (lookup : ℕ) where
   not-six = other 6 refl (λ is. absurd (omega (arith, is)))
 
 -- a lookup that keeps contexts has a type that is not kept
-module _ (gsub chosen : List ℕ) (i lookup : ℕ) (keeps-them : keeps_contexts gsub chosen i lookup ≡ true) where
+module _ (whole : Bool) (gsub chosen : List ℕ) (i lookup : ℕ) (keeps-them : keeps_contexts whole gsub chosen i lookup ≡ true) where
   first-true : (a b : Bool) → (a && b) ≡ true → a ≡ true
   first-true true b is = refl
   first-true false b is = absurd (cc)
@@ -125,7 +152,7 @@ module _ (gsub chosen : List ℕ) (i lookup : ℕ) (keeps-them : keeps_contexts 
   either-type false b is = inr is
 
   pub contextual : is_contextual gsub lookup ≡ true
-  contextual = first-true _ _ (first-true _ (is_chosen chosen i) keeps-them)
+  contextual = first-true _ (is_taken whole gsub chosen i lookup) keeps-them
 
   pub not-kept : is_kept (type_at gsub lookup) ≡ false
   not-kept = elim (either-type _ _ (first-true _ _ contextual)) [
@@ -133,76 +160,80 @@ module _ (gsub chosen : List ℕ) (i lookup : ℕ) (keeps-them : keeps_contexts 
     | inr six ↦ ap is_kept (eqb-true (type_at gsub lookup) 6 six)
   ]
 
-  pub keeps-none : keeps gsub chosen i lookup ≡ false
-  keeps-none = ap (λ (b : Bool). (b && nat_lt (word gsub (lookup + 2)) 16) && is_chosen chosen i) not-kept
+  pub keeps-none : keeps whole gsub chosen i lookup ≡ false
+  keeps-none = ap (λ (b : Bool). b && is_taken whole gsub chosen i lookup) not-kept
 
 -- what a new lookup says
-record IsNewRead (old chosen kept new : List ℕ) (i : ℕ) : Type 0 where
-  flag-is : flag_of new i ≡ flag_of old i % 16
+record IsNewRead (whole : Bool) (old chosen kept new : List ℕ) (i : ℕ) : Type 0 where
+  flag-is : flag_of new i ≡ new_flag whole (flag_of old i)
+  set-is : uses_set (new_flag whole (flag_of old i)) ≡ true → set_of new (lookup_at new i) ≡ set_of old (lookup_at old i)
   type-is : is_kept (type_of old i) ≡ true → type_of new i ≡ type_of old i
-  rules-are : (x : ℕ) → rules_of new i x ≡ new_rules old chosen kept i x
-  contexts-are : contexts_of new (range_with_len 0 (length kept)) i ≡ new_contexts old chosen kept i
+  rules-are : (x : ℕ) → rules_of new i x ≡ new_rules whole old chosen kept i x
+  contexts-are : contexts_of new (range_with_len 0 (length kept)) i ≡ new_contexts whole old chosen kept i
 
-rules-new-read : (old chosen kept new : List ℕ) (i : ℕ) → keeps_contexts old chosen i (lookup_at old i) ≡ false →
-    IsLookupRead new (lookup_at new i) (new_type old (lookup_at old i)) (flag_of old i % 16) (new_rules old chosen kept i) → IsNewRead old chosen kept new i
-rules-new-read old chosen kept new i none r =
+rules-new-read : (whole : Bool) (old chosen kept new : List ℕ) (i : ℕ) → keeps_contexts whole old chosen i (lookup_at old i) ≡ false →
+    IsLookupRead new (lookup_at new i) (new_type old (lookup_at old i)) (new_flag whole (flag_of old i)) (set_of old (lookup_at old i)) (new_rules whole old chosen kept i) → IsNewRead whole old chosen kept new i
+rules-new-read whole old chosen kept new i none r =
     let l = lookup_at new i in
     let t = r.type-is in
     let type : type_of new i ≡ new_type old (lookup_at old i) =
     ap (λ (b : Bool). if b then word new (l + word new (l + 6) + 2) else word new l) (ap (λ n. nat_eq n 7) t ∙ not-seven old (lookup_at old i)) ∙ t in
     record {
       flag-is = r.flag-is;
+      set-is = r.set-is;
       type-is = λ k. type ∙ ap (λ (b : Bool). if b then type_of old i else 1) k;
       rules-are = λ x. ap (λ n. rules_of_type new l n x) type ∙ r.rules-are x;
-      contexts-are = ap (λ (b : Bool). if (b || (type_at new l == 6)) && all_have_sets new l (type_at new l) (word new (l + 4)) then
+      contexts-are = ap (λ (b : Bool). if (b || (type_at new l == 6)) && all_have_formats new l (type_at new l) (word new (l + 4)) then
           contexts_at new (range_with_len 0 (length kept)) l (type_of new i) else []) (ap (λ n. nat_eq n 5) type ∙ not-five old (lookup_at old i))
-          ∙ ap (λ (b : Bool). if b && all_have_sets new l (type_at new l) (word new (l + 4)) then
+          ∙ ap (λ (b : Bool). if b && all_have_formats new l (type_at new l) (word new (l + 4)) then
           contexts_at new (range_with_len 0 (length kept)) l (type_of new i) else []) (ap (λ n. nat_eq n 6) type ∙ not-six old (lookup_at old i))
           ∙ sym (ap (λ (b : Bool). if b then contexts_at old kept (lookup_at old i) (type_of old i) else []) none);
     }
 
-contexts-new-read : (old chosen kept new : List ℕ) (i : ℕ) → keeps_contexts old chosen i (lookup_at old i) ≡ true →
-    HasChained (flag_of old i % 16) (contexts_at old kept (lookup_at old i) (type_at old (lookup_at old i))) new (lookup_at new i) → IsNewRead old chosen kept new i
-contexts-new-read old chosen kept new i keeps-them has =
+contexts-new-read : (whole : Bool) (old chosen kept new : List ℕ) (i : ℕ) → keeps_contexts whole old chosen i (lookup_at old i) ≡ true →
+    HasChained (new_flag whole (flag_of old i)) (set_of old (lookup_at old i)) (contexts_at old kept (lookup_at old i) (type_at old (lookup_at old i))) new (lookup_at new i) → IsNewRead whole old chosen kept new i
+contexts-new-read whole old chosen kept new i keeps-them has =
     let l = lookup_at new i in
     let contexts = contexts_at old kept (lookup_at old i) (type_of old i) in
-    let six : word new l ≡ 6 = type-read new l (flag_of old i % 16) contexts has in
+    let six : word new l ≡ 6 = type-read new l (new_flag whole (flag_of old i)) (set_of old (lookup_at old i)) contexts has in
     let type : type_of new i ≡ 6 = ap (λ n. if nat_eq n 7 then word new (l + word new (l + 6) + 2) else n) six in
-    let sets : all_have_sets new l (type_at new l) (word new (l + 4)) ≡ true =
-    ap (λ n. all_have_sets new l n (word new (l + 4))) type ∙ have-sets new l (flag_of old i % 16) contexts has in
+    let sets : all_have_formats new l (type_at new l) (word new (l + 4)) ≡ true =
+    ap (λ n. all_have_formats new l n (word new (l + 4))) type ∙ have-sets new l (new_flag whole (flag_of old i)) (set_of old (lookup_at old i)) contexts has in
     record {
-      flag-is = flag-read new l (flag_of old i % 16) contexts has;
-      type-is = λ k. absurd (let no = sym k ∙ not-kept old chosen i (lookup_at old i) keeps-them in cc);
-      rules-are = λ x. ap (λ n. rules_of_type new l n x) type ∙ no-rules-six new l (flag_of old i % 16) contexts has x
-          ∙ sym (ap (λ (b : Bool). if b then rules_at old kept (lookup_at old i) x else []) (keeps-none old chosen i (lookup_at old i) keeps-them));
-      contexts-are = ap (λ n. if ((n == 5) || (n == 6)) && all_have_sets new l n (word new (l + 4)) then
+      flag-is = flag-read new l (new_flag whole (flag_of old i)) (set_of old (lookup_at old i)) contexts has;
+      set-is = chained-set new l (new_flag whole (flag_of old i)) (set_of old (lookup_at old i)) contexts has;
+      type-is = λ k. absurd (let no = sym k ∙ not-kept whole old chosen i (lookup_at old i) keeps-them in cc);
+      rules-are = λ x. ap (λ n. rules_of_type new l n x) type ∙ no-rules-six new l (new_flag whole (flag_of old i)) (set_of old (lookup_at old i)) contexts has x
+          ∙ sym (ap (λ (b : Bool). if b then rules_at old kept (lookup_at old i) x else []) (keeps-none whole old chosen i (lookup_at old i) keeps-them));
+      contexts-are = ap (λ n. if ((n == 5) || (n == 6)) && all_have_formats new l n (word new (l + 4)) then
           contexts_at new (range_with_len 0 (length kept)) l n else []) type
-          ∙ ap (λ (b : Bool). if b then contexts_at new (range_with_len 0 (length kept)) l 6 else []) (have-sets new l (flag_of old i % 16) contexts has)
-          ∙ contexts-read new l (flag_of old i % 16) contexts has (length kept)
+          ∙ ap (λ (b : Bool). if b then contexts_at new (range_with_len 0 (length kept)) l 6 else []) (have-sets new l (new_flag whole (flag_of old i)) (set_of old (lookup_at old i)) contexts has)
+          ∙ contexts-read new l (new_flag whole (flag_of old i)) (set_of old (lookup_at old i)) contexts has (length kept)
           (λ k less. kept-context old kept (lookup_at old i) (type_of old i) k less) (λ k less. applying-context old kept (lookup_at old i) (type_of old i) k less)
           ∙ sym (ap (λ (b : Bool). if b then contexts else []) keeps-them);
     }
 
-new-read : (old chosen kept new : List ℕ) (i : ℕ) → HasNewLookup old chosen kept i new (lookup_at new i) → IsNewRead old chosen kept new i
-new-read old chosen kept new i (has_rules none h) =
-    rules-new-read old chosen kept new i none (lookup-read new (lookup_at new i) (new_type old (lookup_at old i)) (flag_of old i % 16) (new_rules old chosen kept i) h)
-new-read old chosen kept new i (has_contexts keeps-them h) = contexts-new-read old chosen kept new i keeps-them h
+new-read : (whole : Bool) (old chosen kept new : List ℕ) (i : ℕ) → HasNewLookup whole old chosen kept i new (lookup_at new i) → IsNewRead whole old chosen kept new i
+new-read whole old chosen kept new i (has_rules none h) =
+    rules-new-read whole old chosen kept new i none (lookup-read new (lookup_at new i) (new_type old (lookup_at old i)) (new_flag whole (flag_of old i)) (set_of old (lookup_at old i)) (new_rules whole old chosen kept i) h)
+new-read whole old chosen kept new i (has_contexts keeps-them h) = contexts-new-read whole old chosen kept new i keeps-them h
 
-module _ (old chosen kept new offsets bytes : List ℕ) (end : ℕ) (lists : ListsEnd old end) (small : end < 65536) (within : end ≤ length old)
+module _ (whole : Bool) (old chosen kept new offsets bytes : List ℕ) (end : ℕ) (lists : ListsEnd old end) (small : end < 65536) (within : end ≤ length old)
     (is : new ≡ front_text old end ++ list_text offsets bytes) (few : length offsets ≤ 32766) (fit : AreOffsets (2 + length offsets * 2) offsets)
-    (has : HasRuleLookups old chosen kept (lookups_of old) offsets bytes) where
-  each-read : (i : ℕ) → i < lookups_of old → IsNewRead old chosen kept new i
-  each-read i less = new-read old chosen kept new i
-      (subst (HasNewLookup old chosen kept i new)
+    (has : HasRuleLookups whole old chosen kept (lookups_of old) offsets bytes) where
+  each-read : (i : ℕ) → i < lookups_of old → IsNewRead whole old chosen kept new i
+  each-read i less = new-read whole old chosen kept new i
+      (subst (HasNewLookup whole old chosen kept i new)
       (sym (place-read old new offsets bytes end lists small within is few fit i (let many = has.many in omega (arith, less, many))))
-      (new-in old chosen kept i new bytes (end + 2 + length offsets * 2) (get_or offsets i 0)
+      (new-in whole old chosen kept i new bytes (end + 2 + length offsets * 2) (get_or offsets i 0)
       (lookups-held old new offsets bytes end lists small within is few fit) (has.each i less)))
 
-  pub keeps-rules : KeepsSubstitutions old chosen kept new
+  pub keeps-rules : KeepsRules whole old chosen kept new
   keeps-rules = record {
     lists = keeps-lists old new offsets bytes end lists small within is few fit;
     lookups = count-held old new offsets bytes end lists small within is few fit ∙ has.many;
     flags = λ i less. (each-read i less).flag-is;
+    sets = λ i less uses. (each-read i less).set-is uses;
     types = λ i less k. (each-read i less).type-is k;
     rules = λ i x less. (each-read i less).rules-are x;
     contexts = λ i less. (each-read i less).contexts-are;

@@ -19,7 +19,7 @@ use Rattle.postscript_layout_write.proofs.Holding.{holds-array, holds-first, hol
 use Rattle.postscript_layout_write.proofs.Reading.{Searched, any-default, length-coverage, length-offsets, missing, offsets-read, present, searched}
 use Rattle.postscript_layout_write.proofs.RuleRows.{ligatures-more, words-more}
 
-not-eq : (a b : ℕ) → (a ≡ b → ⊥) → nat_eq a b ≡ false
+pub not-eq : (a b : ℕ) → (a ≡ b → ⊥) → nat_eq a b ≡ false
 not-eq a b never = by (nat_eq a b) refl
   where
     by : (t : Bool) → nat_eq a b ≡ t → t ≡ false

@@ -1,22 +1,23 @@
--- Marks and bases as they are written. Only contracts of private functions and proofs name this.
+-- Rows of numbers and anchors, and subtables that attach marks, as they are written. Only contracts of private functions and proofs name this.
 use Rattle.std.specs.Prelude.{◌≡◌, ◌⊎◌, ℕ, ◌+◌, ◌*◌, ◌/◌, ◌%◌, ◌<◌, ◌≤◌, ◌==◌, List, [], ◌∷◌, ◌++◌, Option, None, Some, Vec, length, nat_lt, slice_index, slice_index_or, if◌then◌else◌}
 use Rattle.std.specs.List.{Contains}
 use Rattle.std.specs.declared.alloc.Global.{Global}
 use Rattle.postscript_layout.specs.Numbers.{word}
-use Rattle.postscript_layout_write.specs.Flags.{set_of}
+use Rattle.postscript_layout_write.specs.Cursive.{ends_in}
 use Rattle.postscript_layout_write.specs.Holds.{Holds}
 use Rattle.postscript_layout_write.specs.Ligatures.{ligature_of}
-use Rattle.postscript_layout_write.specs.Marks.{Mark, anchor_in, attaching_at, mark_in, type_at}
+use Rattle.postscript_layout_write.specs.Marks.{Mark, anchor_in, mark_in}
 use Rattle.postscript_layout_write.specs.Ranges.{coverage_index}
-use Rattle.postscript_layout_write.specs.RuleSets.{rule_head_text}
-use Rattle.postscript_layout_write.specs.Scopes.{mark_set_text}
 use Rattle.postscript_layout_write.specs.Sets.{AreOffsets, Places}
+use Rattle.postscript_layout_write.specs.Singles.{record_of, values_by}
 use Rattle.postscript_layout_write.specs.Text.{array_text, coverage_text, offsets_text, uint16}
 use Rattle.postscript_layout_write.specs.declared.anchors.Anchor.{Anchor}
 use Rattle.postscript_layout_write.specs.declared.anchors.Cell.{Cell}
 use Rattle.postscript_layout_write.specs.declared.anchors.Cell.TheVariants.{At, Number}
+use Rattle.postscript_layout_write.specs.declared.anchors.Ends.{Ends}
 use Rattle.postscript_layout_write.specs.declared.anchors.Side.{Side}
-use Rattle.postscript_layout_write.specs.declared.anchors.Side.TheVariants.{Bases, Marks}
+use Rattle.postscript_layout_write.specs.declared.anchors.Side.TheVariants.{Bases, Cursive, Marks, Singles}
+use Rattle.postscript_layout_write.specs.declared.values.Values.{Values}
 
 -- an anchor of format 1
 unfoldable pub anchor_text : Anchor → List ℕ
@@ -30,7 +31,17 @@ abbrev pub cell_of : Option Anchor → Cell
 cell_of None = Number 0
 cell_of (Some anchor) = At anchor
 
--- a row of an array: the cells of a mark, and those of a base for each class
+-- a row of an array: the numbers of an adjustment, the cells of the ends of a glyph, those of a mark, and those of a base for each class
+abbrev pub single_row : Option Values → Option (ℕ → Cell)
+single_row None = None
+single_row (Some values) = Some (λ j.
+    if j == 0 then Number values.x_placement
+    else (if j == 1 then Number values.y_placement else (if j == 2 then Number values.x_advance else Number values.y_advance)))
+
+abbrev pub ends_row : Option Ends → Option (ℕ → Cell)
+ends_row None = None
+ends_row (Some ends) = Some (λ j. if j == 0 then cell_of ends.entry else cell_of ends.exit)
+
 abbrev pub mark_row : Option Mark → Option (ℕ → Cell)
 mark_row None = None
 mark_row (Some mark) = Some (λ j. if j == 0 then Number mark.class else At mark.anchor)
@@ -47,22 +58,30 @@ abbrev pub at_class : Option (ℕ → Option Anchor) → (class : ℕ) → Optio
 at_class None class = None
 at_class (Some anchors) class = anchors class
 
--- the offset of the coverage table, the offset of the array, and the cells of a row for marks or bases
+-- the offset of the coverage table, the offset of the table with the rows, and the cells of a row
 abbrev pub coverage_of : List ℕ → (subtable : ℕ) → Side → ℕ
 coverage_of gpos subtable Marks = subtable + word gpos (subtable + 2)
 coverage_of gpos subtable Bases = subtable + word gpos (subtable + 4)
+coverage_of gpos subtable Singles = subtable + word gpos (subtable + 2)
+coverage_of gpos subtable Cursive = subtable + word gpos (subtable + 2)
 
 abbrev pub array_of : List ℕ → (subtable : ℕ) → Side → ℕ
 array_of gpos subtable Marks = subtable + word gpos (subtable + 8)
 array_of gpos subtable Bases = subtable + word gpos (subtable + 10)
+array_of gpos subtable Singles = subtable
+array_of gpos subtable Cursive = subtable
 
 abbrev pub width_of : Side → (classes : ℕ) → ℕ
 width_of Marks classes = 2
 width_of Bases classes = classes
+width_of Singles classes = 4
+width_of Cursive classes = 2
 
 abbrev pub row_in : List ℕ → (array classes : ℕ) → Side → (i : ℕ) → Option (ℕ → Cell)
 row_in gpos array classes Marks i = mark_row (mark_in gpos array i)
 row_in gpos array classes Bases i = base_row (base_in gpos array classes i)
+row_in gpos array classes Singles i = single_row (values_by gpos array (record_of gpos array i))
+row_in gpos array classes Cursive i = ends_row (ends_in gpos array i)
 
 abbrev pub row_covered : List ℕ → (array classes : ℕ) → Side → (index : Option ℕ) → Option (ℕ → Cell)
 row_covered gpos array classes side None = None
@@ -119,16 +138,16 @@ pub record PlacesCell (base : ℕ) (cell : Cell) (number : ℕ) (old new : List 
   pub bytes : new ≡ old ++ more
   pub is : IsCell base new cell number
 
--- an array of rows: their number, the numbers of their cells, and the anchors
+-- an array of rows: their number, the numbers of their cells, and the anchors; offsets are counted from a number of bytes before the array
 unfoldable pub cells_text : (count : ℕ) → (numbers pool : List ℕ) → List ℕ
 cells_text count numbers pool = uint16 count ++ (array_text numbers ++ pool)
 
-pub record HasCells (count : ℕ) (cells : List Cell) (bytes : List ℕ) (offset : ℕ) : Type 0 where
+pub record HasCells (lead count : ℕ) (cells : List Cell) (bytes : List ℕ) (offset : ℕ) : Type 0 where
   pub numbers : List ℕ
   pub pool : List ℕ
   pub small : count < 65536
   pub same : length numbers ≡ length cells
-  pub each : (k : ℕ) → k < length cells → IsCell (2 + length cells * 2) pool (slice_index_or cells k no_cell) (slice_index numbers k)
+  pub each : (k : ℕ) → k < length cells → IsCell (lead + (2 + length cells * 2)) pool (slice_index_or cells k no_cell) (slice_index numbers k)
   pub there : Holds (cells_text count numbers pool) bytes offset
 
 -- the header of a subtable of format 1, and the subtable: its coverage tables and its arrays follow the header
@@ -152,17 +171,25 @@ pub record PutsAttaching (classes : ℕ) (marks bases first second old new : Lis
   pub fits : Fits classes marks bases first
   pub text : new ≡ old ++ attaching_text classes marks bases first second
 
--- the marks of a subtable
-pub record HasMarkArray (gpos : List ℕ) (subtable : Option ℕ) (kept marks text : List ℕ) : Type 0 where
-  pub cells : List Cell
-  pub are : AreRows 2 (λ x. row_of gpos subtable Marks (slice_index kept x)) (length kept) marks cells
-  pub has : HasCells (length marks) cells text 0
+-- the numbers before an array, from which its offsets are counted: none for marks and bases, else the format, the offset of the coverage table, and for
+-- adjustments the format of their values
+abbrev pub numbers_of : Side → (coverage : ℕ) → List ℕ
+numbers_of Marks coverage = []
+numbers_of Bases coverage = []
+numbers_of Singles coverage = 2 ∷ coverage ∷ 15 ∷ []
+numbers_of Cursive coverage = 1 ∷ coverage ∷ []
 
--- the bases of a subtable
-pub record HasBaseArray (gpos : List ℕ) (subtable : Option ℕ) (kept bases text : List ℕ) : Type 0 where
+abbrev pub lead_of : Side → ℕ
+lead_of Marks = 0
+lead_of Bases = 0
+lead_of Singles = 6
+lead_of Cursive = 4
+
+-- the array of the kept glyphs of a subtable
+pub record IsArray (side : Side) (gpos : List ℕ) (subtable : Option ℕ) (kept glyphs text : List ℕ) : Type 0 where
   pub cells : List Cell
-  pub are : AreRows (classes_of gpos subtable) (λ x. row_of gpos subtable Bases (slice_index kept x)) (length kept) bases cells
-  pub has : HasCells (length bases) cells text 0
+  pub are : AreRows (width_of side (classes_of gpos subtable)) (λ x. row_of gpos subtable side (slice_index kept x)) (length kept) glyphs cells
+  pub has : HasCells (lead_of side) (length glyphs) cells text 0
 
 -- the anchors of the components of a ligature, one component after the other
 pub record AreComponents (gpos : List ℕ) (ligature classes : ℕ) (cells : List Cell) : Type 0 where
@@ -173,7 +200,7 @@ pub record AreComponents (gpos : List ℕ) (ligature classes : ℕ) (cells : Lis
 pub record HasLigature (gpos : List ℕ) (ligature classes : ℕ) (bytes : List ℕ) (offset : ℕ) : Type 0 where
   pub cells : List Cell
   pub are : AreComponents gpos ligature classes cells
-  pub has : HasCells (word gpos ligature) cells bytes offset
+  pub has : HasCells 0 (word gpos ligature) cells bytes offset
 
 abbrev pub HasLigatureOf : List ℕ → (ligature : Option ℕ) → (classes : ℕ) → (bytes : List ℕ) → (offset : ℕ) → Type 0
 HasLigatureOf gpos None classes bytes offset = ⊥
@@ -217,7 +244,7 @@ pub record HasLigatureArray (gpos : List ℕ) (subtable : Option ℕ) (kept base
 -- the bases or the ligatures; without marks, none are needed
 pub data HasSecondArray (type : ℕ) (gpos : List ℕ) (subtable : Option ℕ) (kept marks bases text : List ℕ) : Type 0 where
   no_marks : marks ≡ [] → HasSecondArray type gpos subtable kept marks bases text
-  are_bases : (type ≡ 5 → ⊥) → HasBaseArray gpos subtable kept bases text → HasSecondArray type gpos subtable kept marks bases text
+  are_bases : (type ≡ 5 → ⊥) → IsArray Bases gpos subtable kept bases text → HasSecondArray type gpos subtable kept marks bases text
   are_ligatures : type ≡ 5 → HasLigatureArray gpos subtable kept bases text → HasSecondArray type gpos subtable kept marks bases text
 
 -- a subtable at an offset has the marks, and the bases or the ligatures
@@ -227,7 +254,7 @@ pub record HasAttaching (type : ℕ) (gpos : List ℕ) (subtable : Option ℕ) (
   pub first : List ℕ
   pub second : List ℕ
   pub small : length kept < 65536
-  pub first_has : HasMarkArray gpos subtable kept marks first
+  pub first_has : IsArray Marks gpos subtable kept marks first
   pub second_has : HasSecondArray type gpos subtable kept marks bases second
   pub fits : Fits (classes_of gpos subtable) marks bases first
   pub there : Holds (attaching_text (classes_of gpos subtable) marks bases first second) bytes offset
@@ -236,31 +263,3 @@ pub record AddsAttaching (type : ℕ) (gpos : List ℕ) (subtable : Option ℕ) 
   pub more : List ℕ
   pub bytes : new ≡ old ++ more
   pub has : HasAttaching type gpos subtable kept new (length old)
-
--- the first subtables of a lookup are there, after its set of marks
-pub record HasParts (gpos : List ℕ) (lookup type flag : ℕ) (kept : List ℕ) (count : ℕ) (offsets bytes : List ℕ) : Type 0 where
-  pub many : length offsets ≡ count
-  pub each : (j : ℕ) → j < count → HasAttaching type gpos (attaching_at gpos lookup type j) kept bytes (slice_index offsets j)
-  pub set : Holds (mark_set_text flag (set_of gpos lookup)) bytes 0
-  pub set_small : set_of gpos lookup < 65536
-
--- a lookup with subtables
-unfoldable pub parts_text : (type flag : ℕ) → (offsets subtables : List ℕ) → List ℕ
-parts_text type flag offsets subtables =
-    rule_head_text type flag (length offsets) ++ (offsets_text (6 + length offsets * 2) offsets ++ subtables)
-
--- a lookup at an offset has a flag, and attaches the kept marks
-pub record HasMarks (gpos kept : List ℕ) (lookup flag : ℕ) (bytes : List ℕ) (offset : ℕ) : Type 0 where
-  pub offsets : List ℕ
-  pub subtables : List ℕ
-  pub parts : HasParts gpos lookup (type_at gpos lookup) flag kept (word gpos (lookup + 4)) offsets subtables
-  pub few : length offsets ≤ 32000
-  pub fit : AreOffsets (6 + length offsets * 2) offsets
-  pub type : type_at gpos lookup < 65536
-  pub small : flag < 65536
-  pub there : Holds (parts_text (type_at gpos lookup) flag offsets subtables) bytes offset
-
-pub record AddsMarks (gpos kept : List ℕ) (lookup flag : ℕ) (old new : List ℕ) : Type 0 where
-  pub more : List ℕ
-  pub bytes : new ≡ old ++ more
-  pub has : HasMarks gpos kept lookup flag new (length old)

@@ -2,10 +2,12 @@
 use Rattle.std.specs.Prelude.{◌≡◌, ℕ, ◌+◌, ◌*◌, ◌^◌, ◌==◌, ◌&&◌, ◌<◌, ◌≤◌, Bool, false, List, [], ◌++◌, None, Some, is_some, length, nat_le, slice_index, slice_index_or, if◌then◌else◌}
 use Rattle.std.specs.List.{All}
 use Rattle.postscript_layout.specs.Numbers.{word}
-use Rattle.postscript_layout_write.specs.Contexts.{Context, all_some, covers}
 use Rattle.postscript_layout_write.specs.First.{first_some}
 use Rattle.postscript_layout_write.specs.Holds.{Holds}
 use Rattle.postscript_layout_write.specs.Ranges.{in_range}
+use Rattle.postscript_layout_write.specs.RuleSets.{Begins}
+use Rattle.postscript_layout_write.specs.Scopes.{mark_set_text}
+use Rattle.postscript_layout_write.specs.Sequences.{Context, all_some, covers}
 use Rattle.postscript_layout_write.specs.Sets.{AreOffsets}
 use Rattle.postscript_layout_write.specs.declared.contexts.Contexts.{Contexts}
 use Rattle.postscript_layout_write.specs.declared.contexts.Made.{Made}
@@ -60,6 +62,11 @@ context_text base before input after count actions tables =
 pub record IsPart (sets : List (List ℕ)) (part : Part) (tables : List ℕ) : Type 0 where
   pub have : HaveCoverages sets part.offsets.items tables
   pub some : part.all_some ≡ all_some sets
+
+-- sets are added to a part, and their coverage tables to the tables
+pub record AddsSets (added : List (List ℕ)) (old : Part) (tables : List ℕ) (new : Part) (newtables : List ℕ) : Type 0 where
+  pub have : (sets : List (List ℕ)) → IsPart sets old tables → IsPart (sets ++ added) new newtables
+  pub more : Begins tables newtables
 
 -- the coverage tables and the actions of a context
 pub record IsMade (context : Context) (made : Made) : Type 0 where
@@ -130,6 +137,7 @@ chained_text flag offsets subtables =
 pub record AddsContexts (added : List Context) (old new : Contexts) : Type 0 where
   pub have : (contexts : List Context) → HaveContexts contexts old.offsets.items old.bytes.items →
       HaveContexts (contexts ++ added) new.offsets.items new.bytes.items
+  pub more : Begins old.bytes.items new.bytes.items
 
 -- a lookup of chained contexts is appended
 pub record PutsChained (flag : ℕ) (offsets subtables old new : List ℕ) : Type 0 where
@@ -138,12 +146,14 @@ pub record PutsChained (flag : ℕ) (offsets subtables old new : List ℕ) : Typ
   pub small : flag < 65536
   pub text : new ≡ old ++ chained_text flag offsets subtables
 
--- a lookup of chained contexts is at an offset
-pub record HasChained (flag : ℕ) (contexts : List Context) (bytes : List ℕ) (offset : ℕ) : Type 0 where
+-- a lookup of chained contexts is at an offset, with its set of marks before the subtables, if its flag uses one
+pub record HasChained (flag set : ℕ) (contexts : List Context) (bytes : List ℕ) (offset : ℕ) : Type 0 where
   pub offsets : List ℕ
   pub subtables : List ℕ
   pub have : HaveContexts contexts offsets subtables
   pub few : length offsets ≤ 32764
   pub fit : AreOffsets (6 + length offsets * 2) offsets
   pub small : flag < 65536
+  pub set_small : set < 65536
+  pub begins : Holds (mark_set_text flag set) subtables 0
   pub there : Holds (chained_text flag offsets subtables) bytes offset

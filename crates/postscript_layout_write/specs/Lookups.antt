@@ -1,16 +1,16 @@
 -- Lookups as they are written. Only contracts of private functions and proofs name this.
 use Rattle.std.specs.Prelude.{◌≡◌, ℕ, true, false, ◌+◌, ◌*◌, ◌<◌, ◌≤◌, List, [], ◌++◌, Some, length, slice_index}
 use Rattle.postscript_layout.specs.Numbers.{word}
-use Rattle.postscript_layout_write.specs.Attaching.{HasMarks}
 use Rattle.postscript_layout_write.specs.Entries.{form_of}
 use Rattle.postscript_layout_write.specs.Holds.{Holds}
 use Rattle.postscript_layout_write.specs.Flags.{KeepsFlaggedPositions, set_of}
 use Rattle.postscript_layout_write.specs.Kerning.{KeepsKerning}
 use Rattle.postscript_layout_write.specs.Pairs.{lookup_at, lookups_of}
 use Rattle.postscript_layout_write.specs.Positions.{KeepsPositions}
-use Rattle.postscript_layout_write.specs.Scopes.{new_flag, mark_set_text, new_pair, takes_marks}
+use Rattle.postscript_layout_write.specs.Scopes.{new_flag, mark_set_text, new_pair, takes_contexts, takes_type}
 use Rattle.postscript_layout_write.specs.Sets.{Adds, AddsSubtable, AreOffsets, AreSets, HasSubtable}
 use Rattle.postscript_layout_write.specs.Text.{list_text, lookup_text}
+use Rattle.postscript_layout_write.specs.Typed.{HasTyped}
 use Rattle.postscript_layout_write.specs.declared.entries.Entry.{Entry}
 use Rattle.postscript_layout_write.specs.declared.entries.Form.{Form}
 use Rattle.postscript_layout_write.specs.declared.entries.Form.TheVariants.{Advance, First, Both}
@@ -60,12 +60,14 @@ pub record HasLookup (flag set : ℕ) (f : (x y : ℕ) → Adjustment) (bytes : 
   pub begins : Holds (mark_set_text flag set) subtables 0
   pub there : Holds (lookup_text flag offsets subtables) bytes offset
 
--- the lookup at an offset has the pairs of a lookup of the old table, or attaches its marks
+-- the lookup at an offset has the pairs of a lookup of the old table, its type and all of its subtables, or its contexts
 pub data HasPosition (scope : Scope) (gpos kept : List ℕ) (lookup : ℕ) (bytes : List ℕ) (offset : ℕ) : Type 0 where
-  has_pairs : takes_marks scope gpos lookup ≡ false →
+  has_pairs : takes_type scope gpos lookup ≡ false → takes_contexts scope gpos lookup ≡ false →
       HasLookup (new_flag scope (word gpos (lookup + 2))) (set_of gpos lookup) (new_pair scope gpos kept lookup) bytes offset →
       HasPosition scope gpos kept lookup bytes offset
-  has_marks : takes_marks scope gpos lookup ≡ true → HasMarks gpos kept lookup (new_flag scope (word gpos (lookup + 2))) bytes offset →
+  has_typed : takes_type scope gpos lookup ≡ true → HasTyped gpos kept lookup (new_flag scope (word gpos (lookup + 2))) bytes offset →
+      HasPosition scope gpos kept lookup bytes offset
+  has_contexts : takes_contexts scope gpos lookup ≡ true → HasTyped gpos kept lookup (new_flag scope (word gpos (lookup + 2))) bytes offset →
       HasPosition scope gpos kept lookup bytes offset
 
 pub record AddsPosition (scope : Scope) (gpos kept : List ℕ) (lookup : ℕ) (old new : List ℕ) : Type 0 where

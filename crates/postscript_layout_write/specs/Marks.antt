@@ -34,11 +34,15 @@ mark_in gpos array i =
     if nat_lt i (word gpos array)
     then Some (record { class = word gpos (array + 2 + i * 4); anchor = anchor_at gpos array (word gpos (array + 4 + i * 4)) }) else None
 
--- the anchor of base i for a class of marks, in an array with an offset for each class; if the offset is NULL, there is none
+-- the anchor at an offset of a table; if the offset is NULL, there is none
+abbrev pub optional_anchor : List ℕ → (table offset : ℕ) → Option Anchor
+optional_anchor gpos table offset = if offset == 0 then None else Some (anchor_at gpos table offset)
+
+-- the anchor of base i for a class of marks, in an array with an offset for each class
 abbrev pub anchor_in : List ℕ → (array classes i class : ℕ) → Option Anchor
 anchor_in gpos array classes i class =
-    let offset = word gpos (array + 2 + (i * classes + class) * 2) in
-    if nat_lt i (word gpos array) && nat_lt class classes then (if offset == 0 then None else Some (anchor_at gpos array offset)) else None
+    if nat_lt i (word gpos array) && nat_lt class classes
+    then optional_anchor gpos array (word gpos (array + 2 + (i * classes + class) * 2)) else None
 
 abbrev pub mark_covered : List ℕ → (array : ℕ) → (index : Option ℕ) → Option Mark
 mark_covered gpos array None = None
@@ -68,15 +72,20 @@ abbrev pub attached : Option Mark → (base : (class : ℕ) → Option Anchor) �
 attached None base = None
 attached (Some mark) base = met mark.anchor (base mark.class)
 
--- the offset of subtable j of a lookup, if it has a type and format 1; an extension is the subtable that it names
-abbrev pub of_format1 : List ℕ → (subtable : ℕ) → Option ℕ
-of_format1 gpos subtable = if word gpos subtable == 1 then Some subtable else None
+-- the offset of subtable j of a lookup, if it has a type; an extension is the subtable that it names
+abbrev pub typed_at : List ℕ → (lookup type j : ℕ) → Option ℕ
+typed_at gpos lookup type j =
+    let part = lookup + word gpos (lookup + 6 + j * 2) in
+    if word gpos lookup == type then Some part
+    else (if (word gpos lookup == 9) && (word gpos (part + 2) == type) then Some (part + long gpos (part + 4)) else None)
+
+-- the same, if it also has format 1
+abbrev pub of_format1 : List ℕ → (subtable : Option ℕ) → Option ℕ
+of_format1 gpos None = None
+of_format1 gpos (Some subtable) = if word gpos subtable == 1 then Some subtable else None
 
 abbrev pub attaching_at : List ℕ → (lookup type j : ℕ) → Option ℕ
-attaching_at gpos lookup type j =
-    let part = lookup + word gpos (lookup + 6 + j * 2) in
-    if word gpos lookup == type then of_format1 gpos part
-    else (if (word gpos lookup == 9) && (word gpos (part + 2) == type) then of_format1 gpos (part + long gpos (part + 4)) else None)
+attaching_at gpos lookup type j = of_format1 gpos (typed_at gpos lookup type j)
 
 -- the attachment of a mark to a base by a subtable
 abbrev pub by_subtable : List ℕ → (subtable : Option ℕ) → (mark base : ℕ) → Option Attachment

@@ -2,7 +2,9 @@
 use Rattle.std.specs.Prelude.{◌≡◌, ◌⊎◌, ℕ, ◌+◌, ◌*◌, ◌<◌, ◌≤◌, ◌==◌, List, [], ◌∷◌, ◌++◌, Vec, length, map, slice_index, if◌then◌else◌}
 use Rattle.std.specs.List.{All, Contains}
 use Rattle.std.specs.declared.alloc.Global.{Global}
+use Rattle.postscript_layout_write.specs.Flags.{uses_set}
 use Rattle.postscript_layout_write.specs.Holds.{Holds}
+use Rattle.postscript_layout_write.specs.Scopes.{mark_set_text}
 use Rattle.postscript_layout_write.specs.Sets.{AreOffsets}
 use Rattle.postscript_layout_write.specs.Text.{array_text, coverage_text, offsets_text, uint16}
 
@@ -92,9 +94,20 @@ rules_text type firsts numbers sets =
     (uint16 (format_of type) ++ (uint16 (6 + length firsts * 2) ++ uint16 (length firsts)))
     ++ (offsets_text (base_of type (length firsts)) numbers ++ (coverage_text firsts ++ sets))
 
--- a lookup with one subtable, or none
+-- the type, the flag and the number of subtables of a lookup
 unfoldable pub rule_head_text : (type flag count : ℕ) → List ℕ
 rule_head_text type flag count = uint16 type ++ (uint16 flag ++ uint16 count)
+
+-- a lookup with no subtables, and with its set of marks, if its flag uses one
+unfoldable pub bare_text : (type flag set : ℕ) → List ℕ
+bare_text type flag set = rule_head_text type flag 0 ++ mark_set_text flag set
+
+-- the beginning of a lookup with one subtable, which follows the set of marks
+abbrev pub subtable_offset : (flag : ℕ) → ℕ
+subtable_offset flag = if uses_set flag then 10 else 8
+
+unfoldable pub rule_front_text : (type flag set : ℕ) → List ℕ
+rule_front_text type flag set = rule_head_text type flag 1 ++ (uint16 (subtable_offset flag) ++ mark_set_text flag set)
 
 -- a subtable at an offset has all rules
 pub record HasRuleSubtable (type : ℕ) (f : ℕ → List (List ℕ)) (bytes : List ℕ) (offset : ℕ) : Type 0 where
@@ -108,15 +121,21 @@ pub record HasRuleSubtable (type : ℕ) (f : ℕ → List (List ℕ)) (bytes : L
   pub few : length firsts ≤ 16380
   pub there : Holds (rules_text type firsts numbers sets) bytes offset
 
--- a lookup at an offset has a type, a flag and all rules
-pub data HasRuleLookup (type flag : ℕ) (f : ℕ → List (List ℕ)) (bytes : List ℕ) (offset : ℕ) : Type 0 where
-  has_none : ((x : ℕ) → f x ≡ []) → type < 65536 → flag < 65536 → Holds (rule_head_text type flag 0) bytes offset → HasRuleLookup type flag f bytes offset
-  has_one : type < 65536 → flag < 65536 → Holds (rule_head_text type flag 1 ++ uint16 8) bytes offset → HasRuleSubtable type f bytes (offset + 8) →
-      HasRuleLookup type flag f bytes offset
+-- numbers of two bytes
+pub record AreSmall (type flag set : ℕ) : Type 0 where
+  pub type_small : type < 65536
+  pub flag_small : flag < 65536
+  pub set_small : set < 65536
+
+-- a lookup at an offset has a type, a flag, a set of marks, if it uses one, and all rules
+pub data HasRuleLookup (type flag set : ℕ) (f : ℕ → List (List ℕ)) (bytes : List ℕ) (offset : ℕ) : Type 0 where
+  has_none : ((x : ℕ) → f x ≡ []) → AreSmall type flag set → Holds (bare_text type flag set) bytes offset → HasRuleLookup type flag set f bytes offset
+  has_one : AreSmall type flag set → Holds (rule_front_text type flag set) bytes offset → HasRuleSubtable type f bytes (offset + subtable_offset flag) →
+      HasRuleLookup type flag set f bytes offset
 
 -- a lookup is appended
-pub data PutsRules (type flag : ℕ) (firsts numbers sets old new : List ℕ) : Type 0 where
-  puts_none : firsts ≡ [] → type < 65536 → flag < 65536 → new ≡ old ++ rule_head_text type flag 0 → PutsRules type flag firsts numbers sets old new
-  puts_one : type < 65536 → flag < 65536 → AreOffsets (base_of type (length firsts)) numbers → length firsts ≤ 16380 →
-      new ≡ old ++ ((rule_head_text type flag 1 ++ uint16 8) ++ rules_text type firsts numbers sets) →
-      PutsRules type flag firsts numbers sets old new
+pub data PutsRules (type flag set : ℕ) (firsts numbers sets old new : List ℕ) : Type 0 where
+  puts_none : firsts ≡ [] → AreSmall type flag set → new ≡ old ++ bare_text type flag set → PutsRules type flag set firsts numbers sets old new
+  puts_one : AreSmall type flag set → AreOffsets (base_of type (length firsts)) numbers → length firsts ≤ 16380 →
+      new ≡ old ++ (rule_front_text type flag set ++ rules_text type firsts numbers sets) →
+      PutsRules type flag set firsts numbers sets old new

@@ -1,9 +1,9 @@
 -- What is kept of a table. Only contracts of private functions and proofs name this.
 use Rattle.std.specs.Prelude.{ℕ, Bool, false, ◌+◌, ◌%◌, ◌&&◌, List, [], length, nat_lt, slice_index, if◌then◌else◌}
 use Rattle.postscript_layout.specs.Numbers.{word}
-use Rattle.postscript_layout_write.specs.Flags.{has_marks, uses_set}
+use Rattle.postscript_layout_write.specs.Flags.{has_contexts, has_kept_type, uses_set}
 use Rattle.postscript_layout_write.specs.Pairs.{by_lookup}
-use Rattle.postscript_layout_write.specs.Positions.{keeps_marks}
+use Rattle.postscript_layout_write.specs.Positions.{keeps_contexts, keeps_type}
 use Rattle.postscript_layout_write.specs.Text.{uint16}
 use Rattle.postscript_layout_write.specs.Values.{nothing}
 use Rattle.postscript_layout_write.specs.declared.scope.Scope.{Scope}
@@ -22,11 +22,17 @@ new_flag Pairs flag = flag % 16
 new_flag Marks flag = flag % 16
 new_flag Flags flag = flag
 
--- whether a lookup is written with its marks
-abbrev pub takes_marks : Scope → List ℕ → (lookup : ℕ) → Bool
-takes_marks Pairs gpos lookup = false
-takes_marks Marks gpos lookup = keeps_marks gpos lookup
-takes_marks Flags gpos lookup = has_marks gpos lookup
+-- whether a lookup is written with its type and a subtable for each old one
+abbrev pub takes_type : Scope → List ℕ → (lookup : ℕ) → Bool
+takes_type Pairs gpos lookup = false
+takes_type Marks gpos lookup = keeps_type gpos lookup
+takes_type Flags gpos lookup = has_kept_type gpos lookup
+
+-- whether a lookup is written with its contexts
+abbrev pub takes_contexts : Scope → List ℕ → (lookup : ℕ) → Bool
+takes_contexts Pairs gpos lookup = false
+takes_contexts Marks gpos lookup = keeps_contexts gpos lookup
+takes_contexts Flags gpos lookup = has_contexts gpos lookup
 
 -- the adjustment of a pair that is kept
 abbrev pub pair_by : Scope → List ℕ → (lookup first second : ℕ) → Adjustment

@@ -1,15 +1,19 @@
-//! Marks, and the anchors to which they are attached (OpenType, "Lookup type 4 subtable: mark-to-base attachment positioning").
+//! Anchors, and the rows of subtables: marks, bases, adjustments and ends of glyphs (OpenType, "GPOS - Glyph Positioning
+//! Table").
 ghost use Rattle.std.specs.Prelude.{◌≡◌, ◌⊎◌, ◌+◌, ◌*◌, ◌^◌, ◌<◌, ◌≤◌, None, Some, IfErr, IfOk, IfSome};
 ghost use Rattle.postscript_layout.specs.Numbers.{word as the_word};
-ghost use Rattle.postscript_layout_write.specs.Attaching.{IsNewRow, array_of as the_array, base_in, base_row as the_base_row, cell_of as the_cell, coverage_of as the_coverage, mark_row as the_mark_row, row_covered, row_in as the_row, row_of as the_row_of, classes_of as the_classes, width_of as the_width};
-ghost use Rattle.postscript_layout_write.specs.Marks.{anchor_at as the_anchor, anchor_in as the_anchor_in, mark_in};
+ghost use Rattle.postscript_layout_write.specs.Attaching.{IsNewRow, array_of as the_array, base_in, base_row as the_base_row, cell_of as the_cell, coverage_of as the_coverage, ends_row as the_ends_row, mark_row as the_mark_row, row_covered, row_in as the_row, row_of as the_row_of, single_row as the_single_row, classes_of as the_classes, width_of as the_width};
+ghost use Rattle.postscript_layout_write.specs.Cursive.{ends_in as the_ends};
+ghost use Rattle.postscript_layout_write.specs.Marks.{anchor_at as the_anchor, anchor_in as the_anchor_in, mark_in, optional_anchor as the_optional};
 ghost use Rattle.postscript_layout_write.specs.Refusals.{IsUsedUp};
+ghost use Rattle.postscript_layout_write.specs.Singles.{record_of, values_by};
 ghost use Rattle.postscript_layout_write.specs.declared.error.Error.TheVariants as errors;
 
 use crate::error::Result;
 use crate::limit::pay;
 use crate::numbers::word;
 use crate::ranges::coverage_index;
+use crate::singles::values_in;
 use std::alloc::Global;
 
 /// An anchor. A negative coordinate `n` is `n` + 65536.
@@ -26,11 +30,20 @@ pub(crate) enum Cell {
     At(Anchor),
 }
 
-/// The two kinds of glyphs of a subtable.
+/// The entry anchor and the exit anchor of a glyph.
+#[derive(Clone, Copy, Debug, Drop, PartialEq, Eq)]
+pub(crate) struct Ends {
+    pub(crate) entry: Option<Anchor>,
+    pub(crate) exit: Option<Anchor>,
+}
+
+/// The kinds of rows of a subtable: the marks or the bases of an attachment, single adjustments, or the ends of glyphs.
 #[derive(Clone, Copy, Debug, Drop, PartialEq, Eq)]
 pub(crate) enum Side {
     Marks,
     Bases,
+    Singles,
+    Cursive,
 }
 
 /// Returns the anchor at an offset of a table.
@@ -51,6 +64,19 @@ fn anchor_at(gpos: &[u8], table: usize, offset: usize) -> Anchor
     }
 }
 
+/// Returns the anchor at an offset of a table, unless the offset is NULL.
+fn optional_anchor(gpos: &[u8], table: usize, offset: usize) -> Option<Anchor>
+    requires near { table < 2 ^ 36 }
+    requires small { offset < 65536 }
+    ensures { result ≡ the_optional gpos.now table offset }
+{
+    if offset == 0 {
+        None
+    } else {
+        Some(anchor_at(gpos, table, offset))
+    }
+}
+
 /// Returns the anchor of base `i` for a class of marks.
 pub(crate) fn anchor_in(
     gpos: &[u8],
@@ -65,11 +91,7 @@ pub(crate) fn anchor_in(
 {
     if i < word(gpos, array) && class < classes {
         let offset = word(gpos, array + 2 + (i * classes + class) * 2);
-        if offset == 0 {
-            None
-        } else {
-            Some(anchor_at(gpos, array, offset))
-        }
+        optional_anchor(gpos, array, offset)
     } else {
         None
     }
@@ -129,7 +151,61 @@ fn base_row(
     Ok(Some(row))
 }
 
-/// Returns the offset of the coverage table of marks or bases.
+/// Returns the entry and exit anchors of the glyph with coverage index `i`.
+fn ends_in(gpos: &[u8], subtable: usize, i: usize) -> Option<Ends>
+    requires near { subtable < 2 ^ 34 }
+    requires few { i < 2 ^ 17 }
+    ensures { result ≡ the_ends gpos.now subtable i }
+{
+    if i < word(gpos, subtable + 4) {
+        Some(Ends {
+            entry: optional_anchor(gpos, subtable, word(gpos, subtable + 6 + i * 4)),
+            exit: optional_anchor(gpos, subtable, word(gpos, subtable + 8 + i * 4)),
+        })
+    } else {
+        None
+    }
+}
+
+/// Returns the cells of the entry and exit anchors of the glyph with coverage index `i`.
+fn ends_row(alloc: Global, gpos: &[u8], subtable: usize, i: usize) -> Result<Option<Vec<Cell>>>
+    requires near { subtable < 2 ^ 34 }
+    requires few { i < 2 ^ 17 }
+    ensures exact { IfOk result (λ row. IsNewRow 2 (the_ends_row (the_ends gpos.now subtable i)) row) }
+    ensures memory { IfErr result (λ e. e ≡ errors.Memory) }
+{
+    match ends_in(gpos, subtable, i) {
+        Some(ends) => {
+            let mut row = Vec::new(alloc);
+            row.push(cell_of(ends.entry))?;
+            row.push(cell_of(ends.exit))?;
+            Ok(Some(row))
+        }
+        None => Ok(None),
+    }
+}
+
+/// Returns the numbers of the adjustment of the glyph with coverage index `i`.
+fn single_row(alloc: Global, gpos: &[u8], subtable: usize, i: usize) -> Result<Option<Vec<Cell>>>
+    requires near { subtable < 2 ^ 34 }
+    requires few { i < 2 ^ 17 }
+    ensures exact { IfOk result (λ row. IsNewRow 4 (the_single_row (values_by gpos.now subtable (record_of gpos.now subtable i))) row) }
+    ensures memory { IfErr result (λ e. e ≡ errors.Memory) }
+{
+    match values_in(gpos, subtable, i) {
+        Some(values) => {
+            let mut row = Vec::new(alloc);
+            row.push(Cell::Number(values.x_placement))?;
+            row.push(Cell::Number(values.y_placement))?;
+            row.push(Cell::Number(values.x_advance))?;
+            row.push(Cell::Number(values.y_advance))?;
+            Ok(Some(row))
+        }
+        None => Ok(None),
+    }
+}
+
+/// Returns the offset of the coverage table of a kind of rows.
 pub(crate) fn coverage_of(gpos: &[u8], subtable: usize, side: Side) -> usize
     requires near { subtable < 2 ^ 33 }
     ensures exact { result ≡ the_coverage gpos.now subtable side }
@@ -138,10 +214,12 @@ pub(crate) fn coverage_of(gpos: &[u8], subtable: usize, side: Side) -> usize
     match side {
         Side::Marks => subtable + word(gpos, subtable + 2),
         Side::Bases => subtable + word(gpos, subtable + 4),
+        Side::Singles => subtable + word(gpos, subtable + 2),
+        Side::Cursive => subtable + word(gpos, subtable + 2),
     }
 }
 
-/// Returns the offset of the array of marks or bases.
+/// Returns the offset of the array of marks or bases, or else of the subtable.
 pub(crate) fn array_at(gpos: &[u8], subtable: usize, side: Side) -> usize
     requires near { subtable < 2 ^ 33 }
     ensures exact { result ≡ the_array gpos.now subtable side }
@@ -150,10 +228,12 @@ pub(crate) fn array_at(gpos: &[u8], subtable: usize, side: Side) -> usize
     match side {
         Side::Marks => subtable + word(gpos, subtable + 8),
         Side::Bases => subtable + word(gpos, subtable + 10),
+        Side::Singles => subtable,
+        Side::Cursive => subtable,
     }
 }
 
-/// Returns row `i` of an array of marks or bases.
+/// Returns row `i` of a kind.
 fn row_in(
     alloc: Global,
     gpos: &[u8],
@@ -179,10 +259,18 @@ fn row_in(
             let row = base_row(alloc, gpos, array, classes, i, limit)?;
             Ok(row)
         }
+        Side::Singles => {
+            let row = single_row(alloc, gpos, array, i)?;
+            Ok(row)
+        }
+        Side::Cursive => {
+            let row = ends_row(alloc, gpos, array, i)?;
+            Ok(row)
+        }
     }
 }
 
-/// Returns the row of a glyph among the marks or the bases of a subtable.
+/// Returns the row of a glyph among the rows of a kind of a subtable.
 pub(crate) fn row_of(
     alloc: Global,
     gpos: &[u8],

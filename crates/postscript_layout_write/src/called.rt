@@ -1,12 +1,13 @@
 //! The lookups that contexts apply.
-ghost use Rattle.std.specs.Prelude.{◌≡◌, ◌⊎◌, ◌+◌, ◌*◌, ◌^◌, ◌<◌, ◌≤◌, ℕ, false, length, slice_index_or, IfErr, IfOk, IfSome, OnOk};
+ghost use Rattle.std.specs.Prelude.{◌≡◌, ◌⊎◌, ◌+◌, ◌*◌, ◌^◌, ◌<◌, ◌≤◌, ℕ, Some, false, length, slice_index_or, IfErr, IfOk, IfSome, OnOk};
 ghost use Rattle.std.specs.List.{Contains};
-ghost use Rattle.postscript_layout_write.specs.Calls.{AreReached, Calls, IsNamedBy, NamesAt, NamesIn};
+ghost use Rattle.postscript_layout_write.specs.Calls.{AreReached, Calls, IsNamedBy, NamesAt, NamesBy, NamesIn, NamesInSet};
 ghost use Rattle.postscript_layout_write.specs.Coverages.{IsNear};
 ghost use Rattle.postscript_layout_write.specs.Reaching.{AddsOnly, AreNoted};
 ghost use Rattle.postscript_layout_write.specs.Refusals.{Fails, IsUsedUp};
 ghost use Rattle.postscript_layout_write.specs.declared.error.Error.TheVariants as errors;
 
+use crate::context_rules::{rule_of, rule_parts, set_of, sets_of};
 use crate::contexts::{Parts, is_contextual, parts_of};
 use crate::error::Result;
 use crate::limit::{pay, pay_all};
@@ -86,6 +87,77 @@ impl Reached {
         Ok(())
     }
 
+    /// Adds the lookups that the rules of a set name.
+    fn add_rules(&mut self, gsub: &[u8], kind: usize, set: usize, limit: &mut u64) -> Result<()>
+        requires near { set < 2 ^ 33 + 65536 }
+        ensures added { OnOk result (AddsOnly (NamesInSet gsub.now kind (Some set)) self.old.lookups.items self.new.lookups.items) }
+        ensures spends { limit.new ≤ limit.old }
+        ensures why { IfErr result (λ e. (e ≡ errors.Memory) ⊎ IsUsedUp limit.new e) }
+    {
+        let count = word(gsub, set);
+        for k in 0..count {
+            pay(limit)?;
+            let parts = rule_parts(gsub, kind, rule_of(gsub, set, k));
+            self.add_named(gsub, &parts, limit)?;
+        }
+        Ok(())
+    }
+
+    /// Adds the lookups that a set of rules names, unless it is missing.
+    fn add_set(
+        &mut self,
+        gsub: &[u8],
+        kind: usize,
+        set: Option<usize>,
+        limit: &mut u64,
+    ) -> Result<()>
+        requires near { IfSome set (λ at. at < 2 ^ 33 + 65536) }
+        ensures added { OnOk result (AddsOnly (NamesInSet gsub.now kind set) self.old.lookups.items self.new.lookups.items) }
+        ensures spends { limit.new ≤ limit.old }
+        ensures why { IfErr result (λ e. (e ≡ errors.Memory) ⊎ IsUsedUp limit.new e) }
+    {
+        if let Some(set) = set {
+            self.add_rules(gsub, kind, set, limit)?;
+        }
+        Ok(())
+    }
+
+    /// Adds the lookups that the sets of rules of a subtable name.
+    fn add_sets(&mut self, gsub: &[u8], kind: usize, subtable: usize, limit: &mut u64) -> Result<()>
+        requires near { subtable < 2 ^ 33 }
+        ensures added { OnOk result (AddsOnly (NamesBy gsub.now kind subtable false) self.old.lookups.items self.new.lookups.items) }
+        ensures spends { limit.new ≤ limit.old }
+        ensures why { IfErr result (λ e. (e ≡ errors.Memory) ⊎ IsUsedUp limit.new e) }
+    {
+        let count = word(gsub, sets_of(gsub, kind, subtable));
+        for i in 0..count {
+            pay(limit)?;
+            self.add_set(gsub, kind, set_of(gsub, kind, subtable, i), limit)?;
+        }
+        Ok(())
+    }
+
+    /// Adds the lookups that a subtable at an offset names.
+    fn add_subtable(
+        &mut self,
+        gsub: &[u8],
+        kind: usize,
+        subtable: usize,
+        limit: &mut u64,
+    ) -> Result<()>
+        requires near { subtable < 2 ^ 33 }
+        ensures added { OnOk result (AddsOnly (NamesIn gsub.now kind (Some subtable)) self.old.lookups.items self.new.lookups.items) }
+        ensures spends { limit.new ≤ limit.old }
+        ensures why { IfErr result (λ e. (e ≡ errors.Memory) ⊎ IsUsedUp limit.new e) }
+    {
+        if word(gsub, subtable) == 3 {
+            self.add_named(gsub, &parts_of(gsub, kind, subtable), limit)?;
+            return Ok(());
+        }
+        self.add_sets(gsub, kind, subtable, limit)?;
+        Ok(())
+    }
+
     /// Adds the lookups that a subtable names.
     fn add_part(
         &mut self,
@@ -100,7 +172,7 @@ impl Reached {
         ensures why { IfErr result (λ e. (e ≡ errors.Memory) ⊎ IsUsedUp limit.new e) }
     {
         if let Some(subtable) = part {
-            self.add_named(gsub, &parts_of(gsub, kind, subtable), limit)?;
+            self.add_subtable(gsub, kind, subtable, limit)?;
         }
         Ok(())
     }
@@ -145,9 +217,10 @@ impl Reached {
 /// Returns lookups of a `GSUB` table, and all lookups that their contexts call, directly or by other lookups, each once.
 ///
 /// These are the lookups to choose for [`substitutions`](crate::substitutions), and for the closure of glyphs over them.
-/// Only contexts that are kept count: those of lookups of type 5 or 6 whose subtables all have format 3.
+/// Contexts are those of lookups of type 5 or 6 whose subtables all have format 1, 2 or 3.
 ///
-/// One unit of the limit is paid for each given lookup, each lookup that is returned, and each subtable and action of it.
+/// One unit of the limit is paid for each given lookup, each lookup that is returned, and each subtable, set of rules, rule and
+/// action of it.
 ///
 /// # Errors
 ///

@@ -1,6 +1,6 @@
-//! Rows of numbers and anchors: the array of marks and the array of bases.
+//! Rows of numbers and anchors, and their arrays.
 ghost use Rattle.std.specs.Prelude.{◌≡◌, ◌⊎◌, ◌+◌, ◌*◌, ◌^◌, ◌<◌, ◌≤◌, ◌++◌, [], ◌∷◌, length, slice_index, IfErr, IfOk, IfSome, OnOk};
-ghost use Rattle.postscript_layout_write.specs.Attaching.{AreRows, HasCells, PlacesCell, anchor_text as the_text, cells_text, classes_of, row_of as the_row, width_of};
+ghost use Rattle.postscript_layout_write.specs.Attaching.{AreRows, HasCells, IsArray, PlacesCell, anchor_text as the_text, cells_text, classes_of, lead_of as the_lead, row_of as the_row, width_of};
 ghost use Rattle.postscript_layout_write.specs.Refusals.{Fails, IsUsedUp};
 ghost use Rattle.postscript_layout_write.specs.declared.error.Error.TheVariants as errors;
 
@@ -14,7 +14,7 @@ use std::alloc::Global;
 /// The most numbers of an array whose offsets of two bytes can follow them.
 const MOST: usize = 32766;
 
-/// The new numbers of marks or bases, and the rows of these glyphs one after the other.
+/// The new numbers of some glyphs, and the rows of these glyphs one after the other.
 #[derive(Drop)]
 pub(crate) struct Rows {
     pub(crate) glyphs: Vec<u16>,
@@ -49,7 +49,7 @@ impl Rows {
     }
 }
 
-/// Collects the rows of the kept glyphs that are marks or bases of a subtable.
+/// Collects the rows of a kind of the kept glyphs that a subtable has.
 pub(crate) fn rows_of(
     alloc: Global,
     gpos: &[u8],
@@ -110,15 +110,16 @@ fn number_of(alloc: Global, pool: &mut Sets, base: usize, cell: &Cell) -> Result
     }
 }
 
-/// Returns the bytes of an array of rows, with the anchors behind it.
-pub(crate) fn array_of(alloc: Global, count: u16, cells: &[Cell]) -> Result<Vec<u8>>
-    ensures text { IfOk result (λ text. HasCells count cells.now text.items 0) }
+/// Returns the bytes of an array of rows, with the anchors behind it. Offsets are counted from `lead` bytes before it.
+pub(crate) fn array_of(alloc: Global, lead: usize, count: u16, cells: &[Cell]) -> Result<Vec<u8>>
+    requires { lead ≤ 6 }
+    ensures text { IfOk result (λ text. HasCells lead count cells.now text.items 0) }
     ensures why { IfErr result (λ e. (e ≡ errors.Memory) ⊎ (e ≡ errors.TooLarge)) }
 {
-    if cells.len() > MOST {
+    if cells.len() > MOST - lead {
         return Err(Error::TooLarge);
     }
-    let base = 2 + cells.len() * 2;
+    let base = lead + (2 + cells.len() * 2);
     let mut pool = Sets::new(alloc);
     let mut numbers = Vec::new(alloc);
     for cell in cells {
@@ -130,4 +131,62 @@ pub(crate) fn array_of(alloc: Global, count: u16, cells: &[Cell]) -> Result<Vec<
     put_glyphs(&mut out, &numbers)?;
     out.extend_from_slice(&pool.bytes)?;
     Ok(out)
+}
+
+/// The glyphs of an array, and its bytes.
+#[derive(Drop)]
+pub(crate) struct Array {
+    pub(crate) glyphs: Vec<u16>,
+    pub(crate) bytes: Vec<u8>,
+}
+
+/// Returns the number of bytes before an array from which its offsets are counted.
+pub(crate) fn lead_of(side: Side) -> usize
+    ensures exact { result ≡ the_lead side }
+    ensures small { result ≤ 6 }
+{
+    match side {
+        Side::Marks => 0,
+        Side::Bases => 0,
+        Side::Singles => 6,
+        Side::Cursive => 4,
+    }
+}
+
+/// Returns the array of some rows.
+pub(crate) fn rows_array(alloc: Global, lead: usize, rows: Rows) -> Result<Array>
+    requires { lead ≤ 6 }
+    ensures glyphs { IfOk result (λ array. array.glyphs.items ≡ rows.glyphs.items) }
+    ensures text { IfOk result (λ array. HasCells lead (length rows.glyphs.items) rows.cells.items array.bytes.items 0) }
+    ensures why { IfErr result (λ e. (e ≡ errors.Memory) ⊎ (e ≡ errors.TooLarge)) }
+{
+    let count = rows.glyphs.len();
+    if count > 16380 {
+        return Err(Error::TooLarge);
+    }
+    let bytes = array_of(alloc, lead, count as u16, &rows.cells)?;
+    Ok(Array {
+        glyphs: rows.glyphs,
+        bytes,
+    })
+}
+
+/// Returns the array of the kept glyphs of a subtable.
+pub(crate) fn array_in(
+    alloc: Global,
+    gpos: &[u8],
+    subtable: Option<usize>,
+    side: Side,
+    kept: &[u16],
+    limit: &mut u64,
+) -> Result<Array>
+    requires near { IfSome subtable (λ at. at < 2 ^ 33) }
+    requires few { length kept.now < 65536 }
+    ensures exact { IfOk result (λ array. IsArray side gpos.now subtable kept.now array.glyphs.items array.bytes.items) }
+    ensures spends { limit.new ≤ limit.old }
+    ensures why { IfErr result (λ e. Fails limit.new e) }
+{
+    let rows = rows_of(alloc, gpos, subtable, side, kept, limit)?;
+    let array = rows_array(alloc, lead_of(side), rows)?;
+    Ok(array)
 }

@@ -1,11 +1,15 @@
-//! Contexts of substitutions by sets of glyphs (format 3 of types 5 and 6), which are written as chained contexts.
-ghost use Rattle.std.specs.Prelude.{◌≡◌, ◌⊎◌, ◌+◌, ◌*◌, ◌^◌, ◌<◌, ◌≤◌, ◌++◌, ◌&&◌, Some, length, IfErr, IfOk, IfSome, OnOk};
+//! Contexts of substitutions (types 5 and 6), which are written as chained contexts of sets of glyphs (format 3).
+ghost use Rattle.std.specs.Prelude.{◌≡◌, ◌⊎◌, ◌+◌, ◌*◌, ◌^◌, ◌<◌, ◌≤◌, ◌++◌, ◌&&◌, [], ◌∷◌, ℕ, Some, true, length, IfErr, IfOk, IfSome, OnOk};
 ghost use Rattle.std.specs.List.{All};
 ghost use Rattle.postscript_layout.specs.Numbers.{word as the_word, words as the_words};
-ghost use Rattle.postscript_layout_write.specs.Contexts.{is_some_glyph as the_some_glyph, all_have_sets as the_sets_all, chained_parts as the_chained, context_by, contexts_at, contexts_in, has_sets as the_sets, is_contextual as the_contextual, parts_of as the_parts, plain_parts as the_plain, sets_at};
-ghost use Rattle.postscript_layout_write.specs.Coverages.{base_of as the_base, AddsContexts, HasCoverage, HaveContexts, IsMade, IsNear, IsPart, PutsChained, PutsContext, chained_text, context_text, counted_text};
+ghost use Rattle.postscript_layout_write.specs.Contexts.{all_have_formats as the_formats, chained_parts as the_chained, context_by, context_of, contexts_at, contexts_in, has_format as the_format, is_contextual as the_contextual, parts_of as the_parts, plain_parts as the_plain, sets_at};
+ghost use Rattle.postscript_layout_write.specs.Coverages.{base_of as the_base, AddsContexts, AddsSets, HasCoverage, HaveContexts, IsMade, IsNear, IsPart, PutsChained, PutsContext, chained_text, context_text, counted_text};
+ghost use Rattle.postscript_layout_write.specs.Flags.{set_of};
+ghost use Rattle.postscript_layout_write.specs.Holds.{Holds};
 ghost use Rattle.postscript_layout_write.specs.Refusals.{Fails};
 ghost use Rattle.postscript_layout_write.specs.RuleSets.{Begins};
+ghost use Rattle.postscript_layout_write.specs.Scopes.{mark_set_text};
+ghost use Rattle.postscript_layout_write.specs.Sequences.{Context, if_applies, is_some_glyph as the_some_glyph};
 ghost use Rattle.postscript_layout_write.specs.Sets.{AreOffsets};
 ghost use Rattle.postscript_layout_write.specs.declared.error.Error.TheVariants as errors;
 
@@ -14,6 +18,7 @@ use crate::error::{Error, Result};
 use crate::limit::pay;
 use crate::numbers::{put_uint16, word};
 use crate::rules::{part_at, read_glyphs, type_of};
+use crate::scope::put_set;
 use crate::subtables::{Sets, put_coverage, put_glyphs, put_offsets};
 use std::alloc::Global;
 
@@ -86,49 +91,49 @@ pub(crate) fn parts_of(gsub: &[u8], kind: usize, subtable: usize) -> Parts
     }
 }
 
-/// Whether a subtable has format 3.
-fn has_sets(gsub: &[u8], subtable: Option<usize>) -> bool
+/// Whether a subtable has a format from 1 to 3.
+fn has_format(gsub: &[u8], subtable: Option<usize>) -> bool
     requires near { IfSome subtable (λ at. at < 2 ^ 33) }
-    ensures { result ≡ the_sets gsub.now subtable }
+    ensures { result ≡ the_format gsub.now subtable }
 {
     match subtable {
-        Some(subtable) => word(gsub, subtable) == 3,
+        Some(subtable) => 0 < word(gsub, subtable) && word(gsub, subtable) < 4,
         None => false,
     }
 }
 
-/// Whether all subtables of a lookup have format 3.
-fn all_have_sets(gsub: &[u8], lookup: usize, kind: usize) -> bool
+/// Whether all subtables of a lookup have a format from 1 to 3.
+fn all_have_formats(gsub: &[u8], lookup: usize, kind: usize) -> bool
     requires near { lookup < 2 ^ 31 }
-    ensures { result ≡ the_sets_all gsub.now lookup kind (the_word gsub.now (lookup + 4)) }
+    ensures { result ≡ the_formats gsub.now lookup kind (the_word gsub.now (lookup + 4)) }
 {
     let count = word(gsub, lookup + 4);
     let mut all = true;
     for j in 0..count {
         let part = part_at(gsub, lookup, kind, j);
-        all = all && has_sets(gsub, part);
+        all = all && has_format(gsub, part);
     }
     all
 }
 
-/// Whether a lookup has contexts of sets of glyphs only.
+/// Whether a lookup has contexts, all of them of formats from 1 to 3.
 pub(crate) fn is_contextual(gsub: &[u8], lookup: usize) -> bool
     requires near { lookup < 2 ^ 31 }
     ensures { result ≡ the_contextual gsub.now lookup }
 {
     let kind = type_of(gsub, lookup);
-    (kind == 5 || kind == 6) && all_have_sets(gsub, lookup, kind)
+    (kind == 5 || kind == 6) && all_have_formats(gsub, lookup, kind)
 }
 
-/// The coverage tables of an array of offsets: their new offsets, and whether each has a kept glyph.
+/// The coverage tables of the positions of a part of a context: their offsets, and whether each has a glyph.
 #[derive(Drop)]
-struct Part {
-    offsets: Vec<usize>,
-    all_some: bool,
+pub(crate) struct Part {
+    pub(crate) offsets: Vec<usize>,
+    pub(crate) all_some: bool,
 }
 
 /// Whether a set has a glyph.
-fn is_some_glyph(glyphs: &[u16]) -> bool
+pub(crate) fn is_some_glyph(glyphs: &[u16]) -> bool
     ensures { result ≡ the_some_glyph glyphs.now }
 {
     !glyphs.is_empty()
@@ -164,35 +169,54 @@ pub(crate) struct Source<'t> {
     pub(crate) kept: &'t [u16],
 }
 
-/// Adds the coverage tables of an array of offsets, with the kept glyphs only.
-fn add_part(
+impl Part {
+    /// Returns a part without positions.
+    pub(crate) fn new(alloc: Global) -> Part
+        ensures offsets { result.offsets.items ≡ [] }
+        ensures some { result.all_some ≡ true }
+    {
+        Part {
+            offsets: Vec::new(alloc),
+            all_some: true,
+        }
+    }
+
+    /// Adds the coverage table of a position.
+    pub(crate) fn add(&mut self, alloc: Global, glyphs: &[u16], tables: &mut Sets) -> Result<()>
+        ensures added { OnOk result (AddsSets (glyphs.now ∷ []) self.old tables.old.bytes.items self.new tables.new.bytes.items) }
+        ensures why { IfErr result (λ e. (e ≡ errors.Memory) ⊎ (e ≡ errors.TooLarge)) }
+    {
+        self.all_some = both(self.all_some, is_some_glyph(glyphs));
+        let offset = add_coverage(alloc, glyphs, tables)?;
+        self.offsets.push(offset)?;
+        Ok(())
+    }
+}
+
+/// Returns the coverage tables of an array of offsets, with the kept glyphs only.
+fn part_of(
     alloc: Global,
     source: &Source<'_>,
     subtable: usize,
     array: usize,
     count: usize,
-    sets: &mut Sets,
+    tables: &mut Sets,
     limit: &mut u64,
 ) -> Result<Part>
     requires subtable { subtable < 2 ^ 33 }
     requires array { array < 2 ^ 35 }
     requires count { count < 65536 }
     requires few { length source.now.kept.now < 65536 }
-    ensures part { IfOk result (λ part. IsPart (sets_at source.now.gsub.now source.now.kept.now subtable array count) part sets.new.bytes.items) }
-    ensures more { OnOk result (Begins sets.old.bytes.items sets.new.bytes.items) }
+    ensures part { IfOk result (λ part. IsPart (sets_at source.now.gsub.now source.now.kept.now subtable array count) part tables.new.bytes.items) }
+    ensures more { OnOk result (Begins tables.old.bytes.items tables.new.bytes.items) }
     ensures spends { limit.new ≤ limit.old }
     ensures why { IfErr result (λ e. Fails limit.new e) }
 {
-    let mut part = Part {
-        offsets: Vec::new(alloc),
-        all_some: true,
-    };
+    let mut part = Part::new(alloc);
     for p in 0..count {
         let coverage = subtable + word(source.gsub, array + p * 2);
         let glyphs = covered_of(alloc, source.gsub, coverage, source.kept, limit)?;
-        part.all_some = both(part.all_some, is_some_glyph(&glyphs));
-        let offset = add_coverage(alloc, &glyphs, sets)?;
-        part.offsets.push(offset)?;
+        part.add(alloc, &glyphs, tables)?;
     }
     Ok(part)
 }
@@ -215,12 +239,12 @@ const MOST: usize = 32762;
 
 /// The coverage tables and the actions of a context.
 #[derive(Drop)]
-struct Made {
-    before: Part,
-    input: Part,
-    after: Part,
-    actions: Vec<u16>,
-    tables: Sets,
+pub(crate) struct Made {
+    pub(crate) before: Part,
+    pub(crate) input: Part,
+    pub(crate) after: Part,
+    pub(crate) actions: Vec<u16>,
+    pub(crate) tables: Sets,
 }
 
 /// Returns the offset of the first coverage table of a chained context, if it fits into two bytes.
@@ -241,7 +265,7 @@ fn base_of(made: &Made) -> Option<usize>
 
 /// Appends a chained context with `count` actions.
 #[tactic(auto, unfolding(crate::specs::Coverages::context_text))]
-fn put_context(out: &mut Vec<u8>, made: &Made, count: usize) -> Result<()>
+pub(crate) fn put_context(out: &mut Vec<u8>, made: &Made, count: usize) -> Result<()>
     requires count { length made.now.actions.items ≡ count * 2 }
     ensures done { OnOk result (PutsContext made.now count out.old.items out.new.items) }
     ensures why { IfErr result (λ e. (e ≡ errors.Memory) ⊎ (e ≡ errors.TooLarge)) }
@@ -260,7 +284,12 @@ fn put_context(out: &mut Vec<u8>, made: &Made, count: usize) -> Result<()>
 }
 
 /// Returns the actions of a context.
-fn actions_of(alloc: Global, gsub: &[u8], parts: Parts, limit: &mut u64) -> Result<Vec<u16>>
+pub(crate) fn actions_of(
+    alloc: Global,
+    gsub: &[u8],
+    parts: Parts,
+    limit: &mut u64,
+) -> Result<Vec<u16>>
     requires near { IsNear parts }
     ensures exact { IfOk result (λ actions. actions.items ≡ the_words gsub.now parts.actions_at (parts.actions * 2)) }
     ensures small { IfOk result (λ actions. All (λ number. number < 65536) actions.items) }
@@ -282,7 +311,7 @@ fn actions_of(alloc: Global, gsub: &[u8], parts: Parts, limit: &mut u64) -> Resu
 }
 
 /// Makes the context of a subtable, with the kept glyphs only.
-fn made_of(
+pub(crate) fn made_of(
     alloc: Global,
     source: &Source<'_>,
     subtable: usize,
@@ -297,7 +326,7 @@ fn made_of(
     ensures why { IfErr result (λ e. Fails limit.new e) }
 {
     let mut tables = Sets::new(alloc);
-    let before = add_part(
+    let before = part_of(
         alloc,
         source,
         subtable,
@@ -306,7 +335,7 @@ fn made_of(
         &mut tables,
         limit,
     )?;
-    let input = add_part(
+    let input = part_of(
         alloc,
         source,
         subtable,
@@ -315,7 +344,7 @@ fn made_of(
         &mut tables,
         limit,
     )?;
-    let after = add_part(
+    let after = part_of(
         alloc,
         source,
         subtable,
@@ -335,7 +364,7 @@ fn made_of(
 }
 
 /// Whether each set of a context has a glyph.
-fn can_apply(made: &Made) -> bool
+pub(crate) fn can_apply(made: &Made) -> bool
     ensures { result ≡ ((made.now.before.all_some && made.now.input.all_some) && made.now.after.all_some) }
 {
     both(
@@ -352,7 +381,46 @@ pub(crate) struct Contexts {
 }
 
 impl Contexts {
-    /// Adds the context of a subtable, if it can apply to kept glyphs.
+    /// Adds a context with `count` actions, if it can apply.
+    pub(crate) fn add_made(&mut self, made: &Made, count: usize) -> Result<()>
+        requires count { length made.now.actions.items ≡ count * 2 }
+        ensures added { OnOk result ((context : Context) → IsMade context made.now → AddsContexts (if_applies context) self.old self.new) }
+        ensures why { IfErr result (λ e. (e ≡ errors.Memory) ⊎ (e ≡ errors.TooLarge)) }
+    {
+        if !can_apply(made) {
+            return Ok(());
+        }
+        let offset = self.bytes.len();
+        if offset > 65535 {
+            return Err(Error::TooLarge);
+        }
+        put_context(&mut self.bytes, made, count)?;
+        self.offsets.push(offset)?;
+        Ok(())
+    }
+
+    /// Adds the context of a subtable of format 3, if it can apply to kept glyphs.
+    fn add_covered(
+        &mut self,
+        alloc: Global,
+        source: &Source<'_>,
+        kind: usize,
+        subtable: usize,
+        limit: &mut u64,
+    ) -> Result<()>
+        requires subtable { subtable < 2 ^ 33 }
+        requires few { length source.now.kept.now < 65536 }
+        ensures added { OnOk result (AddsContexts (if_applies (context_of source.now.gsub.now source.now.kept.now kind subtable)) self.old self.new) }
+        ensures spends { limit.new ≤ limit.old }
+        ensures why { IfErr result (λ e. Fails limit.new e) }
+    {
+        let parts = parts_of(source.gsub, kind, subtable);
+        let made = made_of(alloc, source, subtable, parts, limit)?;
+        self.add_made(&made, parts.actions)?;
+        Ok(())
+    }
+
+    /// Adds the contexts of a subtable that can apply to kept glyphs.
     fn add(
         &mut self,
         alloc: Global,
@@ -367,29 +435,29 @@ impl Contexts {
         ensures spends { limit.new ≤ limit.old }
         ensures why { IfErr result (λ e. Fails limit.new e) }
     {
-        let parts = parts_of(source.gsub, kind, subtable);
-        let made = made_of(alloc, source, subtable, parts, limit)?;
-        if !can_apply(&made) {
+        if word(source.gsub, subtable) == 3 {
+            self.add_covered(alloc, source, kind, subtable, limit)?;
             return Ok(());
         }
-        let offset = self.bytes.len();
-        put_context(&mut self.bytes, &made, parts.actions)?;
-        self.offsets.push(offset)?;
+        self.add_by_rules(alloc, source, kind, subtable, limit)?;
         Ok(())
     }
 }
 
-/// Collects the contexts of a lookup that can apply to kept glyphs.
+/// Collects the contexts of a lookup that can apply to kept glyphs, after its set of marks, if its new flag uses one.
 pub(crate) fn contexts_of(
     alloc: Global,
     source: &Source<'_>,
     lookup: usize,
     kind: usize,
+    flag: usize,
     limit: &mut u64,
 ) -> Result<Contexts>
     requires near { lookup < 2 ^ 31 }
     requires few { length source.now.kept.now < 65536 }
     ensures exact { IfOk result (λ contexts. HaveContexts (contexts_at source.now.gsub.now source.now.kept.now lookup kind) contexts.offsets.items contexts.bytes.items) }
+    ensures begins { IfOk result (λ contexts. Holds (mark_set_text flag (set_of source.now.gsub.now lookup)) contexts.bytes.items 0) }
+    ensures set { OnOk result (set_of source.now.gsub.now lookup < 65536) }
     ensures spends { limit.new ≤ limit.old }
     ensures why { IfErr result (λ e. Fails limit.new e) }
 {
@@ -397,6 +465,7 @@ pub(crate) fn contexts_of(
         offsets: Vec::new(alloc),
         bytes: Vec::new(alloc),
     };
+    put_set(&mut contexts.bytes, source.gsub, lookup, flag)?;
     let count = word(source.gsub, lookup + 4);
     for j in 0..count {
         pay(limit)?;

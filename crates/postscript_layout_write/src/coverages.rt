@@ -1,7 +1,7 @@
 //! The kept glyphs of coverage tables.
 ghost use Rattle.std.specs.Prelude.{◌≡◌, ◌⊎◌, ◌+◌, ◌*◌, ◌^◌, ◌<◌, ◌≤◌, ◌||◌, ℕ, false, length, slice_index_or, IfErr, IfOk};
 ghost use Rattle.postscript_layout.specs.Numbers.{word as the_word};
-ghost use Rattle.postscript_layout_write.specs.Contexts.{covered_of as the_covered};
+ghost use Rattle.postscript_layout_write.specs.Sequences.{covered_of as the_covered};
 ghost use Rattle.postscript_layout_write.specs.Coverages.{AreCovered, AreListed, AreMarked, AreRanged, is_between};
 ghost use Rattle.postscript_layout_write.specs.Refusals.{IsUsedUp};
 ghost use Rattle.postscript_layout_write.specs.declared.error.Error.TheVariants as errors;

@@ -97,7 +97,7 @@ fn text_of(
     ensures why { IfErr result (λ e. Fails limit.new e) }
 {
     let cells = cells_of(alloc, gpos, ligature, classes, limit)?;
-    let text = array_of(alloc, word(gpos, ligature) as u16, &cells)?;
+    let text = array_of(alloc, 0, word(gpos, ligature) as u16, &cells)?;
     Ok(text)
 }
 

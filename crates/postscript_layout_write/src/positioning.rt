@@ -1,4 +1,4 @@
-//! Writes a `GPOS` table with pair adjustments, and with marks.
+//! Writes a `GPOS` table with adjustments of pairs and of single glyphs, cursive attachment, marks, and contexts.
 ghost use Rattle.std.specs.Prelude.{◌≡◌, ◌⊎◌, true, false, ◌%◌, ◌^◌, ◌<◌, ◌≤◌, ◌&&◌, ◌++◌, length, slice_range, IfErr, IfOk, OnOk};
 ghost use Rattle.postscript_layout_write.specs.Flags.{KeepsFlaggedPositions, set_of};
 ghost use Rattle.postscript_layout_write.specs.Kerning.{KeepsKerning};
@@ -6,7 +6,7 @@ ghost use Rattle.postscript_layout_write.specs.Lookups.{AddsForms, AddsPosition,
 ghost use Rattle.postscript_layout_write.specs.Pairs.{lookups_of};
 ghost use Rattle.postscript_layout_write.specs.Positions.{KeepsPositions};
 ghost use Rattle.postscript_layout_write.specs.Refusals.{Fails, IsUsedUp, Refuses};
-ghost use Rattle.postscript_layout_write.specs.Scopes.{new_pair, takes_marks as the_taking};
+ghost use Rattle.postscript_layout_write.specs.Scopes.{new_pair, takes_contexts as the_contexts, takes_type as the_taking};
 ghost use Rattle.postscript_layout_write.specs.Sets.{AddsSubtable};
 ghost use Rattle.postscript_layout_write.specs.Text.{front_text, uint16 as the_uint16};
 ghost use Rattle.postscript_layout_write.specs.declared.error.Error.TheVariants as errors;
@@ -14,11 +14,12 @@ ghost use Rattle.postscript_layout_write.specs.declared.error.Error.TheVariants 
 use crate::entries::{Entry, Form, entries_of};
 use crate::error::{Error, Result};
 use crate::limit::pay;
-use crate::marks::{has_marks, keeps_marks, put_marks};
 use crate::numbers::{put_uint16, word};
+use crate::position_contexts::{has_contexts, keeps_contexts};
 use crate::scope::{Scope, new_flag, put_set};
 use crate::script_lists::lists_end;
 use crate::subtables::{Sets, put_offsets, put_subtable};
+use crate::typed::{has_kept_type, keeps_type, put_typed};
 use std::alloc::{AllocError, Global};
 
 /// The pairs of a lookup in each form.
@@ -124,8 +125,8 @@ fn put_lookup(
     Ok(())
 }
 
-/// Whether a lookup is written with its marks.
-fn takes_marks(gpos: &[u8], lookup: usize, scope: Scope, limit: &mut u64) -> Result<bool>
+/// Whether a lookup is written with its type and a subtable for each old one.
+fn takes_type(gpos: &[u8], lookup: usize, scope: Scope, limit: &mut u64) -> Result<bool>
     requires near { lookup < 2 ^ 31 }
     ensures exact { IfOk result (λ takes. takes ≡ the_taking scope gpos.now lookup) }
     ensures spends { limit.new ≤ limit.old }
@@ -134,17 +135,37 @@ fn takes_marks(gpos: &[u8], lookup: usize, scope: Scope, limit: &mut u64) -> Res
     match scope {
         Scope::Pairs => Ok(false),
         Scope::Marks => {
-            let takes = keeps_marks(gpos, lookup, limit)?;
+            let takes = keeps_type(gpos, lookup, limit)?;
             Ok(takes)
         }
         Scope::Flags => {
-            let takes = has_marks(gpos, lookup, limit)?;
+            let takes = has_kept_type(gpos, lookup, limit)?;
             Ok(takes)
         }
     }
 }
 
-/// Appends a lookup: one that attaches marks, if it is written with its marks, or else one of pair adjustments.
+/// Whether a lookup is written with its contexts.
+fn takes_contexts(gpos: &[u8], lookup: usize, scope: Scope, limit: &mut u64) -> Result<bool>
+    requires near { lookup < 2 ^ 31 }
+    ensures exact { IfOk result (λ takes. takes ≡ the_contexts scope gpos.now lookup) }
+    ensures spends { limit.new ≤ limit.old }
+    ensures why { IfErr result (λ e. IsUsedUp limit.new e) }
+{
+    match scope {
+        Scope::Pairs => Ok(false),
+        Scope::Marks => {
+            let takes = keeps_contexts(gpos, lookup, limit)?;
+            Ok(takes)
+        }
+        Scope::Flags => {
+            let takes = has_contexts(gpos, lookup, limit)?;
+            Ok(takes)
+        }
+    }
+}
+
+/// Appends a lookup: one with its contexts, or one with its type, if all of its subtables are kept, or else one of pair adjustments.
 fn put_any(
     alloc: Global,
     out: &mut Vec<u8>,
@@ -160,10 +181,11 @@ fn put_any(
     ensures spends { limit.new ≤ limit.old }
     ensures why { IfErr result (λ e. Fails limit.new e) }
 {
-    let attaching = takes_marks(gpos, lookup, scope, limit)?;
+    let typed = takes_type(gpos, lookup, scope, limit)?;
+    let contextual = takes_contexts(gpos, lookup, scope, limit)?;
     let flag = new_flag(scope, word(gpos, lookup + 2));
-    if attaching {
-        put_marks(alloc, out, gpos, lookup, flag, kept, limit)?;
+    if typed || contextual {
+        put_typed(alloc, out, gpos, lookup, flag, kept, limit)?;
         return Ok(());
     }
     let forms = forms_of(alloc, gpos, lookup, scope, kept, limit)?;
@@ -302,17 +324,19 @@ pub fn kerning(alloc: Global, gpos: &[u8], kept: &[u16], limit: &mut u64) -> Res
     Ok(new)
 }
 
-/// Returns a `GPOS` table with the pair adjustments and the marks of the kept glyphs.
+/// Returns a `GPOS` table with the adjustments, the cursive attachment, the marks and the contexts of the kept glyphs.
 ///
 /// `kept` has the old numbers of the glyphs. The new number of a glyph is its index there. The new table has version 1.0,
 /// the script list and the feature list of the old one, and as many lookups in the same order. Lookups of pair
-/// adjustments are kept as by `kerning`. A lookup that attaches marks to bases, to ligatures or to other marks (types 4 to
-/// 6, also by extensions) keeps its type, and has a subtable for each old one. All other lookups have no subtables, and
-/// neither has a lookup with a flag above bit 3.
+/// adjustments are kept as by `kerning`. A lookup of single adjustments (type 1), of cursive attachment (type 3), or of
+/// marks on bases, on ligatures or on other marks (types 4 to 6) keeps its type, also by extensions. It has a subtable for
+/// each old one. A lookup of contexts (types 7 and 8) whose subtables all have format 3 keeps the contexts
+/// whose sets of glyphs all have kept glyphs, as a lookup of type 8. All other lookups have no subtables, and neither has a
+/// lookup with a flag above bit 3.
 ///
-/// Units of the limit are paid as by `kerning`. In a lookup of marks, two units are paid for each kept glyph in a subtable.
-/// One is paid for each subtable, each class of marks of a base or of a component, and each covered glyph and range that
-/// is looked at.
+/// Units of the limit are paid as by `kerning`. One unit is paid for each kept glyph in a subtable of single adjustments or
+/// of cursive attachment, and two in a subtable of marks. One is paid for each subtable, each class of marks of a base or
+/// of a component, and each covered glyph and range that is looked at. In contexts, 1,000 are paid for each coverage table.
 ///
 /// # Errors
 ///
@@ -322,7 +346,7 @@ pub fn kerning(alloc: Global, gpos: &[u8], kept: &[u16], limit: &mut u64) -> Res
 /// - `TooLong`: the table costs more than the limit.
 /// - `Memory`: out of memory.
 pub fn positions(alloc: Global, gpos: &[u8], kept: &[u16], limit: &mut u64) -> Result<Vec<u8>>
-    // Each lookup adjusts the kept glyphs and attaches kept marks as before, for the same scripts and features.
+    // Each lookup positions the kept glyphs as before, in the same contexts, for the same scripts and features.
     ensures kept { IfOk result (λ new. KeepsPositions gpos.now kept.now new.items) }
     // The limit never grows.
     ensures spends { limit.new ≤ limit.old }
@@ -333,8 +357,8 @@ pub fn positions(alloc: Global, gpos: &[u8], kept: &[u16], limit: &mut u64) -> R
     Ok(new)
 }
 
-/// Returns a `GPOS` table with the pair adjustments and the marks of the kept glyphs, also in lookups that use classes or
-/// sets of marks.
+/// Returns a `GPOS` table with the adjustments, the cursive attachment, the marks and the contexts of the kept glyphs, also
+/// in lookups that use classes or sets of marks.
 ///
 /// The table is as by `positions`, but each lookup has its whole flag, and the index of its set of marks, if it uses one.
 /// So the new font needs a `GDEF` table with the same classes and sets of marks.
@@ -354,7 +378,7 @@ pub fn flagged_positions(
     kept: &[u16],
     limit: &mut u64,
 ) -> Result<Vec<u8>>
-    // Each lookup has its flag, and adjusts the kept glyphs and attaches kept marks as before, for the same features.
+    // Each lookup has its flag, and positions the kept glyphs as before, in the same contexts.
     ensures kept { IfOk result (λ new. KeepsFlaggedPositions gpos.now kept.now new.items) }
     // The limit never grows.
     ensures spends { limit.new ≤ limit.old }

@@ -39,7 +39,7 @@ pub(crate) fn new_flag(scope: Scope, flag: usize) -> usize
 }
 
 /// Whether a lookup with a flag uses a set of marks.
-fn uses_set(flag: usize) -> bool
+pub(crate) fn uses_set(flag: usize) -> bool
     ensures { result ≡ the_use flag }
 {
     flag / 16 % 2 == 1

@@ -1,12 +1,13 @@
 //! Writes a `GSUB` table.
-ghost use Rattle.std.specs.Prelude.{◌≡◌, ◌⊎◌, ◌%◌, ◌^◌, ◌<◌, ◌≤◌, ◌++◌, [], true, length, slice_index, IfErr, IfOk, OnOk, if◌then◌else◌};
+ghost use Rattle.std.specs.Prelude.{◌≡◌, ◌⊎◌, ◌^◌, ◌<◌, ◌≤◌, ◌++◌, [], length, IfErr, IfOk, OnOk, if◌then◌else◌};
+ghost use Rattle.postscript_layout_write.specs.Flags.{set_of};
 ghost use Rattle.postscript_layout_write.specs.Pairs.{lookups_of};
 ghost use Rattle.postscript_layout_write.specs.Refusals.{Fails, Refuses};
-ghost use Rattle.postscript_layout_write.specs.Renumbering.{AreNumbers, kept_rules};
+ghost use Rattle.postscript_layout_write.specs.Renumbering.{AreNumbers};
 ghost use Rattle.postscript_layout_write.specs.RuleLookups.{HasRuleLookups, PutsContexts, PutsNext, PutsOwnRules, PutsRuleList, new_type as the_type};
-ghost use Rattle.postscript_layout_write.specs.RuleSets.{AreRuleSets, PutsRules, rule_head_text};
-ghost use Rattle.postscript_layout_write.specs.Rules.{rules_of_type, type_at};
-ghost use Rattle.postscript_layout_write.specs.Substituting.{KeepsSubstitutions, is_chosen as the_chosen, is_kept as the_kept, keeps as the_keeps, keeps_contexts as the_keeps_contexts, rules_at};
+ghost use Rattle.postscript_layout_write.specs.RuleSets.{AreRuleSets, AreSmall, PutsRules, bare_text, rule_front_text, rule_head_text, subtable_offset as the_offset};
+ghost use Rattle.postscript_layout_write.specs.Rules.{type_at};
+ghost use Rattle.postscript_layout_write.specs.Substituting.{KeepsFlaggedSubstitutions, KeepsRules, KeepsSubstitutions, is_chosen as the_chosen, is_kept as the_kept, is_taken as the_taken, keeps as the_keeps, keeps_contexts as the_keeps_contexts, new_flag as the_flag, rules_at, takes_flag as the_taking};
 ghost use Rattle.postscript_layout_write.specs.declared.error.Error.TheVariants as errors;
 
 use crate::contexts::{Source, contexts_of, is_contextual, put_chained};
@@ -17,6 +18,7 @@ use crate::positioning::put_front;
 use crate::renumbering::new_numbers;
 use crate::rule_sets::put_rules;
 use crate::rules::{new_rules, type_of};
+use crate::scope::{put_set, uses_set};
 use crate::script_lists::lists_end;
 use crate::subtables::{Sets, put_offsets};
 use std::alloc::{AllocError, Global};
@@ -86,17 +88,42 @@ pub(crate) fn is_chosen(lookups: &[u16], i: usize) -> bool
     false
 }
 
-/// Whether a lookup keeps its rules: it is chosen, its type is kept, and it uses no classes or sets of marks.
-fn keeps(gsub: &[u8], lookup: usize, lookups: &[u16], i: usize) -> bool
-    requires near { lookup < 2 ^ 31 }
-    ensures { result ≡ the_keeps gsub.now lookups.now i lookup }
+/// Whether lookups with a flag are kept. A flag above 15 selects classes or sets of marks.
+pub(crate) fn takes_flag(whole: bool, flag: usize) -> bool
+    ensures { result ≡ the_taking whole flag }
 {
-    is_kept(type_of(gsub, lookup)) && word(gsub, lookup + 2) < 16 && is_chosen(lookups, i)
+    whole || flag < 16
+}
+
+/// Returns the flag that is written: the whole flag, or its lowest four bits.
+fn new_flag(whole: bool, flag: usize) -> usize
+    requires { flag < 65536 }
+    ensures exact { result ≡ the_flag whole flag }
+    ensures small { result < 65536 }
+{
+    if whole { flag } else { flag % 16 }
+}
+
+/// Whether a lookup is taken: it is chosen, and lookups with its flag are kept.
+fn is_taken(whole: bool, gsub: &[u8], lookup: usize, lookups: &[u16], i: usize) -> bool
+    requires near { lookup < 2 ^ 31 }
+    ensures { result ≡ the_taken whole gsub.now lookups.now i lookup }
+{
+    takes_flag(whole, word(gsub, lookup + 2)) && is_chosen(lookups, i)
+}
+
+/// Whether a lookup keeps its rules: its type is kept, and it is taken.
+fn keeps(whole: bool, gsub: &[u8], lookup: usize, lookups: &[u16], i: usize) -> bool
+    requires near { lookup < 2 ^ 31 }
+    ensures { result ≡ the_keeps whole gsub.now lookups.now i lookup }
+{
+    is_kept(type_of(gsub, lookup)) && is_taken(whole, gsub, lookup, lookups, i)
 }
 
 /// Collects the rules of a lookup that keeps them.
 fn kept_sets(
     alloc: Global,
+    whole: bool,
     gsub: &[u8],
     lookup: usize,
     lookups: &[u16],
@@ -108,11 +135,11 @@ fn kept_sets(
     requires near { lookup < 2 ^ 31 }
     requires small { length kept.now < 65536 }
     requires exact { AreNumbers kept.now numbers.now }
-    ensures exact { IfOk result (λ sets. AreRuleSets (the_type gsub.now lookup) (λ x. if the_keeps gsub.now lookups.now i lookup then rules_at gsub.now kept.now lookup x else []) (length kept.now) sets.firsts.items sets.offsets.items sets.bytes.items) }
+    ensures exact { IfOk result (λ sets. AreRuleSets (the_type gsub.now lookup) (λ x. if the_keeps whole gsub.now lookups.now i lookup then rules_at gsub.now kept.now lookup x else []) (length kept.now) sets.firsts.items sets.offsets.items sets.bytes.items) }
     ensures spends { limit.new ≤ limit.old }
     ensures why { IfErr result (λ e. Fails limit.new e) }
 {
-    if keeps(gsub, lookup, lookups, i) {
+    if keeps(whole, gsub, lookup, lookups, i) {
         let kind = type_of(gsub, lookup);
         let sets = sets_of(alloc, gsub, lookup, kind, kept, numbers, limit)?;
         Ok(sets)
@@ -138,34 +165,83 @@ pub(crate) fn put_head(
     put_uint16(out, count)
 }
 
+/// Returns the offset of the subtable of a lookup with one subtable: after the set of marks, if the flag uses one.
+fn subtable_offset(flag: usize) -> u16
+    ensures { result ≡ the_offset flag }
+{
+    if uses_set(flag) { 10 } else { 8 }
+}
+
+/// Appends the header of a lookup with no subtables, and its set of marks.
+#[tactic(auto, unfolding(crate::specs::RuleSets::bare_text))]
+fn put_bare(
+    out: &mut Vec<u8>,
+    gsub: &[u8],
+    lookup: usize,
+    kind: u16,
+    flag: u16,
+) -> std::result::Result<(), AllocError>
+    requires near { lookup < 2 ^ 31 }
+    ensures text { OnOk result (out.new.items ≡ out.old.items ++ bare_text kind flag (set_of gsub.now lookup)) }
+    ensures small { OnOk result (AreSmall kind flag (set_of gsub.now lookup)) }
+{
+    put_head(out, kind, flag, 0)?;
+    put_set(out, gsub, lookup, flag as usize)
+}
+
+/// Appends the header of a lookup with one subtable, and its set of marks.
+#[tactic(auto, unfolding(crate::specs::RuleSets::rule_front_text))]
+fn put_begin(
+    out: &mut Vec<u8>,
+    gsub: &[u8],
+    lookup: usize,
+    kind: u16,
+    flag: u16,
+) -> std::result::Result<(), AllocError>
+    requires near { lookup < 2 ^ 31 }
+    ensures text { OnOk result (out.new.items ≡ out.old.items ++ rule_front_text kind flag (set_of gsub.now lookup)) }
+    ensures small { OnOk result (AreSmall kind flag (set_of gsub.now lookup)) }
+{
+    put_head(out, kind, flag, 1)?;
+    put_uint16(out, subtable_offset(flag as usize))?;
+    put_set(out, gsub, lookup, flag as usize)
+}
+
 /// Appends a lookup with one subtable, or with none if there are no rules.
-fn put_lookup(out: &mut Vec<u8>, kind: u16, flag: u16, sets: &Sets) -> Result<()>
-    ensures done { OnOk result (PutsRules kind flag sets.now.firsts.items sets.now.offsets.items sets.now.bytes.items out.old.items out.new.items) }
+fn put_lookup(
+    out: &mut Vec<u8>,
+    gsub: &[u8],
+    lookup: usize,
+    kind: u16,
+    flag: u16,
+    sets: &Sets,
+) -> Result<()>
+    requires near { lookup < 2 ^ 31 }
+    ensures done { OnOk result (PutsRules kind flag (set_of gsub.now lookup) sets.now.firsts.items sets.now.offsets.items sets.now.bytes.items out.old.items out.new.items) }
     ensures why { IfErr result (λ e. (e ≡ errors.Memory) ⊎ (e ≡ errors.TooLarge)) }
 {
     if sets.firsts.is_empty() {
-        put_head(out, kind, flag, 0)?;
+        put_bare(out, gsub, lookup, kind, flag)?;
         return Ok(());
     }
-    put_head(out, kind, flag, 1)?;
-    put_uint16(out, 8)?;
+    put_begin(out, gsub, lookup, kind, flag)?;
     put_rules(out, kind as usize, sets)?;
     Ok(())
 }
 
-/// Whether a lookup keeps its contexts: it is chosen, they are contexts of sets of glyphs, and it uses no classes or sets of
-/// marks.
-fn keeps_contexts(gsub: &[u8], lookup: usize, lookups: &[u16], i: usize) -> bool
+/// Whether a lookup keeps its contexts: all of its subtables have contexts, and it is taken.
+fn keeps_contexts(whole: bool, gsub: &[u8], lookup: usize, lookups: &[u16], i: usize) -> bool
     requires near { lookup < 2 ^ 31 }
-    ensures { result ≡ the_keeps_contexts gsub.now lookups.now i lookup }
+    ensures { result ≡ the_keeps_contexts whole gsub.now lookups.now i lookup }
 {
-    is_contextual(gsub, lookup) && word(gsub, lookup + 2) < 16 && is_chosen(lookups, i)
+    is_contextual(gsub, lookup) && is_taken(whole, gsub, lookup, lookups, i)
 }
 
 /// Appends a lookup with its contexts.
 fn put_contexts(
     alloc: Global,
     bytes: &mut Vec<u8>,
+    whole: bool,
     gsub: &[u8],
     lookup: usize,
     kept: &[u16],
@@ -173,13 +249,13 @@ fn put_contexts(
 ) -> Result<()>
     requires near { lookup < 2 ^ 31 }
     requires small { length kept.now < 65536 }
-    ensures done { OnOk result (PutsContexts gsub.now kept.now lookup bytes.old.items bytes.new.items) }
+    ensures done { OnOk result (PutsContexts whole gsub.now kept.now lookup bytes.old.items bytes.new.items) }
     ensures spends { limit.new ≤ limit.old }
     ensures why { IfErr result (λ e. Fails limit.new e) }
 {
     let source = Source { gsub, kept };
-    let contexts = contexts_of(alloc, &source, lookup, type_of(gsub, lookup), limit)?;
-    let flag = word(gsub, lookup + 2) % 16;
+    let flag = new_flag(whole, word(gsub, lookup + 2));
+    let contexts = contexts_of(alloc, &source, lookup, type_of(gsub, lookup), flag, limit)?;
     put_chained(bytes, flag as u16, &contexts)?;
     Ok(())
 }
@@ -188,6 +264,7 @@ fn put_contexts(
 fn put_own_rules(
     alloc: Global,
     bytes: &mut Vec<u8>,
+    whole: bool,
     gsub: &[u8],
     lookup: usize,
     lookups: &[u16],
@@ -199,14 +276,14 @@ fn put_own_rules(
     requires near { lookup < 2 ^ 31 }
     requires small { length kept.now < 65536 }
     requires exact { AreNumbers kept.now numbers.now }
-    ensures done { OnOk result (PutsOwnRules gsub.now lookups.now kept.now lookup i bytes.old.items bytes.new.items) }
+    ensures done { OnOk result (PutsOwnRules whole gsub.now lookups.now kept.now lookup i bytes.old.items bytes.new.items) }
     ensures spends { limit.new ≤ limit.old }
     ensures why { IfErr result (λ e. Fails limit.new e) }
 {
-    let sets = kept_sets(alloc, gsub, lookup, lookups, i, kept, numbers, limit)?;
+    let sets = kept_sets(alloc, whole, gsub, lookup, lookups, i, kept, numbers, limit)?;
     let kind = new_type(gsub, lookup);
-    let flag = word(gsub, lookup + 2) % 16;
-    put_lookup(bytes, kind as u16, flag as u16, &sets)?;
+    let flag = new_flag(whole, word(gsub, lookup + 2));
+    put_lookup(bytes, gsub, lookup, kind as u16, flag as u16, &sets)?;
     Ok(())
 }
 
@@ -214,6 +291,7 @@ fn put_own_rules(
 fn put_next(
     alloc: Global,
     bytes: &mut Vec<u8>,
+    whole: bool,
     gsub: &[u8],
     lookup: usize,
     lookups: &[u16],
@@ -225,15 +303,17 @@ fn put_next(
     requires near { lookup < 2 ^ 31 }
     requires small { length kept.now < 65536 }
     requires exact { AreNumbers kept.now numbers.now }
-    ensures done { OnOk result (PutsNext gsub.now lookups.now kept.now lookup i bytes.old.items bytes.new.items) }
+    ensures done { OnOk result (PutsNext whole gsub.now lookups.now kept.now lookup i bytes.old.items bytes.new.items) }
     ensures spends { limit.new ≤ limit.old }
     ensures why { IfErr result (λ e. Fails limit.new e) }
 {
     pay_all(limit, word(gsub, lookup + 4))?;
-    if keeps_contexts(gsub, lookup, lookups, i) {
-        put_contexts(alloc, bytes, gsub, lookup, kept, limit)?;
+    if keeps_contexts(whole, gsub, lookup, lookups, i) {
+        put_contexts(alloc, bytes, whole, gsub, lookup, kept, limit)?;
     } else {
-        put_own_rules(alloc, bytes, gsub, lookup, lookups, i, kept, numbers, limit)?;
+        put_own_rules(
+            alloc, bytes, whole, gsub, lookup, lookups, i, kept, numbers, limit,
+        )?;
     }
     Ok(())
 }
@@ -243,6 +323,7 @@ fn put_each(
     alloc: Global,
     bytes: &mut Vec<u8>,
     offsets: &mut Vec<usize>,
+    whole: bool,
     gsub: &[u8],
     lookups: &[u16],
     kept: &[u16],
@@ -253,7 +334,7 @@ fn put_each(
     requires offsets { length offsets.old.items ≡ 0 }
     requires small { length kept.now < 65536 }
     requires exact { AreNumbers kept.now numbers.now }
-    ensures done { OnOk result (HasRuleLookups gsub.now lookups.now kept.now (lookups_of gsub.now) offsets.new.items bytes.new.items) }
+    ensures done { OnOk result (HasRuleLookups whole gsub.now lookups.now kept.now (lookups_of gsub.now) offsets.new.items bytes.new.items) }
     ensures spends { limit.new ≤ limit.old }
     ensures why { IfErr result (λ e. Fails limit.new e) }
 {
@@ -267,7 +348,9 @@ fn put_each(
             return Err(Error::TooLarge);
         }
         offsets.push(bytes.len())?;
-        put_next(alloc, bytes, gsub, lookup, lookups, i, kept, numbers, limit)?;
+        put_next(
+            alloc, bytes, whole, gsub, lookup, lookups, i, kept, numbers, limit,
+        )?;
     }
     Ok(())
 }
@@ -277,13 +360,14 @@ fn put_each(
 fn put_list(
     alloc: Global,
     out: &mut Vec<u8>,
+    whole: bool,
     gsub: &[u8],
     lookups: &[u16],
     kept: &[u16],
     limit: &mut u64,
 ) -> Result<()>
     requires small { length kept.now < 65536 }
-    ensures done { OnOk result (PutsRuleList gsub.now lookups.now kept.now out.old.items out.new.items) }
+    ensures done { OnOk result (PutsRuleList whole gsub.now lookups.now kept.now out.old.items out.new.items) }
     ensures spends { limit.new ≤ limit.old }
     ensures why { IfErr result (λ e. Fails limit.new e) }
 {
@@ -294,6 +378,7 @@ fn put_list(
         alloc,
         &mut bytes,
         &mut offsets,
+        whole,
         gsub,
         lookups,
         kept,
@@ -310,18 +395,47 @@ fn put_list(
     Ok(())
 }
 
+/// Returns a `GSUB` table with the rules and the contexts of chosen lookups, with or without whole flags.
+fn written(
+    alloc: Global,
+    whole: bool,
+    gsub: &[u8],
+    lookups: &[u16],
+    kept: &[u16],
+    limit: &mut u64,
+) -> Result<Vec<u8>>
+    ensures kept { IfOk result (λ new. KeepsRules whole gsub.now lookups.now kept.now new.items) }
+    ensures spends { limit.new ≤ limit.old }
+    ensures why { IfErr result (λ e. Refuses e gsub.now limit.new) }
+{
+    if kept.len() > 65535 {
+        return Err(Error::TooLarge);
+    }
+    let end = lists_end(gsub, limit)?;
+    if end > 65535 || end > gsub.len() {
+        return Err(Error::ListsTooLong);
+    }
+    let mut out = Vec::new(alloc);
+    put_front(&mut out, gsub, end)?;
+    put_list(alloc, &mut out, whole, gsub, lookups, kept, limit)?;
+    Ok(out)
+}
+
 /// Returns a `GSUB` table with the substitutions of chosen lookups for the kept glyphs.
 ///
 /// `kept` has the old numbers of the glyphs. The new number of a glyph is its first index there. `lookups` has the indices
 /// of the chosen lookups, in any order. The new table has version 1.0, the script list and the feature list of the old one,
 /// and as many lookups in the same order. A chosen lookup of type 1 to 4, also by extensions, keeps the rules whose glyphs
 /// are all kept: single, multiple, alternate and ligature substitutions. A chosen lookup of type 5 or 6 whose subtables all
-/// have format 3 keeps the contexts whose sets of glyphs all have kept glyphs, as a lookup of type 6. All other lookups have
-/// no subtables, and neither has a lookup with a flag above bit 3.
+/// have format 1, 2 or 3 keeps the contexts whose sets of glyphs all have kept glyphs. It is written as a lookup of type 6,
+/// with contexts by sets of glyphs (format 3). All other lookups have no subtables, and neither has a lookup with a flag
+/// above bit 3.
 ///
 /// One unit of the limit is paid for each language system, script, feature and lookup, and for each chosen lookup with which
 /// a lookup is compared. One more is paid for each kept glyph in each lookup that is kept, and for each subtable, covered
-/// glyph, range, ligature and glyph of a rule that is looked at. In contexts, 1,000 are paid for each coverage table.
+/// glyph, range, ligature and glyph of a rule that is looked at. In contexts, 1,000 are paid for each coverage table. In
+/// contexts by glyphs and by classes, one is paid for each set of rules and each rule. Four are paid for each kept glyph in
+/// a subtable, and one for each kept glyph in a set of rules and in a position.
 ///
 /// # Errors
 ///
@@ -344,15 +458,40 @@ pub fn substitutions(
     // `TooLong` leaves nothing of the limit. `ListsTooLong` means that the lists do not end in time.
     ensures why { IfErr result (λ e. Refuses e gsub.now limit.new) }
 {
-    if kept.len() > 65535 {
-        return Err(Error::TooLarge);
-    }
-    let end = lists_end(gsub, limit)?;
-    if end > 65535 || end > gsub.len() {
-        return Err(Error::ListsTooLong);
-    }
-    let mut out = Vec::new(alloc);
-    put_front(&mut out, gsub, end)?;
-    put_list(alloc, &mut out, gsub, lookups, kept, limit)?;
-    Ok(out)
+    let new = written(alloc, false, gsub, lookups, kept, limit)?;
+    Ok(new)
+}
+
+/// Returns a `GSUB` table with the substitutions of chosen lookups for the kept glyphs, also of lookups that use classes or
+/// sets of marks.
+///
+/// The table is as by `substitutions`, but lookups with any flag are kept. Each lookup has its whole flag, and the index of
+/// its set of marks, if it uses one. So the new font needs a `GDEF` table with the same classes and sets of marks
+/// ([`glyph_definitions`](crate::glyph_definitions)).
+///
+/// Units of the limit are paid as by `substitutions`.
+///
+/// # Errors
+///
+/// - `ListsTooLong`: the script list and the feature list, with the tables that they name, do not end within the table,
+///   or within its first 65,535 bytes.
+/// - `TooLarge`: an offset or a count would exceed 16 bits.
+/// - `TooLong`: the table costs more than the limit.
+/// - `Memory`: out of memory.
+pub fn flagged_substitutions(
+    alloc: Global,
+    gsub: &[u8],
+    lookups: &[u16],
+    kept: &[u16],
+    limit: &mut u64,
+) -> Result<Vec<u8>>
+    // Each chosen lookup has its flag, and substitutes kept glyphs in the same contexts, for the same features.
+    ensures kept { IfOk result (λ new. KeepsFlaggedSubstitutions gsub.now lookups.now kept.now new.items) }
+    // The limit never grows.
+    ensures spends { limit.new ≤ limit.old }
+    // `TooLong` leaves nothing of the limit. `ListsTooLong` means that the lists do not end in time.
+    ensures why { IfErr result (λ e. Refuses e gsub.now limit.new) }
+{
+    let new = written(alloc, true, gsub, lookups, kept, limit)?;
+    Ok(new)
 }

@@ -67,7 +67,7 @@ fn value(table: &[u8], at: usize, format: usize, k: usize) -> u16
 }
 
 /// Returns the four numbers of a value record.
-fn values_at(table: &[u8], at: usize, format: usize) -> Values
+pub(crate) fn values_at(table: &[u8], at: usize, format: usize) -> Values
     requires near { at < 2 ^ 39 + 64 }
     ensures { result ≡ the_values table.now at format }
 {

@@ -1,4 +1,4 @@
-use Rattle.std.proofs.Common.{◌≡◌, ◌<◌, ◌≤◌, ◌∙◌, subst, get_or, ℕ, length, arith, rules}
+use Rattle.std.proofs.Common.{◌≡◌, ◌<◌, ◌≤◌, ◌∙◌, subst, get_or, length, arith, rules}
 use Rattle.postscript_layout_write.specs.Calls.{Calls}
 use Rattle.postscript_layout_write.specs.Reaching.{AddsOnly}
 use Rattle.postscript_layout_write.proofs.Reading.{any-default}

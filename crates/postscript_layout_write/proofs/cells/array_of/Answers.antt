@@ -11,9 +11,9 @@ loop-cell-preserved c = record {
   many = (let many = c.loop-cell.invariant.many in let long = ap length c.in_ok-push.ensures.items in
       omega (arith, many, long, length-append c.loop-cell.numbers.items (c.in_ok-number.number ∷ [])));
   each = subst (λ (xs : List ℕ). (k : ℕ) → k < c.loop-cell.cell-index + 1 →
-      IsCell (2 + length c.args.cells.now * 2) c.number_of.new.pool.bytes.items (slice_index_or c.args.cells.now k no_cell) (slice_index xs k))
+      IsCell (c.args.lead + (2 + length c.args.cells.now * 2)) c.number_of.new.pool.bytes.items (slice_index_or c.args.cells.now k no_cell) (slice_index xs k))
       (sym c.in_ok-push.ensures.items)
-      (cells-more (2 + length c.args.cells.now * 2) c.args.cells.now c.loop-cell.cell-index c.loop-cell.numbers.items c.in_ok-number.number
+      (cells-more (c.args.lead + (2 + length c.args.cells.now * 2)) c.args.cells.now c.loop-cell.cell-index c.loop-cell.numbers.items c.in_ok-number.number
       c.loop-cell.pool.bytes.items c.number_of.new.pool.bytes.items c.loop-cell.invariant.many c.loop-cell.invariant.each c.in_ok-number.ensures.done);
 }
 
@@ -23,7 +23,7 @@ returns-clause-text c =
     let pool = c.loop-cell.pool.bytes.items in
     let cells = c.args.cells.now in
     let all : c.loop-cell.cell-index ≡ length cells = omega arith in
-    cells-made c.args.count cells numbers pool _ (omega arith) (c.loop-cell.invariant.many ∙ all)
+    cells-made c.args.lead c.args.count cells numbers pool _ (omega arith) (c.loop-cell.invariant.many ∙ all)
     (λ k less. c.loop-cell.invariant.each k (omega (arith, all, less)))
     (c.in_ok-extend_from_slice.ensures.items
     ∙ ap (λ (xs : List ℕ). xs ++ c.deref-2.result.now) (c.in_ok-put_glyphs.ensures.text

@@ -1,9 +1,14 @@
-use Rattle.std.proofs.Common.{◌≡◌, ◌+◌, ◌∙◌, ◌++◌, [], ap, sym, subst, append-nil, List, ℕ, arith}
-use Rattle.std.specs.Prelude.{Option, None, Some}
-use Rattle.postscript_layout_write.specs.Contexts.{Context, contexts_below, contexts_in}
+use Rattle.std.proofs.Common.{◌+◌, ◌∙◌, ◌++◌, ap, sym, subst, append-nil, List, ℕ, arith}
+use Rattle.std.specs.Prelude.{Option}
+use Rattle.postscript_layout_write.specs.Contexts.{contexts_below, contexts_in}
+use Rattle.postscript_layout_write.specs.Sequences.{Context}
 use Rattle.postscript_layout_write.specs.Coverages.{HaveContexts}
+use Rattle.postscript_layout_write.specs.Flags.{set_of}
+use Rattle.postscript_layout_write.specs.Holds.{Holds}
 use Rattle.postscript_layout_write.specs.Rules.{part_at}
+use Rattle.postscript_layout_write.specs.Scopes.{mark_set_text}
 use Rattle.postscript_layout_write.specs.declared.contexts.Contexts.{Contexts}
+use Rattle.postscript_layout_write.proofs.ContextCollecting.{holds-begins}
 use Rattle.postscript_layout_write.proofs.RuleRows.{below-more}
 use Rattle.postscript_layout_write.proofs.contexts.contexts_of.Goals.{in-Some+in_ok-add, in_default}
 use Rattle.postscript_layout_write.proofs.contexts.contexts_of.Goals as goal
@@ -22,6 +27,8 @@ loop-j-preserved c =
             (subst (λ (xs : List Context). HaveContexts xs w.add.new.self.offsets.items w.add.new.self.bytes.items)
             (sym (more ∙ ap (λ (p : Option ℕ). before ++ contexts_in gsub kept kind p) (sym c.part_at.ensures.exact ∙ w.in-Some.is)))
             (w.in_ok-add.ensures.added.have before c.loop-j.invariant.have));
+        begins = subst (λ (new : Contexts). Holds (mark_set_text c.args.flag (set_of gsub c.args.lookup)) new.bytes.items 0) (sym w.contexts-is)
+            (holds-begins w.in_ok-add.ensures.added.more c.loop-j.invariant.begins);
         spent = (let is = w.limit-is in omega (arith, is, w.add.ensures.spends, c.pay.ensures.spends, c.loop-j.invariant.spent));
       }
       | in_default w ↦ record {
@@ -29,6 +36,8 @@ loop-j-preserved c =
             (subst (λ (xs : List Context). HaveContexts xs c.loop-j.contexts.offsets.items c.loop-j.contexts.bytes.items)
             (sym (more ∙ ap (λ (p : Option ℕ). before ++ contexts_in gsub kept kind p) (sym c.part_at.ensures.exact ∙ w.in_default.is) ∙ append-nil before))
             c.loop-j.invariant.have);
+        begins = subst (λ (new : Contexts). Holds (mark_set_text c.args.flag (set_of gsub c.args.lookup)) new.bytes.items 0) (sym w.contexts-is)
+            c.loop-j.invariant.begins;
         spent = (let is = w.limit-is in omega (arith, is, c.pay.ensures.spends, c.loop-j.invariant.spent));
       }
     ]

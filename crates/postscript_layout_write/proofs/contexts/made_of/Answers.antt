@@ -1,6 +1,5 @@
-use Rattle.std.proofs.Common.{◌≡◌, ◌<◌, subst, List, ℕ}
+use Rattle.std.proofs.Common.{◌<◌, subst, List, ℕ}
 use Rattle.std.specs.List.{All}
-use Rattle.postscript_layout_write.specs.Contexts.{sets_at}
 use Rattle.postscript_layout_write.proofs.ContextCollecting.{begins-trans, coverages-on}
 use Rattle.postscript_layout_write.proofs.contexts.made_of.Goals as goal
 

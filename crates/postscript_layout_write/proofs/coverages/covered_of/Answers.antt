@@ -1,7 +1,7 @@
 use Rattle.std.proofs.Common.{◌≡◌, ◌<◌, ◌∙◌, ◌++◌, ◌∷◌, [], ap, sym, ℕ, List, Bool, false, length, get_or, arith}
 use Rattle.std.specs.Prelude.{slice_index, if◌then◌else◌, filter}
 use Rattle.std.specs.List.{range_with_len}
-use Rattle.postscript_layout_write.specs.Contexts.{covers}
+use Rattle.postscript_layout_write.specs.Sequences.{covers}
 use Rattle.postscript_layout_write.proofs.Covering.{filter-more, filter-skips}
 use Rattle.postscript_layout_write.proofs.Reading.{any-default}
 use Rattle.postscript_layout_write.proofs.coverages.covered_of.Goals.{then-index+in_ok-push, else-index}

@@ -1,7 +1,7 @@
 use Rattle.std.proofs.Common.{◌≡◌}
 use Rattle.std.specs.Prelude.{filter, slice_index}
 use Rattle.std.specs.List.{range_with_len}
-use Rattle.postscript_layout_write.specs.Contexts.{covers}
+use Rattle.postscript_layout_write.specs.Sequences.{covers}
 use Rattle.postscript_layout_write.proofs.coverages.covered_of.Given as goal
 
 abbrev pub invariant-loop-k : goal.invariant-loop-k

@@ -10,13 +10,14 @@ loop-i-preserved c =
     let gsub = c.args.gsub.now in
     let kept = c.args.kept.now in
     let chosen = c.args.lookups.now in
+    let whole = c.args.whole in
     let i = c.loop-i.i in
     let place : c.word-list.result + c.word.result ≡ lookup_at gsub i = ap (λ (n : ℕ). c.word-list.result + n) c.word.ensures.exact
     ∙ ap (λ (n : ℕ). n + word gsub (n + 2 + i * 2)) c.word-list.ensures.exact in
     record {
-      lookups = rule-lookups-more gsub chosen kept i c.loop-i.offsets.items c.loop-i.bytes.items c.push.new.self.items c.put_next.new.bytes.items
+      lookups = rule-lookups-more whole gsub chosen kept i c.loop-i.offsets.items c.loop-i.bytes.items c.push.new.self.items c.put_next.new.bytes.items
           c.loop-i.invariant.lookups
-          (subst (λ (p : ℕ). PutsNext gsub chosen kept p i c.loop-i.bytes.items c.put_next.new.bytes.items) place c.in_ok-put_next.ensures.done)
+          (subst (λ (p : ℕ). PutsNext whole gsub chosen kept p i c.loop-i.bytes.items c.put_next.new.bytes.items) place c.in_ok-put_next.ensures.done)
           (search rules);
       spent = omega (arith, c.pay.ensures.spends, c.pay_all.ensures.spends, c.put_next.ensures.spends, c.loop-i.invariant.spent);
     }

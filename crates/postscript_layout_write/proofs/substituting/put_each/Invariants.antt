@@ -4,6 +4,6 @@ use Rattle.postscript_layout_write.proofs.substituting.put_each.Given as goal
 
 abbrev pub invariant-loop-i : goal.invariant-loop-i
 invariant-loop-i l = record {
-  lookups : HasRuleLookups l.gsub l.lookups l.kept l.i l.offsets.items l.bytes.items;
+  lookups : HasRuleLookups l.whole l.gsub l.lookups l.kept l.i l.offsets.items l.bytes.items;
   spent : l.limit ≤ l.fn.limit;
 }

@@ -1,0 +1,5 @@
+//! Tests of layout tables that are written for subsets.
+#![tactic(auto)]
+
+#[cfg(test)]
+mod writing;

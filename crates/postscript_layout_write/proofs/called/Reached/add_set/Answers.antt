@@ -1,0 +1,10 @@
+use Rattle.std.proofs.Common.{sym, subst, ℕ}
+use Rattle.std.specs.Prelude.{Option}
+use Rattle.postscript_layout_write.specs.Calls.{NamesInSet}
+use Rattle.postscript_layout_write.specs.Reaching.{AddsOnly}
+use Rattle.postscript_layout_write.proofs.called.Reached.add_set.Goals as goal
+
+pub returns-in_ok-add_rules-clause-added : goal.returns-in_ok-add_rules-clause-added
+returns-in_ok-add_rules-clause-added c =
+    subst (λ (p : Option ℕ). AddsOnly (NamesInSet c.args.gsub.now c.args.kind p) c.args.self.now.lookups.items c.add_rules.new.self.lookups.items) (sym c.in-Some.is)
+    c.in_ok-add_rules.ensures.added

@@ -1,6 +1,0 @@
-use Rattle.std.proofs.Common.{◌≡◌}
-use Rattle.postscript_layout_write.specs.Leaving.{left_below}
-use Rattle.postscript_layout_write.proofs.leaving.left_out.Given as goal
-
-abbrev pub invariant-loop-i : goal.invariant-loop-i
-invariant-loop-i l = l.left.items ≡ left_below l.gsub l.lookups l.i

@@ -1,9 +1,0 @@
-use Rattle.std.proofs.Common.{◌≤◌}
-use Rattle.postscript_layout_write.specs.Attaching.{HasParts}
-use Rattle.postscript_layout_write.proofs.marks.parts_of.Given as goal
-
-abbrev pub invariant-loop-j : goal.invariant-loop-j
-invariant-loop-j l = record {
-  parts : HasParts l.gpos l.lookup l.kind l.flag l.kept l.j l.offsets.items l.bytes.items;
-  spent : l.limit ≤ l.fn.limit;
-}
