@@ -1,0 +1,6 @@
+pub mod Characters
+pub mod Parts
+pub mod Jamo
+pub mod Shaping
+pub mod Computing
+pub mod Traits

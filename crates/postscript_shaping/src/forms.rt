@@ -1,0 +1,124 @@
+//! Characters that a shaper may use without composing or decomposing those of a text.
+ghost use Rattle.std.specs.Prelude.{◌≡◌, ◌++◌, IfOk, OnOk};
+ghost use Rattle.std.specs.List.{filter, list_any};
+ghost use Rattle.postscript_shaping.specs.Characters.{is_mark as the_mark, is_mirrored as the_mirrored, is_right_to_left as the_right_to_left};
+ghost use Rattle.std.specs.List.Sorted.{IsNonDecreasing};
+ghost use Rattle.postscript_shaping.specs.Computing.{base as the_base, is_arabic as the_arabic, is_form as the_form, is_inserted as the_inserted};
+ghost use Rattle.postscript_shaping.specs.Traits.{AreTraits};
+
+use crate::characters::{is_arabic_form, is_mark, is_mirrored, is_right_to_left};
+use crate::parts::compatible;
+use crate::sorted::has_all;
+use std::alloc::{AllocError, Global};
+
+/// The space, which shapers use for characters that they hide.
+const SPACE: u32 = 0x20;
+
+/// The dotted circle, which shapers insert before a mark without a base.
+const DOTTED_CIRCLE: u32 = 0x25cc;
+
+/// Returns whether some character is a mark.
+fn has_mark(kept: &[u32]) -> bool
+    ensures { result ≡ list_any the_mark kept.now }
+{
+    kept.iter().any(|char| is_mark(*char))
+}
+
+/// Returns whether some character is written from right to left.
+fn has_right_to_left(kept: &[u32]) -> bool
+    ensures { result ≡ list_any the_right_to_left kept.now }
+{
+    kept.iter().any(|char| is_right_to_left(*char))
+}
+
+/// Returns whether some character is mirrored in text from right to left.
+fn has_mirrored(kept: &[u32]) -> bool
+    ensures { result ≡ list_any the_mirrored kept.now }
+{
+    kept.iter().any(|char| is_mirrored(*char))
+}
+
+/// What a text has.
+#[derive(Clone, Copy)]
+struct Traits {
+    /// A character.
+    some: bool,
+    /// A mark.
+    marks: bool,
+    /// A letter that is written from right to left, and a character that is mirrored there.
+    mirrors: bool,
+}
+
+/// Returns what the kept characters have.
+fn traits_of(kept: &[u32]) -> Traits
+    ensures { AreTraits kept.now result }
+{
+    Traits {
+        some: !kept.is_empty(),
+        marks: has_mark(kept),
+        mirrors: has_right_to_left(kept) && has_mirrored(kept),
+    }
+}
+
+/// Returns whether a shaper may insert a character: the space if some character is kept, or the dotted circle if a mark is.
+fn is_inserted(some: bool, marks: bool, char: u32) -> bool
+    ensures { result ≡ the_inserted some marks char }
+{
+    (some && char == SPACE) || (marks && char == DOTTED_CIRCLE)
+}
+
+/// Returns whether a character is an Arabic presentation form of kept characters.
+fn is_arabic(kept: &[u32], char: u32) -> bool
+    requires { IsNonDecreasing kept.now }
+    ensures { result ≡ the_arabic kept.now char }
+{
+    if !is_arabic_form(char) {
+        return false;
+    }
+    let parts = compatible(char);
+    !parts.is_empty() && has_all(kept, parts)
+}
+
+/// Returns whether a shaper may use a character as a form of kept ones.
+fn is_form(kept: &[u32], traits: Traits, char: u32) -> bool
+    requires order { IsNonDecreasing kept.now }
+    requires traits { AreTraits kept.now traits }
+    ensures { result ≡ the_form kept.now char }
+{
+    is_inserted(traits.some, traits.marks, char)
+        || (traits.mirrors && is_mirrored(char))
+        || is_arabic(kept, char)
+}
+
+/// Adds the forms of a font for kept characters.
+fn put_forms(
+    all: &mut Vec<u32>,
+    mapped: &[u32],
+    kept: &[u32],
+    traits: Traits,
+) -> Result<(), AllocError>
+    requires order { IsNonDecreasing kept.now }
+    requires traits { AreTraits kept.now traits }
+    ensures { OnOk result (all.new.items ≡ all.old.items ++ filter (the_form kept.now) mapped.now) }
+{
+    for char in mapped {
+        if is_form(kept, traits, *char) {
+            all.push(*char)?;
+        }
+    }
+    Ok(())
+}
+
+/// Returns the kept characters, and their forms in a font.
+pub(crate) fn with_forms(
+    alloc: Global,
+    mapped: &[u32],
+    kept: &[u32],
+) -> Result<Vec<u32>, AllocError>
+    requires { IsNonDecreasing kept.now }
+    ensures { IfOk result (λ all. all.items ≡ the_base mapped.now kept.now) }
+{
+    let mut all = Vec::from_slice(alloc, kept)?;
+    put_forms(&mut all, mapped, kept, traits_of(kept))?;
+    Ok(all)
+}
