@@ -343,14 +343,14 @@ int32_t psf_file_subset(const uint8_t *file, size_t length, size_t face, const u
 
 /* The same with layout tables: GSUB, GPOS and GDEF are written for the glyphs of the new file. The substitutions of the features with
  * the tags features[0..tags] are kept, or all substitutions if all is not 0, and also the glyphs that they can make of the others.
- * Kerning and the positions of marks are kept if kern, mark or mkmk is among the features. If keeps is not 0, all features count,
- * and the tables are copied. What is left out: docs/subsets.md.
+ * Positions are kept if kern, mark, mkmk or curs is among the features. If keeps is not 0, all features count,
+ * and the tables are copied. If exact is 0, the characters that a shaper may use for text of the given ones are kept too, as far as the
+ * face has them, e.g. the parts of composed characters. What is left out: docs/subsets.md.
  * Sets *layout on PSF_OK and PSF_NO_ROOM: a table may be lost. The limit holds for the runs, and once more for the layout tables.
- * If nothing is chosen, the file has only .notdef.
- * Other errors: those of psf_file_subset except PSF_NO_GLYPHS; PSF_TOO_LONG also if the search for glyphs exceeds the limit. */
+ * Other errors: those of psf_file_subset; PSF_TOO_LONG also if the search for glyphs exceeds the limit. */
 int32_t psf_file_subset_layout(const uint8_t *file, size_t length, size_t face, const uint32_t *characters, size_t asked,
                                const size_t *glyphs, size_t named, const uint32_t *copied, size_t tables, uint32_t lenient,
-                               uint32_t keeps, const uint32_t *features, size_t tags, uint32_t all, uint64_t limit,
+                               uint32_t keeps, uint32_t exact, const uint32_t *features, size_t tags, uint32_t all, uint64_t limit,
                                uint8_t *subset, size_t room, size_t *count, psf_layout *layout, psf_refusal *refusal);
 
 /* Writes the name of a glyph, without a terminating 0, to name[0..room]. The glyphs of a CID-keyed font have no names.

@@ -572,25 +572,30 @@ static void check_subset_layout(const uint8_t *file, size_t length) {
     psf_refusal refusal = {77, 77};
     psf_layout layout = {77, 77, 77};
     psf_font font;
-    holds(psf_file_subset_layout(file, length, 0, letter, 1, 0, 0, 0, 0, 0, 0, features, 2, 0, LIMIT, written, 20, &count, &layout, &refusal)
+    holds(psf_file_subset_layout(file, length, 0, letter, 1, 0, 0, 0, 0, 0, 0, 1, features, 2, 0, LIMIT, written, 20, &count, &layout, &refusal)
           == PSF_NO_ROOM && layout.gsub == 1, "no room for a subset with layout");
-    holds(psf_file_subset_layout(file, length, 0, letter, 1, 0, 0, 0, 0, 0, 0, features, 2, 0, LIMIT, written, 1024, &count, &layout, &refusal)
+    holds(psf_file_subset_layout(file, length, 0, letter, 1, 0, 0, 0, 0, 0, 0, 1, features, 2, 0, LIMIT, written, 1024, &count, &layout, &refusal)
           == PSF_OK && refusal.glyph == 77, "a subset with layout");
     holds(layout.gsub == 1 && layout.gpos == 1 && layout.gdef == 0, "its layout tables");
     holds(psf_file_table(written, count, 0, gsub, &place, &size) == PSF_OK && psf_file_table(written, count, 0, gpos, &place, &size) == PSF_OK,
           "with GSUB and GPOS");
     holds(psf_file_table(written, count, 0, cff, &place, &size) == PSF_OK && psf_font_open(written + place, size, &font) == PSF_OK
           && font.glyphs == 3, "with a.sc");
-    holds(psf_file_subset_layout(file, length, 0, letter, 1, 0, 0, 0, 0, 0, 0, features, 0, 0, LIMIT, written, 1024, &count, &layout, &refusal)
+    holds(psf_file_subset_layout(file, length, 0, letter, 1, 0, 0, 0, 0, 0, 0, 1, features, 0, 0, LIMIT, written, 1024, &count, &layout, &refusal)
           == PSF_OK && layout.gsub == 1 && layout.gpos == 2, "no features");
     holds(psf_file_table(written, count, 0, gpos, &place, &size) == PSF_NO_TABLE, "without GPOS");
     holds(psf_file_table(written, count, 0, cff, &place, &size) == PSF_OK && psf_font_open(written + place, size, &font) == PSF_OK
           && font.glyphs == 2, "without a.sc");
-    holds(psf_file_subset_layout(file, length, 0, letter, 1, 0, 0, 0, 0, 0, 1, features, 0, 0, LIMIT, written, 1024, &count, &layout, &refusal)
+    holds(psf_file_subset_layout(file, length, 0, letter, 1, 0, 0, 0, 0, 0, 1, 1, features, 0, 0, LIMIT, written, 1024, &count, &layout, &refusal)
           == PSF_OK && same_table(file, length, written, count, gpos) && same_table(file, length, written, count, gsub), "numbers that are kept");
-    holds(psf_file_subset_layout(file, length, 0, letter, 1, 0, 0, 0, 0, 0, 0, features, 0, 1, LIMIT, written, 1024, &count, &layout, &refusal)
+    holds(psf_file_subset_layout(file, length, 0, letter, 1, 0, 0, 0, 0, 0, 0, 1, features, 0, 1, LIMIT, written, 1024, &count, &layout, &refusal)
           == PSF_OK && layout.gpos == 1, "all features");
-    holds(psf_file_subset_layout(file, length, 1, letter, 1, 0, 0, 0, 0, 0, 0, features, 2, 0, LIMIT, written, 1024, &count, &layout, &refusal)
+    holds(psf_file_subset_layout(file, length, 0, letter, 1, 0, 0, 0, 0, 0, 0, 0, features, 0, 0, LIMIT, written, 1024, &count, &layout, &refusal)
+          == PSF_OK && psf_file_table(written, count, 0, cff, &place, &size) == PSF_OK && psf_font_open(written + place, size, &font) == PSF_OK
+          && font.glyphs == 3, "with the space");
+    holds(psf_file_subset_layout(file, length, 0, letter, 0, 0, 0, 0, 0, 0, 0, 1, features, 2, 0, LIMIT, written, 1024, &count, &layout, &refusal)
+          == PSF_NO_GLYPHS, "nothing chosen");
+    holds(psf_file_subset_layout(file, length, 1, letter, 1, 0, 0, 0, 0, 0, 0, 1, features, 2, 0, LIMIT, written, 1024, &count, &layout, &refusal)
           == PSF_NO_FACE, "no layout of no face");
 }
 

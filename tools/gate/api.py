@@ -38,6 +38,7 @@ CRATES = (
     "postscript_variable_font",
     "postscript_variable_drawing",
     "postscript_instance",
+    "postscript_instance_file",
     "postscript_write",
     "postscript_c",
 )

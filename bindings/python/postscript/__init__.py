@@ -445,8 +445,8 @@ for _name, _arguments in {
         _sizes, POINTER(_Refusal),
     ],  # fmt: skip
     "psf_file_subset_layout": [
-        _bytes, _size, _size, POINTER(c_uint32), _size, _sizes, _size, POINTER(c_uint32), _size, c_uint32, c_uint32, POINTER(c_uint32),
-        _size, c_uint32, c_uint64, _room, _size, _sizes, POINTER(_Layout), POINTER(_Refusal),
+        _bytes, _size, _size, POINTER(c_uint32), _size, _sizes, _size, POINTER(c_uint32), _size, c_uint32, c_uint32, c_uint32,
+        POINTER(c_uint32), _size, c_uint32, c_uint64, _room, _size, _sizes, POINTER(_Layout), POINTER(_Refusal),
     ],  # fmt: skip
     "psf_glyph_name": [_bytes, _size, _size, _room, _size, _sizes],
     "psf_font_identifiers": [_bytes, _size, POINTER(c_int32), _size, _sizes],
@@ -746,16 +746,17 @@ class Font:
         ignore_missing: bool = False,
         tables: Iterable[str] = ("OS/2", "head", "name"),
         features: Union[str, Iterable[str], None] = FEATURES,
+        exact: bool = False,
     ) -> bytes:
         """Returns a font file with only some characters and glyphs of this face: those of `text` and `unicodes`, and `glyphs` with all
         their characters. It also has `.notdef` and the components of `seac` glyphs. Each glyph is drawn, named and measured as before.
         The file has the tables that every font needs, copies of `tables`, and layout tables: `GSUB` with the substitutions of
-        `features`, a list of tags or "*" for all; `GPOS` with kerning and marks; `GDEF`. The glyphs that these substitutions can make
-        are kept too. docs/subsets.md says what is left out. A layout table that is lost is told by a `LayoutWarning`. With None for
-        `features` there are no layout tables.
+        `features`, a list of tags or "*" for all; `GPOS` with all positions; `GDEF`. With None for `features` there are none.
+        The glyphs that these substitutions can make are kept too. Unless `exact` is set, so are the characters that a shaper may use
+        for text of the given ones. docs/subsets.md says what is left out. A `LayoutWarning` names each lost table.
 
         Glyphs get new numbers in ascending order, unless `keep_numbers` is set. Raises `WriteError`: `Status.NO_CHARACTER` for a
-        character without a glyph, unless `ignore_missing` is set; `NO_GLYPHS` if nothing is left and `features` is None; `NO_TABLE`,
+        character without a glyph, unless `ignore_missing` is set; `NO_GLYPHS` if nothing is left; `NO_TABLE`,
         `NO_MAP`, `NO_ADVANCES`, `CUT_TABLE` and `SAME_TAG` for the tables; and the errors of `subset`. Raises `ValueError` if the font
         was not opened from a file."""
         file, limit = self._whole(), self._limit_of_all
@@ -770,7 +771,7 @@ class Font:
         tags, every, layout = _tags_of(() if features == "*" else features), int(features == "*"), _Layout()
         written = _font_of(
             len(file) + 1024,
-            lambda *lent: _library.psf_file_subset_layout(*choice, tags, len(tags), every, limit, *lent[:3], byref(layout), lent[3]),
+            lambda *lent: _library.psf_file_subset_layout(*choice, int(exact), tags, len(tags), every, limit, *lent[:3], byref(layout), lent[3]),
         )
         _tell_lost(layout)
         return written

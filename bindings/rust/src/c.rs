@@ -255,6 +255,7 @@ extern "C" {
         tables: usize,
         lenient: u32,
         keeps: u32,
+        exact: u32,
         features: *const u32,
         tags: usize,
         all: u32,
@@ -672,6 +673,7 @@ pub struct Choice {
     pub copied: Vec<u32>,
     pub lenient: bool,
     pub keeps: bool,
+    pub exact: bool,
     pub features: Vec<u32>,
     pub all: bool,
 }
@@ -724,6 +726,7 @@ pub fn file_subset_layout(
             choice.copied.len(),
             choice.lenient.into(),
             choice.keeps.into(),
+            choice.exact.into(),
             choice.features.as_ptr(),
             choice.features.len(),
             choice.all.into(),

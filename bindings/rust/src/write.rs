@@ -175,6 +175,21 @@ impl<'f> SubsetFile<'f> {
         self
     }
 
+    /// Whether the characters are exactly the chosen ones. Otherwise the file also has those that a shaper may use for text of
+    /// them, such as the parts of composed characters, as far as the face has them. Without layout tables they are always exact.
+    ///
+    /// ```
+    /// # let bytes = std::fs::read("examples/whole.otf")?;
+    /// # let font = postscript::Font::from_file(&bytes, 0)?;
+    /// let file = font.subset_file().text("A").exact(true).write()?;
+    /// assert_eq!(postscript::Font::from_file(&file, 0)?.glyph_count(), 2);
+    /// # Ok::<(), Box<dyn std::error::Error>>(())
+    /// ```
+    pub fn exact(mut self, exact: bool) -> Self {
+        self.choice.exact = exact;
+        self
+    }
+
     /// Sets which tables are copied. The others are `CFF `, `cmap`, `hhea`, `hmtx`, `maxp` and `post`.
     ///
     /// ```
@@ -189,7 +204,7 @@ impl<'f> SubsetFile<'f> {
         self
     }
 
-    /// Sets which layout features are kept: their substitutions, and kerning and marks if `kern`, `mark` or `mkmk` is among
+    /// Sets which layout features are kept: their substitutions, and all positions if `kern`, `mark`, `mkmk` or `curs` is among
     /// them. The default is [`FEATURES`].
     ///
     /// ```
@@ -230,7 +245,7 @@ impl<'f> SubsetFile<'f> {
     }
 
     /// Writes the file. Each glyph is drawn, named and measured as before. A layout table may be lost:
-    /// [`SubsetFile::write_with_layout`] tells this.
+    /// [`SubsetFile::write_with_layout`] also returns what is lost.
     ///
     /// ```
     /// # let bytes = std::fs::read("examples/whole.otf")?;
@@ -242,7 +257,7 @@ impl<'f> SubsetFile<'f> {
     ///
     /// # Errors
     ///
-    /// [`Error::NoCharacter`], [`Error::NoGlyphs`] if nothing is left and no layout tables are kept, [`Error::NoTable`],
+    /// [`Error::NoCharacter`], [`Error::NoGlyphs`] if nothing is left, [`Error::NoTable`],
     /// [`Error::NoMap`], [`Error::NoAdvances`], [`Error::CutTable`], [`Error::SameTag`], and those of [`Font::subset`].
     /// [`Error::CutFile`] if the font was not opened by [`Font::from_file`].
     ///

@@ -66,15 +66,17 @@ fn files_are_written() {
     assert_eq!(Font::from_file(&file, 0).unwrap().outline(1), font.outline(1));
 }
 
-/// In the file that `bindings/layout.hex` spells, `smcp` substitutes glyph 2 for glyph 1, the letter a, and `kern` moves two letters a.
+/// In the file that `bindings/layout.hex` spells, `smcp` substitutes glyph 2 for glyph 1, the letter a, `kern` moves two letters a, and glyph 3 is the letter b and the space.
 #[test]
 fn files_are_written_with_layout() {
     let bytes = hex(include_str!("../../layout.hex"));
     let font = Font::from_file(&bytes, 0).unwrap();
     let kept = |gpos| Layout { gsub: LayoutTable::Kept, gpos, gdef: LayoutTable::Absent };
-    let (file, layout) = font.subset_file().text("a").write_with_layout().unwrap();
+    let (file, layout) = font.subset_file().text("a").exact(true).write_with_layout().unwrap();
     assert_eq!((Font::from_file(&file, 0).unwrap().glyph_count(), layout), (2, kept(LayoutTable::Kept)));
-    let (file, layout) = font.subset_file().text("a").features(&[*b"smcp"]).write_with_layout().unwrap();
+    let file = font.subset_file().text("a").write().unwrap();
+    assert_eq!(Font::from_file(&file, 0).unwrap().glyph_count(), 3);
+    let (file, layout) = font.subset_file().text("a").exact(true).features(&[*b"smcp"]).write_with_layout().unwrap();
     assert_eq!((Font::from_file(&file, 0).unwrap().glyph_count(), layout), (3, kept(LayoutTable::NotChosen)));
     let file = font.subset_file().text("a").all_features().write().unwrap();
     assert_eq!(Font::from_file(&file, 0).unwrap().outline(2), font.outline(2));
@@ -96,7 +98,7 @@ fn files_that_are_not_written() {
     assert_eq!(font.subset_file().text("AB").write(), Err(missing));
     assert_eq!(missing.to_string(), "U+0042: the font has no glyph for a character");
     let none = WriteError { error: Error::NoGlyphs, ..NO_ERROR };
-    assert_eq!(font.subset_file().without_layout().write(), Err(none));
+    assert_eq!(font.subset_file().write(), Err(none));
     let file = font.subset_file().write().unwrap();
     assert_eq!(Font::from_file(&file, 0).unwrap().glyph_count(), 1);
     let twice = WriteError { error: Error::SameTag, table: Some(*b"name"), ..NO_ERROR };

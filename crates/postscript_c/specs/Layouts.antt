@@ -8,6 +8,7 @@ use Rattle.postscript_c.specs.declared.written.PsfRefusal.{PsfRefusal}
 use Rattle.postscript_files.specs.declared.choice.Choice.{Choice}
 use Rattle.postscript_layout_write.specs.declared.error.Error.TheVariants as faults
 use Rattle.postscript_subset.specs.Subsets.{IsCutInPlace, IsCutWithLayout, NoCutWithLayout}
+use Rattle.postscript_subset.specs.TextChars.{AreTextChars, NoTextChars}
 use Rattle.postscript_subset.specs.declared.error.Error.{Error}
 use Rattle.postscript_subset.specs.declared.error.Error.TheVariants.{File, LargeGlyph, TooLong}
 use Rattle.postscript_subset.specs.declared.features.Features.{Features}
@@ -67,10 +68,16 @@ pub record IsLaidOutBy (choice : Choice) (tags : List ℕ) (all limit : ℕ) (by
   pub in_place : choice.retain_gids ≡ true → IfOk answer (λ subset. IsCutInPlace choice features bytes face subset)
   pub refused : IfErr answer (λ e. NoCutWithLayout choice features bytes face left e)
 
-abbrev pub IsLaidOutFile : (chars glyphs copied : List ℕ) (lenient keeps : ℕ) (tags : List ℕ) (all limit : ℕ) (bytes : List ℕ) (face : ℕ)
+-- the given characters, and unless `exact` is set those that a shaper may use for them
+abbrev pub AreCharsOf : (exact : ℕ) (bytes : List ℕ) (face : ℕ) (chars used : List ℕ) → Type 0
+AreCharsOf exact bytes face chars used = ((exact ≢ 0) × (used ≡ chars)) ⊎ ((exact ≡ 0) × AreTextChars bytes face chars used)
+
+-- The file for these characters. There is none if the face is not opened.
+abbrev pub IsLaidOutFile : (chars glyphs copied : List ℕ) (lenient keeps exact : ℕ) (tags : List ℕ) (all limit : ℕ) (bytes : List ℕ) (face : ℕ)
     (answer : Result Subset Error) → Type 0
-IsLaidOutFile chars glyphs copied lenient keeps tags all limit bytes face answer =
-    (choice : Choice) × IsChoice chars glyphs copied lenient keeps choice × IsLaidOutBy choice tags all limit bytes face answer
+IsLaidOutFile chars glyphs copied lenient keeps exact tags all limit bytes face answer =
+    ((used : List ℕ) × AreCharsOf exact bytes face chars used × ((choice : Choice) × IsChoice used glyphs copied lenient keeps choice
+    × IsLaidOutBy choice tags all limit bytes face answer)) ⊎ ((e : Error) × (answer ≡ Err e) × NoTextChars bytes face e)
 
 -- If the runs end within the limit, the result satisfies `IsAnswer`. Otherwise nothing is written, and the details are 0.
 abbrev pub TellsLaidOutWithin : (bytes : List ℕ) (face limit : ℕ) (status : ℤ) (IsAnswer : Result Subset Error → Type 0)

@@ -1,15 +1,16 @@
 //! New font files with layout tables.
-ghost use Rattle.std.specs.Prelude.{◌≡◌, pos};
-ghost use Rattle.postscript_c.specs.Layouts.{IsFeatures, IsLaidOutBy, IsLaidOutFile, TellsLaidOut, laid_code, laid_refusal, outcome_code, outcomes_of};
+ghost use Rattle.std.specs.Prelude.{◌≡◌, pos, IfOk, IfErr};
+ghost use Rattle.postscript_c.specs.Layouts.{AreCharsOf, IsFeatures, IsLaidOutBy, IsLaidOutFile, TellsLaidOut, laid_code, laid_refusal, outcome_code, outcomes_of};
 ghost use Rattle.postscript_c.specs.Texts.{lent};
+ghost use Rattle.postscript_subset.specs.TextChars.{NoTextChars};
 
 use crate::status::{CUT_TABLE, MEMORY, NO_GLYPH, TOO_LARGE, TOO_LONG};
 use crate::texts::hand_over;
-use crate::whole_files::{whole_refusal_of, whole_status};
+use crate::whole_files::{choice_of, whole_refusal_of, whole_status};
 use crate::written::{PsfRefusal, refusal_with};
 use postscript_files::Choice;
 use postscript_layout_write::Error as Fault;
-use postscript_subset::{Error, Features, Outcome, Result, Subset, subset_with_layout};
+use postscript_subset::{Error, Features, Outcome, Result, Subset, subset_with_layout, text_chars};
 use std::alloc::Global;
 
 /// What became of the layout tables. Each number is 0 if the face has no such table, 1 if the new file has it, and 2 if none
@@ -126,6 +127,17 @@ pub(crate) fn laid_out(
     )
 }
 
+/// The characters of a subset: the given ones, and unless `exact` is set those that a shaper may use for them.
+fn chars_of(alloc: Global, bytes: &[u8], face: usize, chars: &[u32], exact: u32) -> Result<Vec<u32>>
+    ensures chars { IfOk result (λ used. AreCharsOf exact bytes.now face chars.now used.items) }
+    ensures why { IfErr result (λ e. NoTextChars bytes.now face e) }
+{
+    if exact == 0 {
+        return text_chars(alloc, bytes, face, chars);
+    }
+    Ok(Vec::from_slice(alloc, chars)?)
+}
+
 /// The same for a choice of characters and glyphs.
 pub(crate) fn laid_out_of(
     alloc: Global,
@@ -136,20 +148,14 @@ pub(crate) fn laid_out_of(
     copied: &[u32],
     lenient: u32,
     keeps: u32,
+    exact: u32,
     tags: &[u32],
     all: u32,
     limit: u64,
 ) -> Result<Subset>
-    ensures { IsLaidOutFile chars.now glyphs.now copied.now lenient keeps tags.now all limit bytes.now face result }
+    ensures { IsLaidOutFile chars.now glyphs.now copied.now lenient keeps exact tags.now all limit bytes.now face result }
 {
-    let choice = Choice {
-        chars,
-        glyphs,
-        unmapped: &[],
-        lenient: lenient != 0,
-        retain_gids: keeps != 0,
-        copied,
-        given: &[],
-    };
+    let used = chars_of(alloc, bytes, face, chars, exact)?;
+    let choice = choice_of(&used, glyphs, copied, lenient, keeps);
     laid_out(alloc, bytes, face, &choice, tags, all, limit)
 }

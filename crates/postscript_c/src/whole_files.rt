@@ -1,7 +1,7 @@
 //! New font files.
 ghost use Rattle.std.specs.Prelude.{◌≡◌, ◌≢◌, IfOk, pos};
 ghost use Rattle.postscript_c.specs.Texts.{lent};
-ghost use Rattle.postscript_c.specs.WholeFiles.{IsBeyond, IsFlatFile, IsSubsetFile, RunsEnd, TellsFile, whole_code, whole_refusal};
+ghost use Rattle.postscript_c.specs.WholeFiles.{IsBeyond, IsChoice, IsFlatFile, IsSubsetFile, RunsEnd, TellsFile, whole_code, whole_refusal};
 
 use crate::files::file_status;
 use crate::limit::tell_fits_at_once;
@@ -86,6 +86,27 @@ pub(crate) fn flat_of(alloc: Global, bytes: &[u8], face: usize) -> Result<Vec<u8
     flat_file(alloc, bytes, face)
 }
 
+/// The choice of a caller.
+pub(crate) fn choice_of<'l>(
+    chars: &'l [u32],
+    glyphs: &'l [usize],
+    copied: &'l [u32],
+    lenient: u32,
+    keeps: u32,
+) -> Choice<'l>
+    ensures { IsChoice chars.now glyphs.now copied.now lenient keeps result }
+{
+    Choice {
+        chars,
+        glyphs,
+        unmapped: &[],
+        lenient: lenient != 0,
+        retain_gids: keeps != 0,
+        copied,
+        given: &[],
+    }
+}
+
 /// The file of a face with these characters and glyphs.
 pub(crate) fn subset_of(
     alloc: Global,
@@ -99,14 +120,6 @@ pub(crate) fn subset_of(
 ) -> Result<Vec<u8>>
     ensures { IsSubsetFile chars.now glyphs.now copied.now lenient keeps bytes.now face result }
 {
-    let choice = Choice {
-        chars,
-        glyphs,
-        unmapped: &[],
-        lenient: lenient != 0,
-        retain_gids: keeps != 0,
-        copied,
-        given: &[],
-    };
+    let choice = choice_of(chars, glyphs, copied, lenient, keeps);
     subset_file(alloc, bytes, face, &choice)
 }

@@ -118,13 +118,17 @@ is-by : (choice : Choice) (features : Features) (face : Face) (by with : Choice)
     (tables : List (ℕ × List ℕ)) → Known choice features face by gsub lookups glyphs → HasTables by tables with →
     IsBy choice features face tables with
 is-by choice features face by with gsub lookups glyphs tables k h = record {
-  gsub = gsub;
-  is = k.is;
-  lookups = lookups;
-  closed = glyphs;
-  are = k.are;
-  count = k.extended.0;
-  counted = k.extended.1;
+  further = below k.extended.0 glyphs;
+  made = record {
+    gsub = gsub;
+    is = k.is;
+    lookups = lookups;
+    closed = glyphs;
+    are = k.are;
+    count = k.extended.0;
+    counted = k.extended.1;
+    kept = refl;
+  };
   widened = widened choice by with (below k.extended.0 glyphs) tables k.widened h;
 }
 

@@ -12,7 +12,7 @@ use Rattle.postscript_files.specs.Subsets.{HasSame, IsSame, IsSubsetFile, KeepsN
 use Rattle.postscript_files.specs.declared.choice.Choice.{Choice}
 use Rattle.postscript_files.specs.declared.face.Face.{Face}
 use Rattle.postscript_files.proofs.Ordering.{unmapped-there}
-use Rattle.postscript_subset.specs.Closing.{IsClosingError, below}
+use Rattle.postscript_subset.specs.Closing.{IsClosingError, below, with_notdef}
 use Rattle.postscript_subset.specs.Refusals.{IsWide}
 use Rattle.postscript_subset.specs.Subsets.{IsBy, TextStaysIn, TextStaysSame}
 use Rattle.postscript_subset.specs.declared.error.Error.{Error}
@@ -38,18 +38,23 @@ below-at count (one ∷ glyphs) (suc i) glyph within is less =
 below-there : (count : ℕ) (glyphs : List ℕ) (glyph : ℕ) → Contains glyphs glyph → glyph < count → Contains (below count glyphs) glyph
 below-there count glyphs glyph h less = below-at count glyphs h.0 glyph h.1 h.2 less
 
+named-there : (named : List ℕ) (glyph : ℕ) → Contains named glyph → Contains (with_notdef named) glyph
+named-there [] glyph h = absurd (let w = h.1 in omega (arith, w))
+named-there (one ∷ named) glyph h = Contains-append_left (one ∷ named) (0 ∷ []) glyph h
+
 -- a text of named glyphs stays among the further glyphs of the choice
 further : (choice : Choice) (features : Features) (old : Face) (tables : List (ℕ × List ℕ)) (by : Choice)
     (is : IsBy choice features old tables by) (first last : List ℕ) → All (IsNamed choice old) first →
-    ComesTo is.gsub is.lookups first last → (glyph : ℕ) → Contains last glyph → glyph < is.count → Contains by.unmapped.now glyph
+    ComesTo is.made.gsub is.made.lookups first last → (glyph : ℕ) → Contains last glyph → glyph < is.made.count → Contains by.unmapped.now glyph
 further choice features old tables by is first last named comes glyph there less =
-    let closed : All (Contains is.closed) first = All-weaker (IsNamed choice old) (Contains is.closed)
-    (λ g h. All-contains (Contains is.closed) (is.are.named ++ 0 ∷ []) g is.are.closure.holds
-    (Contains-append_left is.are.named (0 ∷ []) g ((is.are.are g).1 h))) first named in
-    let stay : All (Contains is.closed) last = stays is.gsub is.lookups is.closed first last is.are.closure.closed closed comes in
-    let here : Contains is.closed glyph = All-contains (Contains is.closed) last glyph stay there in
-    subst (λ (xs : List ℕ). Contains xs glyph) (sym is.widened.unmapped)
-    (Contains-append_right choice.unmapped.now (below is.count is.closed) glyph (below-there is.count is.closed glyph here less))
+    let closed : All (Contains is.made.closed) first = All-weaker (IsNamed choice old) (Contains is.made.closed)
+    (λ g h. All-contains (Contains is.made.closed) (with_notdef is.made.are.named) g is.made.are.closure.holds
+    (named-there is.made.are.named g ((is.made.are.are g).1 h))) first named in
+    let stay : All (Contains is.made.closed) last = stays is.made.gsub is.made.lookups is.made.closed first last is.made.are.closure.closed closed comes in
+    let here : Contains is.made.closed glyph = All-contains (Contains is.made.closed) last glyph stay there in
+    let made : Contains is.further glyph =
+    subst (λ (xs : List ℕ). Contains xs glyph) (sym is.made.kept) (below-there is.made.count is.made.closed glyph here less) in
+    subst (λ (xs : List ℕ). Contains xs glyph) (sym is.widened.unmapped) (Contains-append_right choice.unmapped.now is.further glyph made)
 
 same-number : (by : Choice) (old new : Face) (glyph i : ℕ) → by.retain_gids ≡ true → HasSame by old new glyph i → IsSame old new glyph glyph
 same-number by old new glyph i retain h =
@@ -59,7 +64,7 @@ same-number by old new glyph i retain h =
 -- a text of named glyphs stays among glyphs that are the same in the new face
 pub text-stays-same : (choice : Choice) (features : Features) (old : Face) (tables : List (ℕ × List ℕ)) (by : Choice) (file : List ℕ)
     (is : IsBy choice features old tables by) → by.retain_gids ≡ true → IsSubsetFile by old file →
-    TextStaysSame choice old is.count is.gsub is.lookups file
+    TextStaysSame choice old is.made.count is.made.gsub is.made.lookups file
 text-stays-same choice features old tables by file is retain cut first last named comes glyph there less new read =
     let chosen : Contains (glyphs_of by) glyph =
     Contains-append_right by.glyphs.now by.unmapped.now glyph (further choice features old tables by is first last named comes glyph there less) in
@@ -69,9 +74,9 @@ text-stays-same choice features old tables by file is retain cut first last name
 -- a text of named glyphs stays among the new ones
 pub text-stays : (choice : Choice) (features : Features) (old : Face) (tables : List (ℕ × List ℕ)) (by : Choice) (origins : List ℕ)
     (is : IsBy choice features old tables by) → by.retain_gids ≡ false → AreOriginsOf by old origins →
-    TextStaysIn choice old is.count is.gsub is.lookups origins
+    TextStaysIn choice old is.made.count is.made.gsub is.made.lookups origins
 text-stays choice features old tables by origins is anew are first last named comes glyph there less =
-    unmapped-there by old origins is.count anew is.counted are glyph
+    unmapped-there by old origins is.made.count anew is.made.counted are glyph
     (further choice features old tables by is first last named comes glyph there less) less
 
 -- a glyph above 65,535 is a named one

@@ -18,12 +18,18 @@ use Rattle.postscript_subset.specs.declared.features.Features.{Features}
 abbrev pub IsTableOrNone : FontFile → (tag : ℕ) → List ℕ → Type 0
 IsTableOrNone file tag table = IsTableOf file tag table ⊎ (HasNoTable file tag × (table ≡ []))
 
--- The lookups are those of the features. The glyphs are the named ones, .notdef, and all that these lookups can make of them.
+-- the named glyphs and .notdef, or none if none is named
+abbrev pub with_notdef : (named : List ℕ) → List ℕ
+with_notdef [] = []
+with_notdef (glyph ∷ glyphs) = glyph ∷ glyphs ++ 0 ∷ []
+
+-- The lookups are those of the features. The glyphs are the named ones, .notdef, and all that these lookups can make of them. There are none if
+-- none is named.
 pub record AreClosed (choice : Choice) (features : Features) (face : Face) (gsub lookups glyphs : List ℕ) : Type 0 where
   pub of_features : AreLookupsOf features gsub lookups
   pub named : List ℕ
   pub are : AreAllNamed choice face named
-  pub closure : IsClosure gsub lookups (named ++ 0 ∷ []) glyphs
+  pub closure : IsClosure gsub lookups (with_notdef named) glyphs
 
 -- the glyphs below a number
 abbrev pub below : (count : ℕ) → List ℕ → List ℕ

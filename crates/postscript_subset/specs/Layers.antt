@@ -6,7 +6,7 @@ use Rattle.postscript_layout_write.specs.Definitions.{KeepsDefinitions}
 use Rattle.postscript_layout_write.specs.Flags.{KeepsFlaggedPositions}
 use Rattle.postscript_layout_write.specs.Positions.{KeepsPositions}
 use Rattle.postscript_layout_write.specs.Refusals.{Fails, Refuses}
-use Rattle.postscript_layout_write.specs.Substituting.{KeepsSubstitutions}
+use Rattle.postscript_layout_write.specs.Substituting.{KeepsRules}
 use Rattle.postscript_sfnt.specs.Lent.{HasNoTable, IsTableOf}
 use Rattle.postscript_sfnt.specs.declared.file.FontFile.{FontFile}
 use Rattle.postscript_layout_write.specs.declared.error.Error.{Error}
@@ -59,11 +59,12 @@ IsGdef NotChosen file origins left new = ⊥
 IsGdef Kept file origins left new = OfTable file gdef_tag (λ gdef. (0 < word gdef 4) × KeepsGlyphs (are_few origins) gdef origins new)
 IsGdef (Lost e) file origins left new = OfTable file gdef_tag (λ gdef. (0 < word gdef 4) × RefusesGlyphs (are_few origins) e origins left)
 
--- The outcome for `GSUB`, and the new table. It is lost if it is refused, or with `GDEF`.
+-- The outcome for `GSUB`, and the new table. It has lookups that use classes or sets of marks if `GDEF` has these. It is lost if it is refused, or with
+-- `GDEF`.
 abbrev pub IsGsub : Outcome → (file : FontFile) → (lookups origins : List ℕ) → (gdef : Outcome) → (left : ℕ) → (new : List ℕ) → Type 0
 IsGsub Absent file lookups origins gdef left new = HasNoTable file gsub_tag
 IsGsub NotChosen file lookups origins gdef left new = ⊥
-IsGsub Kept file lookups origins gdef left new = OfTable file gsub_tag (λ gsub. KeepsSubstitutions gsub lookups origins new)
+IsGsub Kept file lookups origins gdef left new = OfTable file gsub_tag (λ gsub. KeepsRules (have_marks origins gdef) gsub lookups origins new)
 IsGsub (Lost e) file lookups origins gdef left new = OfTable file gsub_tag (λ gsub. Refuses e gsub left ⊎ (gdef ≡ Lost e))
 
 -- The outcome for `GPOS`, and the new table. It is chosen if kerning or marks are.

@@ -5,3 +5,4 @@ pub mod Layers
 pub mod Subsets
 pub mod Layering
 pub mod Planning
+pub mod TextChars

@@ -16,7 +16,7 @@ AreNamedBy (These tags) gsub lookups = AreNamed gsub tags.now lookups
 abbrev pub AreLookupsOf : Features → (gsub lookups : List ℕ) → Type 0
 AreLookupsOf features gsub lookups = (named : List ℕ) × AreNamedBy features gsub named × AreReached gsub named lookups
 
--- `kern`, `mark` or `mkmk` is among the features
+-- `kern`, `mark`, `mkmk` or `curs` is among the features
 abbrev pub HavePositions : Features → Type 0
 HavePositions All = Unit {0}
-HavePositions (These tags) = (Contains tags.now 0x6b65726e ⊎ Contains tags.now 0x6d61726b) ⊎ Contains tags.now 0x6d6b6d6b
+HavePositions (These tags) = (Contains tags.now 0x6b65726e ⊎ Contains tags.now 0x6d61726b) ⊎ (Contains tags.now 0x6d6b6d6b ⊎ Contains tags.now 0x63757273)

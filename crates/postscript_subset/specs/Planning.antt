@@ -7,7 +7,7 @@ use Rattle.postscript_files.specs.declared.error.Error.{Error as Cause}
 use Rattle.postscript_files.specs.declared.error.Error.TheVariants as causes
 use Rattle.postscript_files.specs.declared.face.Face.{Face}
 use Rattle.postscript_subset.specs.Layering.{tables_of}
-use Rattle.postscript_subset.specs.Layers.{IsCopiedAs, IsGdef, IsGpos, IsGsub, all_tables, gdef_tag, gpos_tag, gsub_tag}
+use Rattle.postscript_subset.specs.Layers.{IsCopiedAs, IsGdef, IsGpos, IsGsub, all_tables, gdef_tag, gpos_tag, gsub_tag, have_marks}
 use Rattle.postscript_subset.specs.Subsets.{IsBy, NoFileFrom, TextStaysIn, TextStaysSame, left_in, shown}
 use Rattle.postscript_subset.specs.declared.error.Error.{Error}
 use Rattle.postscript_subset.specs.declared.error.Error.TheVariants as errors
@@ -52,7 +52,7 @@ pub record IsCutBy (by : Choice) (features : Features) (face : Face) (was lookup
   pub classes : IsGdef subset.gdef face.file origins left gdef
   pub substitutions : IsGsub subset.gsub face.file lookups origins subset.gdef left gsub
   pub positions : IsGpos subset.gpos face.file features origins subset.gdef left gpos
-  pub left_out : subset.left_out.items ≡ left_in subset.gsub was lookups
+  pub left_out : subset.left_out.items ≡ left_in subset.gsub (have_marks origins subset.gdef) was lookups
 
 abbrev pub NoCutBy : Choice → Face → Error → Type 0
 NoCutBy by face e = (cause : Cause) × (e ≡ errors.File cause) × (NoOriginsOf by face cause ⊎ ((cause ≡ causes.TooLarge) ⊎ ((cause ≡ causes.Memory)
@@ -70,10 +70,10 @@ pub record IsCutFace (choice : Choice) (features : Features) (face : Face) (left
   pub origins : List ℕ
   pub are : AreOriginsOf by face origins
   pub classes : IsGdef subset.gdef face.file origins left gdef
-  pub substitutions : IsGsub subset.gsub face.file is.lookups origins subset.gdef left gsub
+  pub substitutions : IsGsub subset.gsub face.file is.made.lookups origins subset.gdef left gsub
   pub positions : IsGpos subset.gpos face.file features origins subset.gdef left gpos
-  pub stays : TextStaysIn choice face is.count is.gsub is.lookups origins
-  pub left_out : subset.left_out.items ≡ left_in subset.gsub is.gsub is.lookups
+  pub stays : TextStaysIn choice face is.made.count is.made.gsub is.made.lookups origins
+  pub left_out : subset.left_out.items ≡ left_in subset.gsub (have_marks origins subset.gdef) is.made.gsub is.made.lookups
 
 -- the file of a face whose glyphs keep their numbers
 pub record IsPlaced (choice : Choice) (features : Features) (face : Face) (subset : Subset) : Type 0 where
@@ -83,7 +83,7 @@ pub record IsPlaced (choice : Choice) (features : Features) (face : Face) (subse
   pub gdef : IsCopiedAs subset.gdef face.file gdef_tag
   pub gsub : IsCopiedAs subset.gsub face.file gsub_tag
   pub gpos : IsCopiedAs subset.gpos face.file gpos_tag
-  pub stays : TextStaysSame choice face is.count is.gsub is.lookups subset.file.items
+  pub stays : TextStaysSame choice face is.made.count is.made.gsub is.made.lookups subset.file.items
   pub left_out : subset.left_out.items ≡ []
 
 -- why there is no such file

@@ -10,11 +10,11 @@ use Rattle.postscript_files.specs.declared.choice.Given.{Given}
 use Rattle.postscript_files.specs.declared.error.Error.{Error as Cause}
 use Rattle.postscript_files.specs.declared.face.Face.{Face}
 use Rattle.postscript_layout.specs.Texts.{ComesTo}
-use Rattle.postscript_layout_write.specs.Leaving.{left_below}
+use Rattle.postscript_layout_write.specs.Leaving.{left_by}
 use Rattle.postscript_layout_write.specs.Pairs.{lookups_of}
 use Rattle.postscript_sfnt.specs.Lent.{IsTableOf}
 use Rattle.postscript_subset.specs.Closing.{AreClosed, IsTableOrNone, below}
-use Rattle.postscript_subset.specs.Layers.{IsCopiedAs, IsGdef, IsGpos, IsGsub, all_tables, gdef_tag, gpos_tag, gsub_tag}
+use Rattle.postscript_subset.specs.Layers.{IsCopiedAs, IsGdef, IsGpos, IsGsub, all_tables, gdef_tag, gpos_tag, gsub_tag, have_marks}
 use Rattle.postscript_subset.specs.declared.error.Error.{Error}
 use Rattle.postscript_subset.specs.declared.error.Error.TheVariants.{File, LargeGlyph, TooLong}
 use Rattle.postscript_subset.specs.declared.features.Features.{Features}
@@ -46,8 +46,8 @@ pub record IsWidened (choice by : Choice) (added : List ℕ) (tables : List (ℕ
   pub copied : by.copied.now ≡ choice.copied.now ++ copied_by choice.retain_gids
   pub given : map shown by.given.now ≡ map shown choice.given.now ++ tables
 
--- The choice that a file is made by: the further glyphs are those of the face that the lookups of the features can make of the named ones.
-pub record IsBy (choice : Choice) (features : Features) (old : Face) (tables : List (ℕ × List ℕ)) (by : Choice) : Type 0 where
+-- The glyphs of a face that the lookups of the features can make of the named ones, with the named ones and .notdef.
+pub record AreMade (choice : Choice) (features : Features) (old : Face) (glyphs : List ℕ) : Type 0 where
   pub gsub : List ℕ
   pub is : IsTableOrNone old.file gsub_tag gsub
   pub lookups : List ℕ
@@ -55,7 +55,13 @@ pub record IsBy (choice : Choice) (features : Features) (old : Face) (tables : L
   pub are : AreClosed choice (features_by choice.retain_gids features) old gsub lookups closed
   pub count : ℕ
   pub counted : HasGlyphs old count
-  pub widened : IsWidened choice by (below count closed) tables
+  pub kept : glyphs ≡ below count closed
+
+-- The choice that a file is made by: the further glyphs are those that the lookups of the features can make of the named ones.
+pub record IsBy (choice : Choice) (features : Features) (old : Face) (tables : List (ℕ × List ℕ)) (by : Choice) : Type 0 where
+  pub further : List ℕ
+  pub made : AreMade choice features old further
+  pub widened : IsWidened choice by further tables
 
 -- A text of named glyphs, after any substitutions by the lookups, has only these glyphs, apart from glyphs that the face lacks.
 abbrev pub TextStaysIn : Choice → Face → (count : ℕ) → (gsub lookups origins : List ℕ) → Type 0
@@ -63,9 +69,9 @@ TextStaysIn choice old count gsub lookups origins = (first last : List ℕ) → 
     (glyph : ℕ) → Contains last glyph → glyph < count → Contains origins glyph
 
 -- the chosen lookups that a table does not keep
-abbrev pub left_in : Outcome → (gsub lookups : List ℕ) → List ℕ
-left_in Kept gsub lookups = left_below gsub lookups (lookups_of gsub)
-left_in _ gsub lookups = []
+abbrev pub left_in : Outcome → (marks : Bool) → (gsub lookups : List ℕ) → List ℕ
+left_in Kept marks gsub lookups = left_by marks gsub lookups (lookups_of gsub)
+left_in _ marks gsub lookups = []
 
 -- The file is a subset of the face. Glyph i of the new face is old glyph origins[i], and the layout tables are made for the origins.
 pub record IsCutWithLayout (choice : Choice) (features : Features) (bytes : List ℕ) (number left : ℕ) (subset : Subset) : Type 0 where
@@ -78,12 +84,12 @@ pub record IsCutWithLayout (choice : Choice) (features : Features) (bytes : List
   pub origins : List ℕ
   pub are : AreOriginsOf by cut.old origins
   pub classes : IsGdef subset.gdef cut.old.file origins left gdef
-  pub substitutions : IsGsub subset.gsub cut.old.file is.lookups origins subset.gdef left gsub
+  pub substitutions : IsGsub subset.gsub cut.old.file is.made.lookups origins subset.gdef left gsub
   pub positions : IsGpos subset.gpos cut.old.file features origins subset.gdef left gpos
   pub there : (i : ℕ) (table : ℕ × List ℕ) → slice_get (all_tables subset.gdef subset.gsub subset.gpos gdef gsub gpos) i ≡ Some table →
       (new : Face) → IsFaceIn subset.file.items 0 new → HasCopy new.file table.0 table.1
-  pub stays : TextStaysIn choice cut.old is.count is.gsub is.lookups origins
-  pub left_out : subset.left_out.items ≡ left_in subset.gsub is.gsub is.lookups
+  pub stays : TextStaysIn choice cut.old is.made.count is.made.gsub is.made.lookups origins
+  pub left_out : subset.left_out.items ≡ left_in subset.gsub (have_marks origins subset.gdef) is.made.gsub is.made.lookups
 
 -- A text of named glyphs, after any substitutions by the lookups, has only glyphs that are the same in the new face, apart from glyphs that
 -- the face lacks.
@@ -101,7 +107,7 @@ pub record IsCutInPlace (choice : Choice) (features : Features) (bytes : List �
   pub gpos : IsCopiedAs subset.gpos cut.old.file gpos_tag
   pub copied : (tag : ℕ) (table : List ℕ) → Contains (copied_by true) tag → IsTableOf cut.old.file tag table →
       (new : Face) → IsFaceIn subset.file.items 0 new → HasCopy new.file tag table
-  pub stays : TextStaysSame choice cut.old is.count is.gsub is.lookups subset.file.items
+  pub stays : TextStaysSame choice cut.old is.made.count is.made.gsub is.made.lookups subset.file.items
   pub left_out : subset.left_out.items ≡ []
 
 -- why no file of the face is written
@@ -116,3 +122,9 @@ NoCutWithLayout choice features bytes number left (LargeGlyph glyph) =
     (old : Face) × IsFaceIn bytes number old × IsNamed choice old glyph × (65535 < glyph)
 NoCutWithLayout choice features bytes number left (File e) = NoFaceIn e bytes number
     ⊎ ((old : Face) × IsFaceIn bytes number old × NoFileFrom choice features old e)
+
+-- Why the glyphs are not found. Running out of memory may be the error at any time.
+abbrev pub NoneAreMade : Choice → Face → (left : ℕ) → Error → Type 0
+NoneAreMade choice old left TooLong = left ≡ 0
+NoneAreMade choice old left (LargeGlyph glyph) = IsNamed choice old glyph × (65535 < glyph)
+NoneAreMade choice old left (File e) = IsUnopened old.cff.now e

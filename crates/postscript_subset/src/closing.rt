@@ -1,6 +1,6 @@
 //! The glyphs that substitutions can make of the glyphs of a choice.
-ghost use Rattle.std.specs.Prelude.{◌≡◌, ◌⊎◌, ◌++◌, ◌∷◌, [], ◌<◌, ◌≤◌, IfOk, IfErr};
-ghost use Rattle.postscript_subset.specs.Closing.{AreClosed, AreExtended, IsClosingError, IsUnopenedFace, below as the_below};
+ghost use Rattle.std.specs.Prelude.{◌≡◌, ◌⊎◌, ◌++◌, ◌∷◌, [], ◌<◌, ◌≤◌, IfOk, IfErr, OnOk};
+ghost use Rattle.postscript_subset.specs.Closing.{AreClosed, AreExtended, IsClosingError, IsUnopenedFace, with_notdef, below as the_below};
 ghost use Rattle.postscript_subset.specs.Refusals.{IsWide};
 ghost use Rattle.postscript_files.specs.declared.error.Error.TheVariants as causes;
 ghost use Rattle.postscript_subset.specs.declared.error.Error.TheVariants as errors;
@@ -34,7 +34,7 @@ pub(crate) fn narrow(alloc: Global, glyphs: &[usize]) -> Result<Vec<u16>>
 }
 
 /// Returns the glyphs below a number.
-fn below(alloc: Global, glyphs: &[u16], count: usize) -> Result<Vec<usize>>
+pub(crate) fn below(alloc: Global, glyphs: &[u16], count: usize) -> Result<Vec<usize>>
     ensures below { IfOk result (λ found. found.items ≡ the_below count glyphs.now) }
     ensures memory { IfErr result (λ e. e ≡ errors.File causes.Memory) }
 {
@@ -47,7 +47,19 @@ fn below(alloc: Global, glyphs: &[u16], count: usize) -> Result<Vec<usize>>
     Ok(found)
 }
 
-/// Returns the chosen lookups, and the glyphs that they can make of the named ones and `.notdef`.
+/// Adds `.notdef` to named glyphs, if there are any.
+fn put_notdef(named: &mut Vec<u16>) -> Result<()>
+    ensures put { OnOk result (named.new.items ≡ with_notdef named.old.items) }
+    ensures memory { IfErr result (λ e. e ≡ errors.File causes.Memory) }
+{
+    if !named.is_empty() {
+        named.push(0)?;
+    }
+    Ok(())
+}
+
+/// Returns the chosen lookups, and the glyphs that they can make of the named ones and `.notdef`. There are none if none is
+/// named.
 pub(crate) fn close(
     alloc: Global,
     face: &Face<'_>,
@@ -62,7 +74,7 @@ pub(crate) fn close(
 {
     let named = face.named_glyphs(alloc, choice)?;
     let mut glyphs = narrow(alloc, &named)?;
-    glyphs.push(0)?;
+    put_notdef(&mut glyphs)?;
     let lookups = features.lookups(alloc, gsub, limit)?;
     let glyphs = closure_over(alloc, gsub, &lookups, &glyphs, limit)?;
     Ok(Closed { lookups, glyphs })

@@ -10,12 +10,14 @@ use postscript_layout::{all_lookups, feature_lookups};
 use postscript_layout_write::{Error as Fault, with_called};
 use std::alloc::Global;
 
-/// The tags of the features for which `GPOS` is written: kerning, marks on bases, and marks on marks.
+/// The tags of the features for which `GPOS` is written: kerning, marks on bases, marks on marks, and cursive attachment.
 const KERN: u32 = 0x6b65726e;
 
 const MARK: u32 = 0x6d61726b;
 
 const MKMK: u32 = 0x6d6b6d6b;
+
+const CURS: u32 = 0x63757273;
 
 /// The features whose lookups a subset keeps.
 #[derive(Clone, Copy)]
@@ -53,14 +55,15 @@ impl Features<'_> {
         }
     }
 
-    /// Returns true if `kern`, `mark` or `mkmk` is among the features.
+    /// Returns true if `kern`, `mark`, `mkmk` or `curs` is among the features.
     pub(crate) fn has_positions(&self) -> bool
         ensures { IsTrue result ↔ HavePositions self.now }
     {
         match self {
             Features::All => true,
             Features::These(tags) => {
-                tags.contains(&KERN) || tags.contains(&MARK) || tags.contains(&MKMK)
+                (tags.contains(&KERN) || tags.contains(&MARK))
+                    || (tags.contains(&MKMK) || tags.contains(&CURS))
             }
         }
     }

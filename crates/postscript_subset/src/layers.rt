@@ -3,6 +3,7 @@ ghost use Rattle.std.specs.Prelude.{◌≡◌, ◌≤◌, [], IfOk, IfErr};
 ghost use Rattle.postscript_layout.specs.Numbers.{word};
 ghost use Rattle.postscript_files.specs.declared.error.Error.TheVariants as causes;
 ghost use Rattle.postscript_layout_write.specs.Refusals.{Refuses};
+ghost use Rattle.postscript_layout_write.specs.Substituting.{KeepsRules};
 ghost use Rattle.postscript_subset.specs.Layers.{IsGdef, IsGpos, IsGsub, KeepsGlyphs, KeepsPlaces, RefusesGlyphs, are_few, have_marks};
 ghost use Rattle.postscript_subset.specs.Layering.{AreLayers, IsLayer};
 ghost use Rattle.postscript_subset.specs.declared.error.Error.TheVariants as errors;
@@ -12,7 +13,8 @@ use crate::error::{Error, Result};
 use crate::features::Features;
 use postscript_base::index::number::number_at;
 use postscript_layout_write::{
-    Error as Fault, flagged_positions, glyph_classes, glyph_definitions, positions, substitutions,
+    Error as Fault, flagged_positions, flagged_substitutions, glyph_classes, glyph_definitions,
+    positions, substitutions,
 };
 use postscript_sfnt::FontFile;
 use std::alloc::Global;
@@ -22,7 +24,7 @@ use std::alloc::Global;
 pub enum Outcome {
     /// The face has no such table, or no glyph classes in its `GDEF` table.
     Absent,
-    /// The face has a `GPOS` table, but none of `kern`, `mark` and `mkmk` is among the features.
+    /// The face has a `GPOS` table, but none of `kern`, `mark`, `mkmk` and `curs` is among the features.
     NotChosen,
     /// The new file has the table.
     Kept,
@@ -104,7 +106,7 @@ fn definitions_of(
 }
 
 /// Returns whether the new `GDEF` table has classes and sets of marks.
-fn has_marks(origins: &[u16], gdef: Outcome) -> bool
+pub(crate) fn has_marks(origins: &[u16], gdef: Outcome) -> bool
     ensures { result ≡ have_marks origins.now gdef }
 {
     match gdef {
@@ -130,6 +132,27 @@ fn positions_of(
         flagged_positions(alloc, gpos, origins, limit)
     } else {
         positions(alloc, gpos, origins, limit)
+    }
+}
+
+/// Writes a `GSUB` table for the origins. Lookups that use classes or sets of marks are kept if the new `GDEF` table has
+/// these.
+fn substitutions_of(
+    alloc: Global,
+    gsub: &[u8],
+    lookups: &[u16],
+    origins: &[u16],
+    gdef: Outcome,
+    limit: &mut u64,
+) -> std::result::Result<Vec<u8>, Fault>
+    ensures kept { IfOk result (λ new. KeepsRules (have_marks origins.now gdef) gsub.now lookups.now origins.now new.items) }
+    ensures spends { limit.new ≤ limit.old }
+    ensures why { IfErr result (λ e. Refuses e gsub.now limit.new) }
+{
+    if has_marks(origins, gdef) {
+        flagged_substitutions(alloc, gsub, lookups, origins, limit)
+    } else {
+        substitutions(alloc, gsub, lookups, origins, limit)
     }
 }
 
@@ -168,7 +191,10 @@ fn gsub_of(
         None => Ok(without(alloc, Outcome::Absent)),
         Some(gsub) => match gdef {
             Outcome::Lost(fault) => Ok(without(alloc, Outcome::Lost(fault))),
-            _ => layer_of(alloc, substitutions(alloc, gsub, lookups, origins, limit)),
+            _ => layer_of(
+                alloc,
+                substitutions_of(alloc, gsub, lookups, origins, gdef, limit),
+            ),
         },
     }
 }

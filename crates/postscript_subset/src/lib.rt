@@ -1,7 +1,10 @@
 //! Writes OpenType files with only some characters, whose layout tables still apply (ISO/IEC 14496-22, 6).
 //!
 //! [`subset_with_layout`] cuts a face as [`postscript_files::subset_file`] does. It also keeps the glyphs that the substitutions
-//! of chosen features can make, and writes `GSUB`, `GPOS` and `GDEF` tables under the new glyph numbers.
+//! of chosen features can make, and writes `GSUB`, `GPOS` and `GDEF` tables under the new glyph numbers. [`glyphs_with_layout`]
+//! returns these glyphs beforehand.
+//!
+//! [`text_chars`] lists the characters that such a subset needs, so that shapers set text with it as with the whole face.
 //!
 //! # What is proved
 //!
@@ -14,6 +17,7 @@
 //!   pairs and attaches marks as the old one (`KeepsPositions`), and the `GDEF` table has the old classes (`KeepsClasses`).
 //! - If glyphs keep their numbers, the layout tables are copied, and a text of named glyphs has only glyphs that are the same
 //!   in the new face, after any substitutions.
+//! - `glyphs_with_layout` returns exactly the glyphs that the chosen lookups can make of the named ones.
 //! - A table is absent or lost only for the cause that its outcome names. Each error has its cause.
 //!
 //! # What is not proved
@@ -25,11 +29,15 @@
 mod closing;
 mod error;
 mod features;
+mod glyphs;
 mod in_place;
 mod layers;
 mod subset;
+mod text;
 
 pub use error::{Error, Result};
 pub use features::Features;
+pub use glyphs::glyphs_with_layout;
 pub use layers::Outcome;
 pub use subset::{Subset, subset_with_layout};
+pub use text::text_chars;

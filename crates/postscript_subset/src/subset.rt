@@ -2,6 +2,8 @@
 ghost use Rattle.std.specs.Prelude.{◌≡◌, ◌++◌, ◌≤◌, true, false, length, map, IfOk, IfErr, OnOk};
 ghost use Rattle.postscript_files.specs.Origins.{AreOriginsOf};
 ghost use Rattle.postscript_files.specs.declared.error.Error.TheVariants as causes;
+ghost use Rattle.postscript_layout_write.specs.Leaving.{left_by};
+ghost use Rattle.postscript_layout_write.specs.Pairs.{lookups_of};
 ghost use Rattle.postscript_subset.specs.Closing.{IsTableOrNone};
 ghost use Rattle.postscript_subset.specs.Layers.{gsub_tag, table_if};
 ghost use Rattle.postscript_subset.specs.Planning.{IsCutBy, IsCutFace, IsFinished, IsUnfinished, NoCutBy, NoCutFace, NoOriginsBy};
@@ -13,9 +15,9 @@ use crate::closing::{close, extended, narrow};
 use crate::error::{Error, Result};
 use crate::features::Features;
 use crate::in_place::cut_in_place;
-use crate::layers::{Layer, Layers, Outcome, layers_of};
+use crate::layers::{Layer, Layers, Outcome, has_marks, layers_of};
 use postscript_files::{Choice, Face, Given};
-use postscript_layout_write::left_out;
+use postscript_layout_write::{flagged_left_out, left_out};
 use postscript_sfnt::FontFile;
 use std::alloc::Global;
 
@@ -51,13 +53,35 @@ pub(crate) fn gsub_in<'l>(file: &FontFile<'l>) -> &'l [u8]
     }
 }
 
+/// Returns the chosen lookups that a `GSUB` table with or without classes and sets of marks does not keep.
+fn left_with(
+    alloc: Global,
+    gsub: &[u8],
+    lookups: &[u16],
+    marks: bool,
+) -> postscript_layout_write::Result<Vec<u16>>
+    ensures left { IfOk result (λ left. left.items ≡ left_by marks gsub.now lookups.now (lookups_of gsub.now)) }
+{
+    if marks {
+        flagged_left_out(alloc, gsub, lookups)
+    } else {
+        left_out(alloc, gsub, lookups)
+    }
+}
+
 /// Returns the chosen lookups that a new `GSUB` table does not keep.
-fn left_of(alloc: Global, gsub: &[u8], lookups: &[u16], outcome: Outcome) -> Result<Vec<u16>>
-    ensures left { IfOk result (λ left. left.items ≡ left_in outcome gsub.now lookups.now) }
+fn left_of(
+    alloc: Global,
+    gsub: &[u8],
+    lookups: &[u16],
+    outcome: Outcome,
+    marks: bool,
+) -> Result<Vec<u16>>
+    ensures left { IfOk result (λ left. left.items ≡ left_in outcome marks gsub.now lookups.now) }
     ensures memory { IfErr result (λ e. e ≡ errors.File causes.Memory) }
 {
     match outcome {
-        Outcome::Kept => match left_out(alloc, gsub, lookups) {
+        Outcome::Kept => match left_with(alloc, gsub, lookups, marks) {
             Ok(left) => Ok(left),
             Err(_) => Err(Error::File(postscript_files::Error::Memory)),
         },
@@ -156,7 +180,8 @@ fn write(
 {
     let origins = origins_of(alloc, face, by)?;
     let layers = layers_of(alloc, &face.file, features, lookups, &origins, limit)?;
-    let left_out = left_of(alloc, gsub, lookups, layers.gsub.outcome)?;
+    let marks = has_marks(&origins, layers.gdef.outcome);
+    let left_out = left_of(alloc, gsub, lookups, layers.gsub.outcome, marks)?;
     let (gsub, gpos, gdef) = (
         layers.gsub.outcome,
         layers.gpos.outcome,
@@ -204,7 +229,7 @@ fn cut(
 ///
 /// - `GDEF`, with the glyph classes, if the face has classes;
 /// - `GSUB`, with the chosen lookups, if the face has this table;
-/// - `GPOS`, with kerning and marks, if the face has this table and `kern`, `mark` or `mkmk` is among the features.
+/// - `GPOS`, with all its positions, if the face has this table and `kern`, `mark`, `mkmk` or `curs` is among the features.
 ///
 /// If `choice.retain_gids` is set, glyphs keep their numbers. All lookups of `GSUB` are then chosen, and `GDEF`, `GSUB` and `GPOS`
 /// are copied as far as the face has them.
@@ -218,7 +243,7 @@ fn cut(
 ///
 /// - `TooLong`: the search for lookups and glyphs costs more than the limit.
 /// - `LargeGlyph`: a chosen glyph has a number above 65,535.
-/// - `File`: as for `subset_file`.
+/// - `File`: as for `subset_file`, which includes that no glyph is chosen.
 pub fn subset_with_layout(
     alloc: Global,
     file: &[u8],

@@ -134,7 +134,7 @@ fn error_of(alloc: Global, bytes: &[u8], glyph: usize, limit: &mut u64) -> Optio
     subset_with_layout(alloc, bytes, 0, &asked, Features::All, limit).err()
 }
 
-/// A glyph number of 17 bits, and a limit that does not suffice.
+/// A glyph number of 17 bits, no glyphs, and a limit that does not suffice.
 #[test]
 fn files_without_layout_tables(rt: HostRuntime) {
     let alloc = rt.alloc();
@@ -145,6 +145,25 @@ fn files_without_layout_tables(rt: HostRuntime) {
         &rt,
         matches!(error, Some(Error::LargeGlyph(65536))),
         "glyph",
+        0,
+    );
+    let nothing = choice(&[], false, &[]);
+    let answer = subset_with_layout(
+        alloc,
+        bytes.as_slice(),
+        0,
+        &nothing,
+        Features::All,
+        &mut limit,
+    );
+    let error = answer.err();
+    holds_at(
+        &rt,
+        matches!(
+            error,
+            Some(Error::File(postscript_files::Error::Font(postscript_write::Error::NoGlyphs)))
+        ),
+        "nothing",
         0,
     );
     limit = 1;

@@ -50,6 +50,8 @@ mod sfnt;
 #[cfg(test)]
 mod sfnt_write;
 #[cfg(test)]
+mod shaping;
+#[cfg(test)]
 mod starts;
 pub mod synthetic;
 #[cfg(test)]

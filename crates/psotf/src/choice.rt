@@ -1,9 +1,9 @@
 //! The glyphs and characters that a subset keeps.
-use crate::characters::{Mapped, all_of, by_glyph, glyph_of, of_glyph, refuse_missing};
+use crate::characters::{Mapped, all_of, by_glyph, glyph_of, mapped_by, of_glyph, refuse_missing};
 use crate::face::Face;
 use crate::failure::Failure;
-use crate::shaping;
 use clap::ArgMatches;
+use postscript_shaping::shaped;
 use std::alloc::{AllocError, Global};
 
 /// The message for a malformed list of characters.
@@ -20,7 +20,7 @@ pub struct Choice {
     pub chars: Vec<u32>,
     /// The glyphs that are chosen by number.
     pub glyphs: Vec<usize>,
-    /// The glyphs that are added for the layout tables.
+    /// The glyphs that substitutions can make of the chosen ones.
     pub added: Vec<usize>,
 }
 
@@ -161,8 +161,8 @@ impl Choice {
 
     /// Adds the characters that a shaper may use in addition.
     pub fn put_shaped(&mut self, alloc: Global, face: &Face<'_>) -> Result<(), AllocError> {
-        let all = all_of(alloc, &face.map)?;
-        self.chars = shaping::closed(alloc, &all, &self.chars)?;
+        let mapped = mapped_by(alloc, &face.map)?;
+        self.chars = shaped(alloc, &mapped, &self.chars)?;
         Ok(())
     }
 

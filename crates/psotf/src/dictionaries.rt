@@ -1,8 +1,8 @@
 //! DICTs with the names of their operators.
-use crate::decimal;
 use crate::sheet::Sheet;
 use crate::text::Text;
 use postscript_base::compact1::{Operand, Operations, Operator};
+use postscript_text::decimal;
 use postscript_view::FontView;
 use std::alloc::Global;
 

@@ -1,9 +1,10 @@
 //! Drawing of glyphs within the budget.
 use crate::face::Face;
 use crate::failure::Refusal;
-use crate::held::Held;
+use crate::held::{full_by, held_within};
 use crate::limit::Budget;
 use postscript_drawing::{Accent, Error as Undrawn, draw_components, draw_program};
+use postscript_instance_file::Held;
 use postscript_outline::{Outline, Point};
 use postscript_type2::{Operand, Program};
 use postscript_view::{Advance, Glyph};
@@ -64,7 +65,7 @@ pub fn draw<'f, 'l>(
     };
     let share = budget.share();
     let mut left = share;
-    let mut held = Held::new(alloc, budget);
+    let mut held = held_within(alloc, budget);
     let drawn = draw_into(
         alloc,
         face,
@@ -83,7 +84,7 @@ pub fn draw<'f, 'l>(
                 width_difference: width,
             },
         )),
-        Err(error) => match held.refusal_of(&error) {
+        Err(error) => match full_by(&held, &error) {
             Some(refusal) => Err(refusal),
             None => Err(refusal_of(error, &glyph, share, budget)),
         },

@@ -1,7 +1,7 @@
 //! The layout features that a subset with new glyph numbers keeps.
 use crate::failure::Failure;
 use clap::ArgMatches;
-use postscript_layout::{Result as Found, all_lookups, feature_lookups};
+use postscript_subset::Features as Chosen;
 use std::alloc::Global;
 
 /// The features that are kept by default: those of HarfBuzz's `hb-subset`.
@@ -66,17 +66,12 @@ impl Features {
         Ok(features)
     }
 
-    /// Returns whether a feature is kept.
-    pub fn has(&self, tag: [u8; 4]) -> bool {
-        self.all || self.tags.contains(&u32::from_be_bytes(tag))
-    }
-
-    /// Returns the lookups of a `GSUB` or `GPOS` table that these features name, or all lookups for all features.
-    pub fn lookups(&self, alloc: Global, table: &[u8], limit: &mut u64) -> Found<Vec<u16>> {
+    /// Returns the features as the library takes them.
+    pub fn chosen(&self) -> Chosen<'_> {
         if self.all {
-            all_lookups(alloc, table)
+            Chosen::All
         } else {
-            feature_lookups(alloc, table, &self.tags, limit)
+            Chosen::These(&self.tags)
         }
     }
 }

@@ -7,7 +7,7 @@ use crate::glyph;
 use crate::limit::Budget;
 use crate::progress::Progress;
 use crate::sheet::Sheet;
-use crate::text::Text;
+use crate::text::{Text, end_in};
 use clap::ArgMatches;
 use postscript_outline::Outline;
 use postscript_sfnt::CharacterMap;
@@ -142,7 +142,7 @@ fn lines<G: Glyphs, W: Write>(
         if !put_line(alloc, &mut line, glyphs, gid, budget) {
             refused = refused.saturating_add(1);
         }
-        line.end_in(out)?;
+        end_in(&mut line, out)?;
     }
     Ok(refused)
 }

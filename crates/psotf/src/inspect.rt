@@ -7,7 +7,7 @@ use crate::hints::hinted;
 use crate::limit::Budget;
 use crate::sheet::Sheet;
 use crate::stopped::Stopped;
-use crate::text::Text;
+use crate::text::{Text, end_in};
 use crate::{layouts, readings};
 use postscript_base::compact1::Operator;
 use postscript_sfnt::Name;
@@ -228,7 +228,7 @@ fn lines<W: Write>(
     font_lines(alloc, &mut lines, face);
     part_lines(alloc, &mut lines, face);
     readings::put_lines(alloc, &mut lines, face.cff);
-    lines.end_in(out)
+    end_in(&mut lines, out)
 }
 
 /// Prints the contents of a font. Afterwards it fails if glyphs cost more than the limit, with the number of these

@@ -1,145 +1,58 @@
 //! The command `instance`: static fonts with outlines in a `CFF ` table.
-mod drawn;
-mod gaps;
-mod glyph_names;
-mod kept;
-mod metrics;
-mod positions;
-mod records;
-mod style;
-mod values;
-
 use crate::failure::{Failure, Refusal};
+use crate::leaving::tags;
 use crate::limit::Budget;
-use crate::made::Made;
-use crate::variable::{Chosen, VariableFace};
+use crate::progress::Progress;
+use crate::text::Text;
+use crate::variable::{VariableFace, chosen_by};
 use crate::{saving, telling};
 use clap::ArgMatches;
-use drawn::{Drawn, advances_at};
-use glyph_names::{Kept, names_of};
-use postscript_instance::{Error, Naming, glyph, rounded_glyph, rounded_table, table};
-use std::alloc::Global;
+pub use postscript_instance_file::RUNS;
+use postscript_instance_file::{Error, GlyphError, StaticFont, Watch, static_font};
+use postscript_sfnt::FontFile;
+use std::alloc::{AllocError, Global};
 use std::io::Write;
-use style::Style;
 
-/// How often a glyph is run: it is drawn, measured, encoded and written, and its bytes are read back.
-pub const RUNS: u64 = 5;
+/// The tags of the tables about variations, and of the digital signature.
+const GONE: [[u8; 4]; 9] = [
+    *b"CFF2", *b"DSIG", *b"HVAR", *b"MVAR", *b"STAT", *b"VVAR", *b"avar", *b"cvar", *b"fvar",
+];
 
-/// Returns the error of the first glyph that cannot be written.
-fn unwritten(
-    alloc: Global,
-    face: &VariableFace<'_>,
-    chosen: &Chosen,
-    drawn: &Drawn,
-) -> Option<Failure> {
-    for i in 0..drawn.widths.len() {
-        let width = drawn.widths.get(i).copied();
-        let written = if drawn.is_rounded {
-            rounded_glyph(alloc, &face.font, i, &chosen.place, width)
-        } else {
-            glyph(alloc, &face.font, i, &chosen.place, width)
-        };
-        if let Err(error) = written {
-            let gid = u16::try_from(i).unwrap_or(u16::MAX);
-            return Some(Failure::glyph(gid, &Refusal::unwritten(error)));
-        }
+/// Tags of tables, and the features that are lost with them.
+const LOST: [([u8; 4], &str); 5] = [
+    (*b"GPOS", "kerning and mark positions"),
+    (*b"GSUB", "ligatures and other substitutions"),
+    (*b"GDEF", "glyph classes"),
+    (*b"vmtx", "vertical metrics"),
+    (*b"COLR", "colours"),
+];
+
+impl<'r> Watch for Progress<'r> {
+    fn at_glyph(&mut self, gid: u16) {
+        self.at(u64::from(gid));
     }
-    None
 }
 
-/// Returns the error of a table that is not written, with the glyph if it is about one.
-fn refusal_of(
-    alloc: Global,
-    face: &VariableFace<'_>,
-    chosen: &Chosen,
-    drawn: &Drawn,
-    error: Error,
-) -> Failure {
+/// Returns the error of a glyph that is not written.
+fn refusal_of(error: GlyphError, budget: &mut Budget) -> Refusal {
     match error {
-        Error::TooManyOperands | Error::NoMove | Error::TooFar => match unwritten(
-            alloc, face, chosen, drawn,
-        ) {
-            Some(failure) => failure,
-            None => Failure::from(error),
-        },
+        GlyphError::NoPart => Refusal::NoPart,
+        GlyphError::TooLong(limit) => Refusal::TooLong(limit),
+        GlyphError::Held(most) => Refusal::Held(most),
+        GlyphError::Segments(most) => Refusal::Segments(most),
+        GlyphError::UsedUp => budget.stop(0),
+        GlyphError::Run(fault) => Refusal::run(fault),
+        GlyphError::Undrawn(fault) => Refusal::accent(fault),
+        error => Refusal::other(error),
+    }
+}
+
+/// Returns the failure of an instance that is not written.
+fn failure_of(error: Error, budget: &mut Budget) -> Failure {
+    match error {
+        Error::Glyph(gid, error) => Failure::glyph(gid, &refusal_of(error, budget)),
         error => Failure::from(error),
     }
-}
-
-/// Returns the `CFF ` table of an instance, with glyph names if they are kept.
-fn font_of(
-    alloc: Global,
-    face: &VariableFace<'_>,
-    chosen: &Chosen,
-    drawn: &Drawn,
-    style: &Style,
-    names: &Kept<'_>,
-) -> Result<Vec<u8>, Failure> {
-    let naming = Naming {
-        font: style.postscript.as_str().as_bytes(),
-        glyphs: names.names(),
-    };
-    let advances = advances_at(face, chosen);
-    let written = if drawn.is_rounded {
-        rounded_table(alloc, &face.font, &naming, &advances)
-    } else {
-        table(alloc, &face.font, &naming, &advances)
-    };
-    match written {
-        Ok(font) => Ok(font),
-        Err(error) => Err(refusal_of(alloc, face, chosen, drawn, error)),
-    }
-}
-
-/// Adds all tables that are made for an instance.
-fn put_all(
-    made: &mut Made,
-    alloc: Global,
-    face: &VariableFace<'_>,
-    chosen: &Chosen,
-    drawn: &Drawn,
-    style: &Style,
-    names: &Kept<'_>,
-) -> Result<(), Failure> {
-    made.put(*b"CFF ", font_of(alloc, face, chosen, drawn, style, names));
-    made.end()?;
-    metrics::put(made, alloc, face, chosen, drawn, style)?;
-    positions::put(made, alloc, face, chosen);
-    made.end()
-}
-
-/// Returns the file of the made tables and the copied ones.
-fn file_with(alloc: Global, face: &VariableFace<'_>, made: &Made) -> Result<Vec<u8>, Failure> {
-    let mut tables = made.tables(alloc)?;
-    kept::put(&mut tables, face)?;
-    saving::file(alloc, &mut tables)
-}
-
-/// A static font, the tables that were made for it, and why its glyph names are dropped, if they are.
-#[derive(Drop)]
-struct StaticFile {
-    file: Vec<u8>,
-    made: Made,
-    lost: Option<&'static str>,
-}
-
-/// Returns the static font of an instance with measured glyphs and a style.
-fn styled(
-    alloc: Global,
-    face: &VariableFace<'_>,
-    chosen: &Chosen,
-    drawn: &Drawn,
-    style: &Style,
-) -> Result<StaticFile, Failure> {
-    let names = names_of(alloc, face)?;
-    let mut made = Made::new(alloc);
-    put_all(&mut made, alloc, face, chosen, drawn, style, &names)?;
-    let file = file_with(alloc, face, &made)?;
-    Ok(StaticFile {
-        file,
-        made,
-        lost: names.lost(),
-    })
 }
 
 /// Returns the static font of the instance in the arguments, with rounded points if `is_rounded` is true. It fails if a
@@ -150,22 +63,63 @@ fn made(
     words: &ArgMatches<'_>,
     budget: &mut Budget,
     is_rounded: bool,
-) -> Result<StaticFile, Failure> {
-    let chosen = Chosen::read(rt, face, words)?;
-    let drawn = Drawn::of(rt, face, &chosen, budget, is_rounded)?;
-    let style = Style::of(rt.alloc(), face, &chosen)?;
-    styled(rt.alloc(), face, &chosen, &drawn, &style)
+) -> Result<StaticFont, Failure> {
+    let location = chosen_by(rt, face, words)?;
+    let mut progress = Progress::new(rt, face.common.glyphs);
+    let mut left = budget.left / budget.weight;
+    let (alloc, opened, limit) = (rt.alloc(), &face.opened, budget.limit);
+    let made = static_font(
+        alloc,
+        opened,
+        &location,
+        is_rounded,
+        limit,
+        &mut left,
+        &mut progress,
+    );
+    progress.end();
+    match made {
+        Ok(made) => Ok(made),
+        Err(error) => Err(failure_of(error, budget)),
+    }
+}
+
+/// Returns the features that are lost with the dropped tables.
+fn lost(alloc: Global, old: &FontFile<'_>, new: &FontFile<'_>) -> Result<String, AllocError> {
+    let mut text = Text::new(alloc);
+    for (tag, what) in &LOST {
+        if old.table(*tag).is_some() && new.table(*tag).is_none() {
+            text.push_str(if text.is_empty() {
+                "; lost with them: "
+            } else {
+                ", "
+            });
+            text.push_str(what);
+        }
+    }
+    text.end()
+}
+
+/// Reports on standard error, in one line, the tables and the features that a static font does not have.
+fn tell_tables(rt: &HostRuntime, old: &FontFile<'_>, instance: &[u8]) -> Result<(), Failure> {
+    let new = FontFile::read(instance, 0)?;
+    let tags = tags(rt.alloc(), old, &new, &GONE)?;
+    if tags.is_empty() {
+        return Ok(());
+    }
+    let lost = lost(rt.alloc(), old, &new)?;
+    telling::tell(rt, format_args!("tables dropped:{tags}{lost}"))
 }
 
 /// Reports dropped glyph names and dropped tables, one line for each.
-fn tell(rt: &HostRuntime, face: &VariableFace<'_>, made: &StaticFile) -> Result<(), Failure> {
-    if let Some(why) = made.lost {
+fn tell(rt: &HostRuntime, face: &VariableFace<'_>, made: &StaticFont) -> Result<(), Failure> {
+    if let Some(why) = made.lost_names {
         telling::tell(
             rt,
             format_args!("glyph names dropped (the font becomes CID-keyed): {why}"),
         )?;
     }
-    kept::tell(rt, face, &made.made)
+    tell_tables(rt, &face.opened.file, &made.file)
 }
 
 /// Returns the static font of the instance in the arguments, as input of another command. If `tells` is true, it

@@ -1,74 +1,96 @@
-//! Layout tables in a subset that keeps glyph numbers. They are copied, and the glyphs of all their substitutions are
-//! kept.
+//! The layout tables of a subset.
 use crate::face::Face;
 use crate::failure::Failure;
+use crate::features::Features;
 use crate::limit::Budget;
-use clap::ArgMatches;
-use postscript_layout::{Error, closure};
+use crate::telling;
+use crate::text::Text;
+use postscript_files::{Choice, subset_file};
+use postscript_subset::{Error, Outcome, Subset, glyphs_with_layout, subset_with_layout};
 use std::alloc::{AllocError, Global};
 
-/// The tables that are copied. They name glyphs by number, or have values for all glyphs.
-pub const TABLES: [[u8; 4]; 8] = [
-    *b"BASE", *b"GDEF", *b"GPOS", *b"GSUB", *b"VORG", *b"kern", *b"vhea", *b"vmtx",
-];
-
-/// Returns whether a subset keeps the layout tables.
-pub fn is_kept(words: &ArgMatches<'_>) -> bool {
-    words.get_flag("retain-gids") && !words.get_flag("drop-layout")
-}
-
-/// Returns glyph numbers in 16 bits.
-pub fn narrow(alloc: Global, glyphs: &[usize]) -> Result<Vec<u16>, AllocError> {
-    let mut numbers = Vec::new(alloc);
-    for glyph in glyphs {
-        numbers.push(u16::try_from(*glyph).unwrap_or(0))?;
-    }
-    Ok(numbers)
-}
-
-/// Returns the closure of glyphs over the `GSUB` table, within the share of one glyph.
-fn closed(
+/// Returns the chosen glyphs, and the glyphs that substitutions can make of them. It fails if the search costs more than
+/// the share of one glyph.
+pub fn closed(
     alloc: Global,
     face: &Face<'_>,
-    glyphs: &[u16],
+    choice: &Choice<'_>,
+    features: &Features,
     budget: &mut Budget,
-) -> Result<Vec<u16>, Failure> {
-    let gsub = face.source.file.table(*b"GSUB").unwrap_or(&[]);
+) -> Result<Vec<usize>, Failure> {
+    let opened = postscript_files::Face::open(face.source.bytes, face.source.number)?;
     let share = budget.share();
     let mut left = share;
-    match closure(alloc, gsub, glyphs, &mut left) {
-        Ok(glyphs) => {
-            budget.spend(share.saturating_sub(left));
-            Ok(glyphs)
-        }
+    let found = glyphs_with_layout(alloc, &opened, choice, features.chosen(), &mut left);
+    budget.spend(share.saturating_sub(left));
+    match found {
+        Ok(glyphs) => Ok(glyphs),
         Err(Error::TooLong) => Err(Failure::substitutions(&budget.stop(share))),
-        Err(Error::Memory) => Err(Failure::from(AllocError)),
+        Err(error) => Err(Failure::from(error)),
     }
 }
 
-/// Adds the glyphs of a closure that the font has.
-pub fn put_closed(
-    face: &Face<'_>,
-    closed: &[u16],
-    added: &mut Vec<usize>,
-) -> Result<(), AllocError> {
-    for glyph in closed {
-        if usize::from(*glyph) < face.font.char_strings.len() {
-            added.push(usize::from(*glyph))?;
-        }
-    }
-    Ok(())
-}
-
-/// Adds the glyphs and all glyphs of the font that substitutions can make of them.
-pub fn close(
+/// Returns the subset with layout tables, within the rest of the budget.
+pub fn written(
     alloc: Global,
     face: &Face<'_>,
-    glyphs: &[usize],
-    added: &mut Vec<usize>,
+    choice: &Choice<'_>,
+    features: &Features,
     budget: &mut Budget,
-) -> Result<(), Failure> {
-    let named = narrow(alloc, glyphs)?;
-    let closed = closed(alloc, face, &named, budget)?;
-    Ok(put_closed(face, &closed, added)?)
+) -> Result<Subset, Failure> {
+    let (bytes, number) = (face.source.bytes, face.source.number);
+    let mut left = budget.left;
+    let written = subset_with_layout(alloc, bytes, number, choice, features.chosen(), &mut left);
+    budget.left = left;
+    match written {
+        Ok(subset) => Ok(subset),
+        Err(Error::TooLong) => Err(Failure::substitutions(&budget.stop(0))),
+        Err(error) => Err(Failure::from(error)),
+    }
+}
+
+/// Returns the subset without layout tables.
+pub fn plain(alloc: Global, face: &Face<'_>, choice: &Choice<'_>) -> Result<Subset, Failure> {
+    let (bytes, number) = (face.source.bytes, face.source.number);
+    Ok(Subset {
+        file: subset_file(alloc, bytes, number, choice)?,
+        gsub: Outcome::NotChosen,
+        gpos: Outcome::NotChosen,
+        gdef: Outcome::NotChosen,
+        left_out: Vec::new(alloc),
+    })
+}
+
+/// Returns numbers as a text, with a space before each.
+fn list_of(alloc: Global, numbers: &[u16]) -> Result<String, AllocError> {
+    let mut text = Text::new(alloc);
+    for number in numbers {
+        text.push(' ');
+        text.put_number(u64::from(*number));
+    }
+    text.end()
+}
+
+/// Reports on standard error why a table is lost, if it is.
+fn tell_lost(rt: &HostRuntime, what: &str, outcome: Outcome) -> Result<(), Failure> {
+    match outcome {
+        Outcome::Lost(error) => telling::tell(rt, format_args!("{what} are lost: {error}")),
+        _ => Ok(()),
+    }
+}
+
+/// Reports on standard error why kerning or substitutions are lost, and which lookups are left out.
+pub fn tell(rt: &HostRuntime, subset: &Subset) -> Result<(), Failure> {
+    tell_lost(rt, "kerning and marks", subset.gpos)?;
+    tell_lost(rt, "substitutions", subset.gsub)?;
+    if subset.left_out.is_empty() {
+        return Ok(());
+    }
+    let list = list_of(rt.alloc(), &subset.left_out)?;
+    telling::tell(
+        rt,
+        format_args!(
+            "GSUB lookups dropped (reverse chaining, unknown formats, classes or sets of marks):{list}"
+        ),
+    )
 }

@@ -1,18 +1,12 @@
-//! The tables that a subset drops.
+//! The tables of a font that a new file does not have.
 use crate::failure::Failure;
+use crate::telling;
 use crate::text::Text;
-use crate::{layout, telling};
-use postscript_files::Given;
 use postscript_sfnt::FontFile;
 use std::alloc::{AllocError, Global};
 
-/// The tags of the tables that every subset has.
-const KEPT: [[u8; 4]; 9] = [
-    *b"CFF ", *b"OS/2", *b"cmap", *b"head", *b"hhea", *b"hmtx", *b"maxp", *b"name", *b"post",
-];
-
 /// Adds a space and a tag. Bytes that are not printable ASCII are replaced by `?`.
-pub fn put_tag(text: &mut Text, tag: &[u8; 4]) {
+fn put_tag(text: &mut Text, tag: &[u8; 4]) {
     text.push(' ');
     for byte in tag {
         text.push(if byte.is_ascii_graphic() || *byte == b' ' {
@@ -23,66 +17,46 @@ pub fn put_tag(text: &mut Text, tag: &[u8; 4]) {
     }
 }
 
-/// Returns whether a table with a tag is given.
-fn is_given(given: &[Given], tag: u32) -> bool {
-    for table in given {
-        if table.tag == tag {
-            return true;
-        }
-    }
-    false
-}
-
-/// Returns the tags of the dropped tables, with a space before each.
-fn tags(
+/// Returns the tags of the dropped tables, with a space before each, except some tags.
+pub fn tags(
     alloc: Global,
-    file: &FontFile<'_>,
-    copied: bool,
-    given: &[Given],
+    old: &FontFile<'_>,
+    new: &FontFile<'_>,
+    except: &[[u8; 4]],
 ) -> Result<String, AllocError> {
     let mut text = Text::new(alloc);
-    for i in 0..file.tables() {
-        let number = file.tag(i).unwrap_or(0);
-        let tag = number.to_be_bytes();
-        let is_layout = copied && layout::TABLES.contains(&tag);
-        if !KEPT.contains(&tag) && !is_layout && !is_given(given, number) {
+    for i in 0..old.tables() {
+        let tag = old.tag(i).unwrap_or(0).to_be_bytes();
+        if new.table(tag).is_none() && !except.contains(&tag) {
             put_tag(&mut text, &tag);
         }
     }
     text.end()
 }
 
-/// The features that a subset loses.
-#[derive(Clone, Copy)]
-pub struct Lost {
-    pub kerning: bool,
-    pub ligatures: bool,
+/// Returns whether a font has kerning.
+fn has_kerning(file: &FontFile<'_>) -> bool {
+    file.table(*b"GPOS").is_some() || file.table(*b"kern").is_some()
 }
 
-impl Lost {
-    /// Returns the end of the message.
-    fn words(self) -> &'static str {
-        match (self.kerning, self.ligatures) {
-            (true, true) => "; kerning and ligatures are lost",
-            (true, false) => "; kerning is lost",
-            (false, true) => "; ligatures are lost",
-            (false, false) => "",
-        }
+/// Returns the end of the message: the features that are lost.
+fn lost(old: &FontFile<'_>, new: &FontFile<'_>) -> &'static str {
+    let kerning = has_kerning(old) && !has_kerning(new);
+    let ligatures = old.table(*b"GSUB").is_some() && new.table(*b"GSUB").is_none();
+    match (kerning, ligatures) {
+        (true, true) => "; kerning and ligatures are lost",
+        (true, false) => "; kerning is lost",
+        (false, true) => "; ligatures are lost",
+        (false, false) => "",
     }
 }
 
-/// Reports on standard error, in one line, the dropped tables and the lost features. `copied` is true if the layout
-/// tables are copied. `given` has the tables that were made.
-pub fn tell(
-    rt: &HostRuntime,
-    file: &FontFile<'_>,
-    copied: bool,
-    given: &[Given],
-    lost: Lost,
-) -> Result<(), Failure> {
-    let tags = tags(rt.alloc(), file, copied, given)?;
+/// Reports on standard error, in one line, the tables and the features of a font that its subset does not have.
+pub fn tell(rt: &HostRuntime, old: &FontFile<'_>, subset: &[u8]) -> Result<(), Failure> {
+    let new = FontFile::read(subset, 0)?;
+    let tags = tags(rt.alloc(), old, &new, &[])?;
     if tags.is_empty() {
         return Ok(());
     }
-    telling::tell(rt, format_args!("tables dropped:{tags}{}", lost.words()))
+    telling::tell(rt, format_args!("tables dropped:{tags}{}", lost(old, &new)))
 }

@@ -2,14 +2,10 @@
 mod head;
 mod operations;
 mod outlines;
-mod page;
 mod pages;
 mod parts;
 mod row;
-mod script;
 mod short;
-mod style;
-mod sum;
 mod unread;
 
 use crate::characters::{Mapped, by_glyph};
@@ -23,13 +19,10 @@ use crate::saving::NewFile;
 use crate::sheet::Sheet;
 use crate::stopped::Stopped;
 use clap::ArgMatches;
-use page::{BEFORE_DATA, BEFORE_SCRIPT, BEFORE_SCRIPT_SUM, BEFORE_STYLE, BEFORE_STYLE_SUM, END};
 use pages::{PAGES, Pages};
-use script::script;
+use psotf_page::end;
 use std::alloc::{AllocError, Global};
 use std::ops::Range;
-use style::style;
-use sum::put_sum;
 pub use unread::write_refused;
 
 /// The most that a unit of a run costs. A glyph is drawn and written, searched for hints, checked, and measured twice
@@ -107,27 +100,10 @@ fn write_data(
     write_glyphs(rt, common.face, common.mapped, gids, budget, stopped, file)
 }
 
-fn put_texts(page: &mut Vec<u8>, texts: &[&str]) -> Result<(), AllocError> {
-    for text in texts {
-        page.extend_from_slice(text.as_bytes())?;
-    }
-    Ok(())
-}
-
-/// Adds the page up to the block of JSON.
+/// Adds the page up to the block of JSON, and the beginning of the block.
 fn begin(alloc: Global, page: &mut Vec<u8>) -> Result<(), AllocError> {
-    put_texts(page, &[BEFORE_SCRIPT_SUM])?;
-    put_sum(alloc, page, &script())?;
-    put_texts(page, &[BEFORE_STYLE_SUM])?;
-    put_sum(alloc, page, &[style()])?;
-    put_texts(page, &[BEFORE_STYLE, style(), BEFORE_DATA, "{\"head\":"])
-}
-
-/// Adds the page after the block of JSON.
-fn end(page: &mut Vec<u8>) -> Result<(), AllocError> {
-    put_texts(page, &[BEFORE_SCRIPT])?;
-    put_texts(page, &script())?;
-    put_texts(page, &[END])
+    psotf_page::begin(alloc, page)?;
+    page.extend_from_slice(b"{\"head\":")
 }
 
 /// Writes the page that begins with a glyph to a file.

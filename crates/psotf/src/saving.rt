@@ -3,17 +3,10 @@ use crate::failure::Failure;
 use crate::telling;
 use crate::text::Text;
 use clap::ArgMatches;
-use postscript_sfnt_write::{Table, file_of};
-use std::alloc::{AllocError, Global};
+use std::alloc::AllocError;
 use std::fs::File;
 use std::io::Write;
 use std::{fs, io};
-
-/// Returns the bytes of a font file, with its tables sorted by tag.
-pub fn file(alloc: Global, tables: &mut Vec<Table<'_>>) -> Result<Vec<u8>, Failure> {
-    tables.sort_by_key(|table: &Table<'_>| table.tag)?;
-    Ok(file_of(alloc, tables.as_slice())?)
-}
 
 /// A file that is written piece by piece, beside its path. It gets its name at the end.
 #[derive(Drop)]

@@ -1,11 +1,12 @@
 //! Lines of JSON.
 use crate::failure::Failure;
+use crate::telling;
 use crate::text::Text;
-use crate::{decimal, telling};
 use json::{Writer, is_number};
 use postscript_base::compact1;
 use postscript_outline::{Bounds, Point, Segment};
 use postscript_sfnt::Name;
+use postscript_text::decimal;
 use postscript_type2::Operand;
 use std::alloc::{AllocError, Global};
 use std::fmt::Display;

@@ -4,76 +4,34 @@ mod glyphs;
 mod holds;
 mod moving;
 mod place;
-mod weight;
 
 use crate::face::Common;
 use crate::failure::Failure;
 use crate::instance;
 use crate::limit::Budget;
 use clap::ArgMatches;
-pub use glyphs::{advance_of, refusal_of};
-pub use place::{Chosen, name_of, text_of};
-use postscript_cff2::Font;
+pub use place::chosen_by;
 use postscript_sfnt::FontFile;
-use postscript_variation::{AdvanceVariations, Axes, Maps};
 use std::io::Write;
-use weight::heavy_table;
 
 /// A font of a file, with a `CFF2` table.
 #[derive(Clone, Copy)]
 pub struct VariableFace<'l> {
-    pub file: FontFile<'l>,
     pub common: Common<'l>,
-    pub font: Font<'l>,
-    /// The axes of `fvar`. Without that table the font has no axes.
-    pub axes: Option<Axes<'l>>,
-    /// The `avar` table.
-    pub maps: Option<Maps<'l>>,
-    /// The `HVAR` table.
-    pub advances: Option<AdvanceVariations<'l>>,
-}
-
-/// Returns a table of variations that was read, or its error.
-pub fn read_as<T>(name: &'static str, read: postscript_variation::Result<T>) -> Result<T, Failure> {
-    match read {
-        Ok(read) => Ok(read),
-        Err(error) => Err(Failure::variations(name, error)),
-    }
+    /// The font and its tables of variations.
+    pub opened: postscript_instance_file::VariableFace<'l>,
 }
 
 impl<'l> VariableFace<'l> {
     /// Reads a font of a file. Returns `None` if it has no `CFF2` table, or also has a `CFF ` table. It fails if a
     /// table is invalid or too expensive to process.
     pub fn open(file: &FontFile<'l>) -> Result<Option<VariableFace<'l>>, Failure> {
-        let Some(cff2) = file.table(*b"CFF2") else {
-            return Ok(None);
-        };
-        if file.table(*b"CFF ").is_some() {
-            return Ok(None);
-        }
-        let axes = match file.table(*b"fvar") {
-            Some(fvar) => Some(read_as("fvar", Axes::read(fvar))?),
-            None => None,
-        };
-        let maps = match file.table(*b"avar") {
-            Some(avar) => Some(read_as("avar", Maps::read(avar))?),
-            None => None,
-        };
-        let advances = match file.table(*b"HVAR") {
-            Some(hvar) => Some(read_as("HVAR", AdvanceVariations::read(hvar))?),
-            None => None,
-        };
-        let face = VariableFace {
-            file: *file,
-            common: Common::open(file)?,
-            font: Font::read(cff2)?,
-            axes,
-            maps,
-            advances,
-        };
-        match heavy_table(&face) {
-            Some(name) => Err(Failure::heavy(name)),
-            None => Ok(Some(face)),
+        match postscript_instance_file::VariableFace::open(file)? {
+            Some(opened) => Ok(Some(VariableFace {
+                common: Common::open(file)?,
+                opened,
+            })),
+            None => Ok(None),
         }
     }
 }

@@ -1,12 +1,13 @@
 //! Pages about files with an invalid `CFF ` table.
 use super::pages::Pages;
-use super::{begin, end, head, parts, path_of};
+use super::{begin, head, parts, path_of};
 use crate::face::{Source, refusal_of};
 use crate::failure::Failure;
 use crate::readings;
 use crate::saving::save;
 use crate::sheet::Sheet;
 use clap::ArgMatches;
+use psotf_page::end;
 use std::alloc::{AllocError, Global};
 
 /// Writes the errors of the readers: of the in-place reader, and of those of the whole font.

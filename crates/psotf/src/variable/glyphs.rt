@@ -1,12 +1,12 @@
 //! Glyphs of variable fonts at a location.
-use super::place::Chosen;
+use super::place::{Chosen, chosen_by};
 use super::{VariableFace, moving};
 use crate::characters::{Mapped, of_glyph};
 use crate::drawing::SEGMENT;
 use crate::failure::{Failure, Refusal};
 use crate::glyph::{chars, shape};
 use crate::glyphs::{self, Glyphs};
-use crate::held::Held;
+use crate::held::{full_by, held_within};
 use crate::limit::Budget;
 use crate::sheet::Sheet;
 use crate::svg;
@@ -16,38 +16,26 @@ use postscript_drawing::Error as Undrawn;
 use postscript_outline::Outline;
 use postscript_sfnt::CharacterMap;
 use postscript_variable_drawing::draw_glyph;
-use postscript_variation::in_whole;
 use std::alloc::Global;
 use std::io::Write;
 
 /// Returns the number of glyphs that have a charstring.
 pub fn count(face: &VariableFace<'_>) -> u16 {
-    let charstrings = face.font.char_strings.len().min(65535) as u16;
+    let charstrings = face.opened.font.char_strings.len().min(65535) as u16;
     face.common.glyphs.min(charstrings)
 }
 
 /// Returns the advance of a glyph at a location: that in `hmtx` plus the delta in `HVAR`, rounded to the nearest unit.
 pub fn advance_of(face: &VariableFace<'_>, gid: u16, chosen: &Chosen) -> i64 {
-    let advance = i64::from(face.common.advances.of(gid));
-    let Some(variations) = &face.advances else {
-        return advance;
-    };
-    match variations.variation(usize::from(gid), chosen.coordinates.as_slice()) {
-        Some(total) => advance.saturating_add(in_whole(total)),
-        None => advance,
-    }
+    let advance = face.opened.advances_at(&chosen.coordinates).of(gid);
+    i64::try_from(advance).unwrap_or(0)
 }
 
 /// Returns the error of a glyph that was run within a share.
-pub fn refusal_of(
-    error: Undrawn,
-    face: &VariableFace<'_>,
-    share: u64,
-    budget: &mut Budget,
-) -> Refusal {
+fn refusal_of(error: Undrawn, face: &VariableFace<'_>, share: u64, budget: &mut Budget) -> Refusal {
     match error {
         Undrawn::Font(fault) => {
-            budget.spend_whole(face.font.bytes.len() as u64);
+            budget.spend_whole(face.opened.font.bytes.len() as u64);
             Refusal::run(fault)
         }
         Undrawn::NoSuchGlyph(_) => Refusal::NoPart,
@@ -66,10 +54,10 @@ pub fn outline_of(
 ) -> Result<Outline, Refusal> {
     let share = budget.share();
     let mut left = share;
-    let mut held = Held::new(alloc, budget);
+    let mut held = held_within(alloc, budget);
     let drawn = draw_glyph(
         alloc,
-        &face.font,
+        &face.opened.font,
         usize::from(gid),
         &chosen.place,
         &mut left,
@@ -82,7 +70,7 @@ pub fn outline_of(
             segments: held.segments,
             width_difference: None,
         }),
-        Err(error) => match held.refusal_of(&error) {
+        Err(error) => match full_by(&held, &error) {
             Some(refusal) => Err(refusal),
             None => Err(refusal_of(error, face, share, budget)),
         },
@@ -164,7 +152,7 @@ pub fn write<W: Write>(
     budget: &mut Budget,
     out: &mut W,
 ) -> Result<(), Failure> {
-    let chosen = Chosen::read(rt, face, words)?;
+    let chosen = chosen_by(rt, face, words)?;
     let placed = Placed {
         face,
         chosen: &chosen,
@@ -183,7 +171,7 @@ pub fn write_picture<W: Write>(
     if let Some(axis) = words.get_str("animate") {
         return moving::write(rt, face, axis, words, budget, out);
     }
-    let chosen = Chosen::read(rt, face, words)?;
+    let chosen = chosen_by(rt, face, words)?;
     let placed = Placed {
         face,
         chosen: &chosen,

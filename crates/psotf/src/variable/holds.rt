@@ -1,20 +1,19 @@
 //! The command `inspect` for variable fonts.
 use super::VariableFace;
-use super::place::name_of;
 use crate::characters::count;
-use crate::decimal::put_bits;
 use crate::face::called;
 use crate::failure::Failure;
 use crate::layouts;
 use crate::sheet::Sheet;
-use crate::text::Text;
+use crate::text::{Text, end_in};
+use postscript_text::decimal::put_bits;
 use postscript_variation::{Axes, Axis};
 use std::alloc::Global;
 use std::io::Write;
 
 /// Returns the counts of a font, with their keys.
 fn counts(face: &VariableFace<'_>, characters: u64) -> [(&'static str, u64); 7] {
-    let data = match &face.font.store {
+    let data = match &face.opened.font.store {
         Some(store) => store.len(),
         None => 0,
     };
@@ -22,14 +21,14 @@ fn counts(face: &VariableFace<'_>, characters: u64) -> [(&'static str, u64); 7] 
         ("units_per_em", u64::from(face.common.units)),
         ("glyphs", u64::from(face.common.glyphs)),
         ("characters", characters),
-        ("char_strings", face.font.char_strings.len() as u64),
+        ("char_strings", face.opened.font.char_strings.len() as u64),
         (
             "global_subroutines",
-            face.font.global_subroutines.len() as u64,
+            face.opened.font.global_subroutines.len() as u64,
         ),
         (
             "font_dictionaries",
-            face.font.font_dictionaries.len() as u64,
+            face.opened.font.font_dictionaries.len() as u64,
         ),
         ("variation_data", data as u64),
     ]
@@ -40,7 +39,7 @@ fn axis(sheet: &mut Sheet, face: &VariableFace<'_>, axis: &Axis) {
     sheet.begin_object();
     sheet.key("tag");
     sheet.bytes(&axis.tag.to_be_bytes());
-    sheet.name("name", name_of(face, axis.name));
+    sheet.name("name", face.opened.name(axis.name));
     sheet.key("min");
     sheet.bits(i64::from(axis.minimum));
     sheet.key("default");
@@ -57,7 +56,7 @@ fn instance(sheet: &mut Sheet, face: &VariableFace<'_>, axes: &Axes<'_>, i: usiz
         return;
     };
     sheet.begin_object();
-    sheet.name("name", name_of(face, instance.name));
+    sheet.name("name", face.opened.name(instance.name));
     sheet.begin_list("coordinates");
     for axis in 0..axes.len() {
         sheet.bits(i64::from(axes.coordinate(i, axis).unwrap_or(0)));
@@ -68,7 +67,7 @@ fn instance(sheet: &mut Sheet, face: &VariableFace<'_>, axes: &Axes<'_>, i: usiz
 
 fn axes(sheet: &mut Sheet, face: &VariableFace<'_>) {
     sheet.begin_list("axes");
-    if let Some(axes) = &face.axes {
+    if let Some(axes) = &face.opened.axes {
         for i in 0..axes.len() {
             if let Some(found) = axes.get(i) {
                 axis(sheet, face, &found);
@@ -80,7 +79,7 @@ fn axes(sheet: &mut Sheet, face: &VariableFace<'_>) {
 
 fn instances(sheet: &mut Sheet, face: &VariableFace<'_>) {
     sheet.begin_list("instances");
-    if let Some(axes) = &face.axes {
+    if let Some(axes) = &face.opened.axes {
         for i in 0..axes.instances() {
             instance(sheet, face, axes, i);
         }
@@ -98,7 +97,7 @@ fn put(alloc: Global, sheet: &mut Sheet, face: &VariableFace<'_>) {
     for (key, count) in &counts(face, characters) {
         sheet.number(*key, *count);
     }
-    layouts::put(alloc, sheet, &face.file);
+    layouts::put(alloc, sheet, &face.opened.file);
     axes(sheet, face);
     instances(sheet, face);
     sheet.end_object();
@@ -122,7 +121,7 @@ fn axis_line(alloc: Global, lines: &mut Text, face: &VariableFace<'_>, axis: &Ax
     lines.push_str("axis ");
     lines.put_made(String::from_utf8_lossy(alloc, &axis.tag.to_be_bytes()));
     lines.push_str(": ");
-    lines.put_name(name_of(face, axis.name));
+    lines.put_name(face.opened.name(axis.name));
     put_value(lines, ", ", axis.minimum);
     put_value(lines, " to ", axis.maximum);
     put_value(lines, ", default ", axis.default);
@@ -139,7 +138,7 @@ fn instance_line(lines: &mut Text, face: &VariableFace<'_>, axes: &Axes<'_>, i: 
         return;
     };
     lines.push_str("instance ");
-    lines.put_name(name_of(face, instance.name));
+    lines.put_name(face.opened.name(instance.name));
     lines.push(':');
     for axis in 0..axes.len() {
         put_value(lines, " ", axes.coordinate(i, axis).unwrap_or(0));
@@ -179,12 +178,12 @@ fn instance_lines(lines: &mut Text, face: &VariableFace<'_>, axes: &Axes<'_>) {
 fn lines<W: Write>(alloc: Global, face: &VariableFace<'_>, out: &mut W) -> Result<(), Failure> {
     let mut lines = Text::new(alloc);
     head_lines(alloc, &mut lines, face);
-    layouts::put_lines(alloc, &mut lines, &face.file);
-    if let Some(axes) = &face.axes {
+    layouts::put_lines(alloc, &mut lines, &face.opened.file);
+    if let Some(axes) = &face.opened.axes {
         axis_lines(alloc, &mut lines, face, axes);
         instance_lines(&mut lines, face, axes);
     }
-    lines.end_in(out)
+    end_in(&mut lines, out)
 }
 
 /// Prints the contents of a variable font.

@@ -1,7 +1,7 @@
 //! Animated pictures of variable fonts.
 use super::VariableFace;
 use super::glyphs::{advance_of, count, outline_of};
-use super::place::{Chosen, axis_named};
+use super::place::{Chosen, axis_named, chosen_by, moved};
 use crate::characters::{glyph_of, refuse_missing};
 use crate::failure::Failure;
 use crate::held::BYTE;
@@ -148,7 +148,7 @@ fn put_frame(
     budget: &mut Budget,
     frames: &mut Vec<Frame>,
 ) -> Result<(), Failure> {
-    let place = chosen.at(alloc, face, along)?;
+    let place = moved(alloc, face, chosen, along)?;
     let mut frame = Frame {
         paths: Vec::new(alloc),
         starts: Vec::new(alloc),
@@ -292,7 +292,7 @@ pub fn write<W: Write>(
     let alloc = rt.alloc();
     let axis = axis_named(alloc, face, name)?;
     let gids = asked(alloc, face, words)?;
-    let chosen = Chosen::read(rt, face, words)?;
+    let chosen = chosen_by(rt, face, words)?;
     let picture = moving(alloc, face, &axis, &gids, &chosen, budget)?;
     saving::put(rt, words, picture.as_bytes(), out)
 }

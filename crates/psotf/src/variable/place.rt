@@ -3,24 +3,13 @@ use super::VariableFace;
 use super::fixed::fixed_of;
 use crate::failure::Failure;
 use crate::telling::tell;
-use crate::text::Text;
 use clap::ArgMatches;
-use postscript_sfnt::Name;
-use postscript_variable_font::Place;
+use postscript_text::text_of;
 use postscript_variation::{Axes, Axis, Setting};
 use std::alloc::{AllocError, Global};
 
-/// A location, and the arguments that chose it.
-#[derive(Drop)]
-pub struct Chosen {
-    pub place: Place,
-    /// The normalized coordinates.
-    pub coordinates: Vec<i16>,
-    /// The user coordinates in the arguments.
-    pub settings: Vec<Setting>,
-    /// The number of the instance in the arguments.
-    pub instance: Option<usize>,
-}
+/// A location that the arguments chose.
+pub use postscript_instance_file::Location as Chosen;
 
 /// The message for a malformed list of axis values.
 const NO_SETTINGS: &str = "--variations takes a list of tags and numbers, e.g. wght=650,opsz=12";
@@ -63,7 +52,7 @@ pub fn axis_named(alloc: Global, face: &VariableFace<'_>, name: &str) -> Result<
 
 /// Returns the axes of a font.
 fn axes_of<'f, 'l>(face: &'f VariableFace<'l>) -> Result<&'f Axes<'l>, Failure> {
-    match &face.axes {
+    match &face.opened.axes {
         Some(axes) => Ok(axes),
         None => Err(Failure::no_table("fvar")),
     }
@@ -98,21 +87,6 @@ fn settings_of(rt: &HostRuntime, axes: &Axes<'_>, list: &str) -> Result<Vec<Sett
     Ok(settings)
 }
 
-/// Returns the characters of a name.
-pub fn text_of(alloc: Global, name: Option<Name<'_>>) -> Result<String, AllocError> {
-    let mut text = Text::new(alloc);
-    text.put_name(name);
-    text.end()
-}
-
-/// Returns the name with an ID.
-pub fn name_of<'l>(face: &VariableFace<'l>, identifier: u16) -> Option<Name<'l>> {
-    match &face.common.names {
-        Some(names) => names.get(identifier),
-        None => None,
-    }
-}
-
 /// Returns the number of the first instance with a name.
 fn instance_of(
     alloc: Global,
@@ -122,7 +96,7 @@ fn instance_of(
 ) -> Result<usize, Failure> {
     for i in 0..axes.instances() {
         if let Some(instance) = axes.instance(i) {
-            if text_of(alloc, name_of(face, instance.name))?.as_str() == name {
+            if text_of(alloc, face.opened.name(instance.name))?.as_str() == name {
                 return Ok(i);
             }
         }
@@ -166,62 +140,27 @@ fn asked(
     }
 }
 
-impl Chosen {
-    /// Returns the location of axis values. All other axes have their defaults.
-    fn of(
-        alloc: Global,
-        face: &VariableFace<'_>,
-        settings: Vec<Setting>,
-        instance: Option<usize>,
-    ) -> Result<Chosen, Failure> {
-        let mut coordinates: Vec<i16> = Vec::new(alloc);
-        if let Some(axes) = &face.axes {
-            coordinates.resize(axes.len(), 0)?;
-            axes.normalize(face.maps, settings.as_slice(), &mut coordinates);
-        }
-        let place = Place::of(alloc, face.font.store.as_ref(), coordinates.as_slice())?;
-        Ok(Chosen {
-            place,
-            coordinates,
-            settings,
-            instance,
-        })
-    }
+/// Returns the location that the arguments select. Without them, it is the default instance.
+pub fn chosen_by(
+    rt: &HostRuntime,
+    face: &VariableFace<'_>,
+    words: &ArgMatches<'_>,
+) -> Result<Chosen, Failure> {
+    let (settings, instance) = asked(rt, face, words)?;
+    Ok(Chosen::of(rt.alloc(), &face.opened, settings, instance)?)
+}
 
-    /// Returns the location that the arguments select. Without them, it is the default instance.
-    pub fn read(
-        rt: &HostRuntime,
-        face: &VariableFace<'_>,
-        words: &ArgMatches<'_>,
-    ) -> Result<Chosen, Failure> {
-        let (settings, instance) = asked(rt, face, words)?;
-        Chosen::of(rt.alloc(), face, settings, instance)
+/// Returns the same location with another value of one axis.
+pub fn moved(
+    alloc: Global,
+    face: &VariableFace<'_>,
+    from: &Chosen,
+    along: Setting,
+) -> Result<Chosen, Failure> {
+    let mut settings = Vec::new(alloc);
+    for setting in &from.settings {
+        settings.push(*setting)?;
     }
-
-    /// Returns the same location with another value of one axis.
-    pub fn at(
-        &self,
-        alloc: Global,
-        face: &VariableFace<'_>,
-        along: Setting,
-    ) -> Result<Chosen, Failure> {
-        let mut settings = Vec::new(alloc);
-        for setting in &self.settings {
-            settings.push(*setting)?;
-        }
-        settings.push(along)?;
-        Chosen::of(alloc, face, settings, None)
-    }
-
-    /// Returns the value of an axis in 65536ths: the last one in the arguments with its tag, or the default. It is
-    /// clamped to the axis.
-    pub fn value(&self, axis: &Axis) -> i32 {
-        let mut value = axis.default;
-        for setting in &self.settings {
-            if setting.tag == axis.tag {
-                value = setting.value;
-            }
-        }
-        value.max(axis.minimum).min(axis.maximum)
-    }
+    settings.push(along)?;
+    Ok(Chosen::of(alloc, &face.opened, settings, None)?)
 }

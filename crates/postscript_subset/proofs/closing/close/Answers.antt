@@ -1,6 +1,7 @@
 use Rattle.std.proofs.Common.{◌∙◌, ◌++◌, ◌∷◌, [], ap, subst, ℕ, List}
 use Rattle.std.proofs.lemmas.Result.{err_from_is_err_and}
 use Rattle.postscript_layout.specs.Closure.{IsClosure}
+use Rattle.postscript_subset.specs.Closing.{with_notdef}
 use Rattle.postscript_subset.proofs.Staying.{wide-named}
 use Rattle.postscript_subset.proofs.closing.close.Goals as goal
 
@@ -17,8 +18,8 @@ returns-clause-closed c = record {
   are = c.in_ok-named.ensures.named;
   closure =
       subst (λ (xs : List ℕ). IsClosure c.args.gsub.now c.in_ok-lookups.lookups.items xs c.in_ok-glyphs-2.glyphs.items)
-      (c.deref-3.ensures.value ∙ c.in_ok-push.ensures.items
-      ∙ ap (λ (xs : List ℕ). xs ++ 0 ∷ []) (c.in_ok-glyphs.ensures.same ∙ c.deref.ensures.value))
+      (c.deref-3.ensures.value ∙ c.in_ok-put_notdef.ensures.put
+      ∙ ap with_notdef (c.in_ok-glyphs.ensures.same ∙ c.deref.ensures.value))
       (subst (λ (xs : List ℕ). IsClosure c.args.gsub.now xs c.deref-3.result.now c.in_ok-glyphs-2.glyphs.items) c.deref-2.ensures.value
       c.in_ok-glyphs-2.ensures.closed);
 }

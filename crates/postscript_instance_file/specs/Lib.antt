@@ -1,0 +1,2 @@
+pub mod Faces
+pub mod Instances

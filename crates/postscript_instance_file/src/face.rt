@@ -1,0 +1,199 @@
+//! Variable fonts of files: fonts with outlines in a `CFF2` table.
+ghost use Rattle.std.specs.Prelude.{◌≡◌, IfOk, IfSome};
+ghost use Rattle.postscript_base.specs.Numbers.{big_endian};
+ghost use Rattle.postscript_instance_file.specs.Faces.{HasAdvances, IsFoundFace, IsRead, IsVariableFace, avar_tag, cff2_tag, fvar_tag, hvar_tag};
+ghost use Rattle.postscript_sfnt.specs.Lent.{IsTableOf};
+ghost use Rattle.postscript_variation.specs.LentAdvances.{AreAdvancesOf};
+ghost use Rattle.postscript_variation.specs.LentAxes.{AreAxesOf};
+ghost use Rattle.postscript_variation.specs.LentMaps.{AreMapsOf};
+
+use crate::error::{Error, Result};
+use crate::weight::heavy_table;
+use postscript_cff2::Font;
+use postscript_instance::AdvancesAt;
+use postscript_sfnt::{Advances, FontFile, Name, Names, glyphs};
+use postscript_variation::{AdvanceVariations, Axes, Maps};
+
+/// A font of a file, with a `CFF2` table.
+#[derive(Clone, Copy)]
+pub struct VariableFace<'l> {
+    /// The face in its file.
+    pub file: FontFile<'l>,
+    /// The font in the `CFF2` table.
+    pub font: Font<'l>,
+    /// The number of glyphs in the `maxp` table.
+    pub glyphs: u16,
+    /// The default advance widths, in the `hmtx` table.
+    pub advances: Advances<'l>,
+    /// The names in the `name` table.
+    pub names: Option<Names<'l>>,
+    /// The axes in the `fvar` table. Without it the font has no axes.
+    pub axes: Option<Axes<'l>>,
+    /// The maps of coordinates in the `avar` table.
+    pub maps: Option<Maps<'l>>,
+    /// The variations of advance widths in the `HVAR` table.
+    pub variations: Option<AdvanceVariations<'l>>,
+}
+
+/// Returns a table of variations that was read, or its error.
+pub(crate) fn read_as<T>(name: &'static str, read: postscript_variation::Result<T>) -> Result<T>
+    ensures { IfOk result (λ value. read ≡ Ok value) }
+{
+    match read {
+        Ok(read) => Ok(read),
+        Err(error) => Err(Error::Variations(name, error)),
+    }
+}
+
+/// Returns a required table.
+fn needed<'l>(file: &FontFile<'l>, tag: [u8; 4], name: &'static str) -> Result<&'l [u8]>
+    ensures { IfOk result (λ table. IsTableOf file.now (big_endian tag) table.now) }
+{
+    match file.table(tag) {
+        Some(table) => Ok(table),
+        None => Err(Error::NoTable(name)),
+    }
+}
+
+/// Returns the advance widths of a face.
+fn advances_of<'l>(file: &FontFile<'l>) -> Result<Advances<'l>>
+    ensures { IfOk result (λ advances. HasAdvances file.now advances) }
+{
+    let hhea = needed(file, *b"hhea", "hhea")?;
+    let hmtx = needed(file, *b"hmtx", "hmtx")?;
+    match Advances::read(hhea, hmtx) {
+        Some(advances) => Ok(advances),
+        None => Err(Error::Cut("hmtx")),
+    }
+}
+
+/// Returns the number of glyphs of a face.
+fn glyphs_of(file: &FontFile<'_>) -> Result<u16> {
+    match glyphs(needed(file, *b"maxp", "maxp")?) {
+        Some(glyphs) => Ok(glyphs),
+        None => Err(Error::Cut("maxp")),
+    }
+}
+
+/// Returns the axes of a face, if it has them.
+fn axes_of<'l>(file: &FontFile<'l>) -> Result<Option<Axes<'l>>>
+    ensures { IfOk result (λ axes. IsRead file.now fvar_tag AreAxesOf axes) }
+{
+    match file.table(*b"fvar") {
+        Some(fvar) => Ok(Some(read_as("fvar", Axes::read(fvar))?)),
+        None => Ok(None),
+    }
+}
+
+/// Returns the maps of coordinates of a face, if it has them.
+fn maps_of<'l>(file: &FontFile<'l>) -> Result<Option<Maps<'l>>>
+    ensures { IfOk result (λ maps. IsRead file.now avar_tag AreMapsOf maps) }
+{
+    match file.table(*b"avar") {
+        Some(avar) => Ok(Some(read_as("avar", Maps::read(avar))?)),
+        None => Ok(None),
+    }
+}
+
+/// Returns the variations of advance widths of a face, if it has them.
+fn variations_of<'l>(file: &FontFile<'l>) -> Result<Option<AdvanceVariations<'l>>>
+    ensures { IfOk result (λ variations. IsRead file.now hvar_tag AreAdvancesOf variations) }
+{
+    match file.table(*b"HVAR") {
+        Some(hvar) => Ok(Some(read_as("HVAR", AdvanceVariations::read(hvar))?)),
+        None => Ok(None),
+    }
+}
+
+/// Returns the names of a face, if it has a `name` table that can be read.
+fn names_of<'l>(file: &FontFile<'l>) -> Option<Names<'l>> {
+    match file.table(*b"name") {
+        Some(names) => Names::read(names),
+        None => None,
+    }
+}
+
+/// Returns the `CFF2` table of a face that has no `CFF ` table.
+fn cff2_of<'l>(file: &FontFile<'l>) -> Option<&'l [u8]>
+    ensures { IfSome result (λ cff2. IsTableOf file.now cff2_tag cff2.now) }
+{
+    match file.table(*b"CFF ") {
+        Some(_) => None,
+        None => file.table(*b"CFF2"),
+    }
+}
+
+impl<'l> VariableFace<'l> {
+    /// Opens a face of a file. Faces are numbered from 0.
+    ///
+    /// # Errors
+    ///
+    /// - `File`: the file is malformed, or it has too few faces.
+    /// - `NotVariable`: the face has no `CFF2` table, or it has a `CFF ` table too.
+    /// - The errors of [`VariableFace::open`].
+    pub fn read(bytes: &'l [u8], number: usize) -> Result<VariableFace<'l>>
+        // The font of the face of this number, with what its own tables say.
+        ensures found { IfOk result (λ face. IsFoundFace bytes.now number face) }
+    {
+        let file = FontFile::read(bytes, number)?;
+        match VariableFace::open(&file)? {
+            Some(face) => Ok(face),
+            None => Err(Error::NotVariable),
+        }
+    }
+
+    /// Opens a face. Returns `None` if it has no `CFF2` table, or if it has a `CFF ` table too.
+    ///
+    /// # Errors
+    ///
+    /// - `NoTable` or `Cut`: the `hhea`, `hmtx` or `maxp` table is missing or truncated.
+    /// - `Variations`: the `fvar`, `avar` or `HVAR` table is malformed.
+    /// - `Font`: the `CFF2` table is malformed.
+    /// - `Heavy`: a table makes too much work.
+    pub fn open(file: &FontFile<'l>) -> Result<Option<VariableFace<'l>>>
+        // The font of this face, with what its own tables say.
+        ensures found { IfOk result (λ found. IfSome found (λ face. IsVariableFace file.now face)) }
+    {
+        let Some(cff2) = cff2_of(file) else {
+            return Ok(None);
+        };
+        let face = VariableFace {
+            file: *file,
+            axes: axes_of(file)?,
+            maps: maps_of(file)?,
+            variations: variations_of(file)?,
+            glyphs: glyphs_of(file)?,
+            advances: advances_of(file)?,
+            names: names_of(file),
+            font: Font::read(cff2)?,
+        };
+        match heavy_table(&face) {
+            Some(name) => Err(Error::Heavy(name)),
+            None => Ok(Some(face)),
+        }
+    }
+
+    /// Returns the name with an ID.
+    pub fn name(&self, identifier: u16) -> Option<Name<'l>> {
+        match &self.names {
+            Some(names) => names.get(identifier),
+            None => None,
+        }
+    }
+
+    /// Returns the advance widths at a location.
+    pub fn advances_at<'m>(&'m self, coordinates: &'m [i16]) -> AdvancesAt<'m>
+        // The default advance widths are those of the face.
+        ensures default { result.default ≡ self.now.advances }
+        // The variations are those of the face.
+        ensures variations { result.variations ≡ self.now.variations }
+        // The coordinates are the given ones.
+        ensures coordinates { result.coordinates.now ≡ coordinates.now }
+    {
+        AdvancesAt {
+            default: self.advances,
+            variations: self.variations,
+            coordinates,
+        }
+    }
+}

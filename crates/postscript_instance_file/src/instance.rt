@@ -1,0 +1,277 @@
+//! Static fonts with outlines in a `CFF ` table.
+ghost use Rattle.std.specs.Prelude.{IfOk};
+ghost use Rattle.postscript_instance_file.specs.Instances.{HaveFont, IsFileOf, IsFileWith, IsFontAt, IsInstanceFile, IsStaticFont, IsTableBy};
+
+use crate::drawn::{Budget, Drawn};
+use crate::error::{Error, GlyphError};
+use crate::face::VariableFace;
+use crate::glyph_names::{Kept, names_of};
+use crate::location::Location;
+use crate::made::Made;
+use crate::style::Style;
+use crate::{kept, metrics, positions};
+use postscript_cff2::Font;
+use postscript_instance::{
+    AdvancesAt, Error as Unwritten, Naming, glyph, rounded_glyph, rounded_table, table,
+};
+use postscript_sfnt_write::{Table, file_of};
+use postscript_variation::Setting;
+use std::alloc::{AllocError, Global};
+
+/// How often a glyph is run: it is drawn, measured, encoded and written, and its bytes are read back.
+pub const RUNS: u64 = 5;
+
+/// The tag of the `CFF ` table.
+const CFF: u32 = 0x43464620;
+
+/// Watches the drawing of the glyphs, for instance to show the progress.
+pub trait Watch {
+    /// Is called before a glyph is drawn.
+    fn at_glyph(&mut self, gid: u16);
+}
+
+/// Watches nothing.
+#[derive(Clone, Copy)]
+pub struct Unwatched;
+
+impl Watch for Unwatched {
+    fn at_glyph(&mut self, _gid: u16) {}
+}
+
+/// A static font.
+#[derive(Drop)]
+pub struct StaticFont {
+    /// The file.
+    pub file: Vec<u8>,
+    /// Why the glyph names are dropped, if they are. The font is then CID-keyed.
+    pub lost_names: Option<&'static str>,
+}
+
+/// Returns the error of the first glyph that cannot be written.
+fn unwritten(
+    alloc: Global,
+    face: &VariableFace<'_>,
+    location: &Location,
+    drawn: &Drawn,
+    is_rounded: bool,
+) -> Option<Error> {
+    for i in 0..drawn.widths.len() {
+        let width = drawn.widths.get(i).copied();
+        let written = if is_rounded {
+            rounded_glyph(alloc, &face.font, i, &location.place, width)
+        } else {
+            glyph(alloc, &face.font, i, &location.place, width)
+        };
+        if let Err(error) = written {
+            let gid = u16::try_from(i).unwrap_or(u16::MAX);
+            return Some(Error::Glyph(gid, GlyphError::Unwritten(error)));
+        }
+    }
+    None
+}
+
+/// Returns the error of a table that is not written, with the glyph if it is about one.
+fn error_of(
+    alloc: Global,
+    face: &VariableFace<'_>,
+    location: &Location,
+    drawn: &Drawn,
+    is_rounded: bool,
+    error: Unwritten,
+) -> Error {
+    match error {
+        Unwritten::TooManyOperands | Unwritten::NoMove | Unwritten::TooFar => match unwritten(
+            alloc, face, location, drawn, is_rounded,
+        ) {
+            Some(of_glyph) => of_glyph,
+            None => Error::Table(error),
+        },
+        error => Error::Table(error),
+    }
+}
+
+/// Returns a `CFF ` table with the glyphs at a location. Each point is rounded to whole units if `is_rounded` is set.
+fn table_by(
+    alloc: Global,
+    font: &Font<'_>,
+    naming: &Naming<'_>,
+    advances: &AdvancesAt<'_>,
+    is_rounded: bool,
+) -> Result<Vec<u8>, Unwritten>
+    ensures written { IfOk result (λ table. IsTableBy is_rounded font.now naming.now advances.now table.items) }
+{
+    if is_rounded {
+        rounded_table(alloc, font, naming, advances)
+    } else {
+        table(alloc, font, naming, advances)
+    }
+}
+
+/// Returns the `CFF ` table of an instance, with glyph names if they are kept.
+fn font_of(
+    alloc: Global,
+    face: &VariableFace<'_>,
+    location: &Location,
+    drawn: &Drawn,
+    style: &Style,
+    names: &Kept<'_>,
+    is_rounded: bool,
+) -> Result<Vec<u8>, Error>
+    ensures written { IfOk result (λ font. IsFontAt is_rounded face.now location.now font.items) }
+{
+    let naming = Naming {
+        font: style.postscript.as_str().as_bytes(),
+        glyphs: names.names(),
+    };
+    let advances = face.advances_at(&location.coordinates);
+    match table_by(alloc, &face.font, &naming, &advances, is_rounded) {
+        Ok(font) => Ok(font),
+        Err(error) => Err(error_of(alloc, face, location, drawn, is_rounded, error)),
+    }
+}
+
+/// Returns all tables that are made for an instance, apart from the `CFF ` table.
+fn made_of(
+    alloc: Global,
+    face: &VariableFace<'_>,
+    location: &Location,
+    drawn: &Drawn,
+    style: &Style,
+) -> Result<Made, Error> {
+    let mut made = Made::new(alloc);
+    metrics::put(&mut made, alloc, face, location, drawn, style)?;
+    positions::put(&mut made, alloc, face, location);
+    made.end()?;
+    Ok(made)
+}
+
+/// Returns a `CFF ` table, the made tables and the copied ones.
+fn all_tables<'t>(
+    alloc: Global,
+    face: &VariableFace<'t>,
+    font: &'t [u8],
+    made: &'t Made,
+) -> Result<Vec<Table<'t>>, AllocError>
+    ensures have { IfOk result (λ tables. HaveFont tables.items font.now) }
+{
+    let mut tables = made.tables(alloc)?;
+    kept::put(&mut tables, &face.file)?;
+    tables.push(Table {
+        tag: CFF,
+        bytes: font,
+    })?;
+    Ok(tables)
+}
+
+/// Returns a file of tables, sorted by their tags.
+fn file_with(alloc: Global, tables: &[Table<'_>]) -> Result<Vec<u8>, Error>
+    ensures file { IfOk result (λ file. IsFileOf tables.now file.items) }
+{
+    let mut sorted = Vec::from_slice(alloc, tables)?;
+    sorted.sort_by_key(|table: &Table<'_>| table.tag)?;
+    let file = file_of(alloc, sorted.as_slice())?;
+    Ok(file)
+}
+
+/// Returns the file of a `CFF ` table, the made tables and the copied ones.
+fn written(
+    alloc: Global,
+    face: &VariableFace<'_>,
+    font: &[u8],
+    made: &Made,
+) -> Result<Vec<u8>, Error>
+    ensures written { IfOk result (λ file. IsFileWith font.now file.items) }
+{
+    let tables = all_tables(alloc, face, font, made)?;
+    let file = file_with(alloc, tables.as_slice())?;
+    Ok(file)
+}
+
+/// Returns the static font of an instance with measured glyphs and a style.
+fn styled(
+    alloc: Global,
+    face: &VariableFace<'_>,
+    location: &Location,
+    drawn: &Drawn,
+    style: &Style,
+    is_rounded: bool,
+) -> Result<StaticFont, Error>
+    ensures written { IfOk result (λ made. IsStaticFont is_rounded face.now location.now made.file.items) }
+{
+    let names = names_of(alloc, face)?;
+    let font = font_of(alloc, face, location, drawn, style, &names, is_rounded)?;
+    let made = made_of(alloc, face, location, drawn, style)?;
+    let file = written(alloc, face, &font, &made)?;
+    Ok(StaticFont {
+        file,
+        lost_names: names.lost(),
+    })
+}
+
+/// Writes the static font of a location. Each point is rounded to whole units if `is_rounded` is set.
+///
+/// A glyph may cost `limit` units, and all glyphs together `*left` units, which is reduced by the cost. A unit is one of
+/// `draw_glyph` of `postscript_variable_drawing`. Each glyph is run [`RUNS`] times, and the cost is counted once. A glyph
+/// may cost a fortieth of `limit`, since all its operations are kept in memory, and draw one segment for each 50 units.
+///
+/// # Errors
+///
+/// - `Glyph`: a glyph has an error, or costs more than the limit. The first such glyph is given.
+/// - `Variations`: the `MVAR` table is malformed.
+/// - `Table`: the `CFF ` table is not written.
+/// - `Names`: the `name` table has no space for the names of the instance.
+/// - `Write`: the file would be too large.
+/// - `Memory`: out of memory.
+pub fn static_font<W: Watch>(
+    alloc: Global,
+    face: &VariableFace<'_>,
+    location: &Location,
+    is_rounded: bool,
+    limit: u64,
+    left: &mut u64,
+    watch: &mut W,
+) -> Result<StaticFont, Error>
+    // The file opens with exactly its tables. Its `CFF ` table has the glyphs at the location.
+    ensures written { IfOk result (λ made. IsStaticFont is_rounded face.now location.now made.file.items) }
+{
+    let mut budget = Budget { limit, left: *left };
+    let drawn = Drawn::of(alloc, face, location, &mut budget, is_rounded, watch);
+    *left = budget.left;
+    let drawn = drawn?;
+    let style = Style::of(alloc, face, location)?;
+    styled(alloc, face, location, &drawn, &style, is_rounded)
+}
+
+/// Writes one instance of a variable font of a file as a static font file with a `CFF ` table.
+///
+/// The instance has the given user coordinates, and the defaults for all other axes. Each point is rounded to whole units
+/// if `is_rounded` is set. The glyphs may cost as much as in [`static_font`].
+///
+/// # Errors
+///
+/// - The errors of [`VariableFace::read`], [`Location::of`] and [`static_font`].
+pub fn instance_file(
+    alloc: Global,
+    file: &[u8],
+    number: usize,
+    settings: Vec<Setting>,
+    is_rounded: bool,
+    limit: u64,
+    left: &mut u64,
+) -> Result<StaticFont, Error>
+    // The file is a static font of the face at the location of the settings.
+    ensures written { IfOk result (λ made. IsInstanceFile is_rounded file.now number settings.items made.file.items) }
+{
+    let face = VariableFace::read(file, number)?;
+    let location = Location::of(alloc, &face, settings, None)?;
+    let made = static_font(
+        alloc,
+        &face,
+        &location,
+        is_rounded,
+        limit,
+        left,
+        &mut Unwatched,
+    )?;
+    Ok(made)
+}

@@ -1,0 +1,76 @@
+//! Locations in the design space.
+ghost use Rattle.std.specs.Prelude.{IfOk};
+ghost use Rattle.postscript_instance_file.specs.Faces.{AreNormalized, IsAt};
+
+use crate::error::Result;
+use crate::face::VariableFace;
+use postscript_variable_font::Place;
+use postscript_variation::{Axis, Setting};
+use std::alloc::Global;
+
+/// A location of a variable font.
+#[derive(Drop)]
+pub struct Location {
+    /// The scalars of the item variation store of the `CFF2` table.
+    pub place: Place,
+    /// The normalized coordinates, one for each axis.
+    pub coordinates: Vec<i16>,
+    /// The user coordinates that were given.
+    pub settings: Vec<Setting>,
+    /// The named instance that was chosen, if one was.
+    pub instance: Option<usize>,
+}
+
+/// Returns the normalized coordinates of user coordinates, one for each axis.
+fn normalized(alloc: Global, face: &VariableFace<'_>, settings: &[Setting]) -> Result<Vec<i16>>
+    ensures { IfOk result (λ all. AreNormalized face.now.axes face.now.maps settings.now all.items) }
+{
+    let mut coordinates: Vec<i16> = Vec::new(alloc);
+    if let Some(axes) = &face.axes {
+        coordinates.resize(axes.len(), 0)?;
+        axes.normalize(face.maps, settings, &mut coordinates);
+    }
+    Ok(coordinates)
+}
+
+impl Location {
+    /// Returns the location with these user coordinates. All other axes have their defaults.
+    ///
+    /// The static font gets the name of `instance`. If that is `None`, it gets the name of the first instance at the
+    /// location.
+    ///
+    /// # Errors
+    ///
+    /// - `Place`: the item variation store is malformed.
+    /// - `Memory`: out of memory.
+    pub fn of(
+        alloc: Global,
+        face: &VariableFace<'_>,
+        settings: Vec<Setting>,
+        instance: Option<usize>,
+    ) -> Result<Location>
+        // The coordinates are those of the settings, normalized.
+        ensures at { IfOk result (λ location. IsAt face.now settings.items location) }
+    {
+        let coordinates = normalized(alloc, face, settings.as_slice())?;
+        let place = Place::of(alloc, face.font.store.as_ref(), coordinates.as_slice())?;
+        Ok(Location {
+            place,
+            coordinates,
+            settings,
+            instance,
+        })
+    }
+
+    /// Returns the value of an axis in 65536ths: the last one that was given with its tag, or the default. It is clamped
+    /// to the axis.
+    pub fn value(&self, axis: &Axis) -> i32 {
+        let mut value = axis.default;
+        for setting in &self.settings {
+            if setting.tag == axis.tag {
+                value = setting.value;
+            }
+        }
+        value.max(axis.minimum).min(axis.maximum)
+    }
+}
