@@ -139,7 +139,7 @@ def _(folder):
     _, said = subset(folder)
     told = (
         "psotf: glyphs added for shaping: 9\n"
-        "psotf: GSUB lookups dropped (contexts by glyphs or classes, reverse chaining, classes or sets of marks): 2 70\n"
+        "psotf: GSUB lookups dropped (reverse chaining, unknown formats, classes or sets of marks): 2 70\n"
         "psotf: tables dropped: FFTM\n"
     )
     assert said == told, said

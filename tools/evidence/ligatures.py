@@ -9,9 +9,8 @@ table, and fonts without GSUB, are skipped. `psotf subset` writes each font seve
 Latin-1, and with Vietnamese, Hebrew, Devanagari and Arabic letters, if the font has them; each with the features that it keeps by default,
 and with all features. The whole font and its subset then shape the same lines of these characters, drawn at random from SEED.
 
-A subset does not keep contexts by glyphs or classes, reverse chaining, and lookups of GSUB with classes or sets of marks. So the features of
-GSUB that name such a lookup, directly or by contexts, or that were not chosen, are turned off, and so are the features of GPOS with lookups
-other than pairs and marks, and those with classes or sets of marks if GDEF has no glyph classes. Each list of LINES lines is
+A subset does not keep reverse chaining, contexts of GPOS by glyphs or classes, and lookups with classes or sets of marks if GDEF has no
+glyph classes. So the features that name such a lookup, directly or by contexts, or that were not chosen, are turned off. Each list of LINES lines is
 shaped with the other features as they are by default, with all of them on, with some of them on, and from right to left. Glyphs must have the
 same names, and clusters, advances and offsets must be the same. `psotf` must name the dropped lookups that fontTools finds. Fonts with a
 required feature that is not kept are only counted. `ots-sanitize` must accept the subset if it accepts the font. If `psotf` says that
@@ -72,30 +71,58 @@ def parts_of(lookup, extension):
     return [one.ExtSubTable if lookup.LookupType == extension else one for one in lookup.SubTable]
 
 
-def is_contextual(lookup):
-    """Returns whether a lookup of GSUB has contexts by sets of glyphs only."""
-    return type_of(lookup, 7) in (5, 6) and all(one.Format == 3 for one in parts_of(lookup, 7))
+#: the types of contexts, and of extensions
+CONTEXTS = {"GSUB": (5, 6), "GPOS": (7, 8)}
+EXTENSION = {"GSUB": 7, "GPOS": 9}
 
 
-def kept_lookups(font):
-    """Returns whether each lookup of GSUB is kept, if it is chosen. A lookup without subtables has nothing to lose."""
+def is_contextual(lookup, tag):
+    """Returns whether a lookup has contexts. Those of GPOS are kept by sets of glyphs only."""
+    formats = (1, 2, 3) if tag == "GSUB" else (3,)
+    return type_of(lookup, EXTENSION[tag]) in CONTEXTS[tag] and all(one.Format in formats for one in parts_of(lookup, EXTENSION[tag]))
+
+
+def has_classes(font):
+    return "GDEF" in font and font["GDEF"].table.GlyphClassDef is not None
+
+
+def kept_lookups(font, tag):
+    """Returns whether each lookup is kept, if it is chosen. A lookup without subtables has nothing to lose."""
+    types = (1, 2, 3, 4) if tag == "GSUB" else (1, 2, 3, 4, 5, 6)
+    flags = has_classes(font)
     return [
-        not one.SubTable or ((type_of(one, 7) in (1, 2, 3, 4) or is_contextual(one)) and one.LookupFlag < 16)
-        for one in lookups_of(font, "GSUB")
+        not one.SubTable or ((type_of(one, EXTENSION[tag]) in types or is_contextual(one, tag)) and (flags or one.LookupFlag < 16))
+        for one in lookups_of(font, tag)
     ]
 
 
-def called(font):
-    """Returns the lookups that each lookup of GSUB applies by its contexts, if these are kept."""
+def actions_in(part):
+    """Returns the records of all actions in a subtable of contexts, of any format."""
+    if isinstance(part, (list, tuple)):
+        return [record for one in part for record in actions_in(one)]
+    if not hasattr(part, "__dict__"):
+        return []
+    found = []
+    for name, value in vars(part).items():
+        if name in ("SubstLookupRecord", "PosLookupRecord"):
+            found += value or []
+        elif isinstance(value, (list, tuple)) or hasattr(value, "__dict__"):
+            found += actions_in(value)
+    return found
+
+
+def called(font, tag):
+    """Returns the lookups that each lookup applies by its contexts, if these are kept."""
     return [
-        {record.LookupListIndex for part in parts_of(one, 7) for record in part.SubstLookupRecord} if one.SubTable and is_contextual(one) else set()
-        for one in lookups_of(font, "GSUB")
-    ]
+        {record.LookupListIndex for part in parts_of(one, EXTENSION[tag]) for record in actions_in(part)}
+        if one.SubTable and is_contextual(one, tag) else set()
+        for one in lookups_of(font, tag)
+    ]  # fmt: skip
 
 
-def whole_lookups(font):
-    """Returns whether each lookup of GSUB is kept, with all lookups that its contexts apply, directly or by others."""
-    whole, calls = kept_lookups(font), called(font)
+def whole_lookups(font, tag):
+    """Returns whether each lookup is kept, with all lookups that its contexts apply, directly or by others."""
+    whole, calls = kept_lookups(font, tag), called(font, tag)
     while True:
         left = [is_whole and all(i < len(whole) and whole[i] for i in calls[k]) for k, is_whole in enumerate(whole)]
         if left == whole:
@@ -103,19 +130,11 @@ def whole_lookups(font):
         whole = left
 
 
-def placed(font):
-    """Returns whether each lookup of GPOS has pairs or marks that are kept. Those with classes or sets of marks need classes in GDEF."""
-    classes = "GDEF" in font and font["GDEF"].table.GlyphClassDef is not None
-    return [
-        not one.SubTable or (type_of(one, 9) in (2, 4, 5, 6) and (classes or one.LookupFlag < 16))
-        for one in lookups_of(font, "GPOS")
-    ]
-
-
 def allowed(font, chosen):
     """Returns the features that text may be shaped with, and the option that turns off all others."""
     lost = set()
-    for tag, kept in (("GSUB", whole_lookups(font)), ("GPOS", placed(font))):
+    for tag in ("GSUB", "GPOS"):
+        kept = whole_lookups(font, tag)
         for feature, indices in records(font, tag):
             if not chosen(feature) or not all(kept[i] for i in indices if i < len(kept)):
                 lost.add(feature)
@@ -126,7 +145,7 @@ def allowed(font, chosen):
 def dropped(font, choice):
     """Returns the chosen lookups of GSUB that are not kept. With all features, every lookup of the table is chosen. Otherwise contexts that
     are kept also choose the lookups that they apply."""
-    kept, calls = kept_lookups(font), called(font)
+    kept, calls = kept_lookups(font, "GSUB"), called(font, "GSUB")
     named = {i for feature, indices in records(font, "GSUB") if feature in USUAL for i in indices}
     while True:
         more = named.union(*(calls[i] for i in named if i < len(calls)))
