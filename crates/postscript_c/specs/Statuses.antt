@@ -2,7 +2,7 @@
 use Rattle.std.specs.Prelude.{◌≡◌, ◌⊎◌, ℕ, ℤ, pos, negsuc, List, [], ◌∷◌, Option, Some, None, codes, slice_get}
 use Rattle.postscript_c.specs.Texts.{HandsOver, Lent}
 
--- the texts of statuses 0 to 73
+-- the texts of statuses 0 to 75
 abbrev pub texts : List (List ℕ)
 texts =
     codes "done" ∷
@@ -78,7 +78,9 @@ texts =
     codes "the font has no glyph for a character" ∷
     codes "the tables overlap" ∷
     codes "two tables have the same tag" ∷
-    codes "a table ends early" ∷ []
+    codes "a table ends early" ∷
+    codes "the face has no CFF2 table, or a CFF table too" ∷
+    codes "a table has an unknown format" ∷ []
 
 abbrev pub text_of : (status : ℤ) → Option (List ℕ)
 text_of (pos n) = slice_get texts n

@@ -62,14 +62,14 @@ fn maps_of<'l>(file: &FontFile<'l>) -> postscript_variation::Result<Option<Maps<
 }
 
 /// The value for an axis.
-fn value_at(values: &[i32], axis: usize) -> Option<i32>
+pub(crate) fn value_at(values: &[i32], axis: usize) -> Option<i32>
     ensures { result ≡ slice_get values.now axis }
 {
     values.get(axis).copied()
 }
 
 /// The value along an axis: the given one, or its default.
-fn value_along(axis: &Axis, value: Option<i32>) -> i32
+pub(crate) fn value_along(axis: &Axis, value: Option<i32>) -> i32
     ensures { result ≡ the_value_along axis.now value }
 {
     match value {

@@ -27,7 +27,7 @@ pub(crate) fn hand_over<T: Copy>(items: &[T], room: &mut [T], count: &mut usize)
 }
 
 /// The texts of all statuses from 0 on.
-const TEXTS: [&str; 74] = [
+const TEXTS: [&str; 76] = [
     "done",
     "failed to fill whole buffer",
     "found a fault of the tape",
@@ -102,6 +102,8 @@ const TEXTS: [&str; 74] = [
     "the tables overlap",
     "two tables have the same tag",
     "a table ends early",
+    "the face has no CFF2 table, or a CFF table too",
+    "a table has an unknown format",
 ];
 
 /// The text with an index, if there is one.

@@ -37,7 +37,7 @@ pub(crate) enum Unvaried {
 }
 
 /// The status of an error of the `CFF2` table.
-fn table_status(e: TableError) -> i32
+pub(crate) fn table_status(e: TableError) -> i32
     ensures { result ≡ pos (table_code e) }
 {
     match e {

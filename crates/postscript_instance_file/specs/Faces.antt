@@ -25,6 +25,9 @@ hhea_tag = 0x68686561
 abbrev pub hmtx_tag : ℕ
 hmtx_tag = 0x686d7478
 
+abbrev pub maxp_tag : ℕ
+maxp_tag = 0x6d617870
+
 abbrev pub fvar_tag : ℕ
 fvar_tag = 0x66766172
 
@@ -33,6 +36,9 @@ avar_tag = 0x61766172
 
 abbrev pub hvar_tag : ℕ
 hvar_tag = 0x48564152
+
+abbrev pub mvar_tag : ℕ
+mvar_tag = 0x4d564152
 
 -- what a table of the face has, or nothing if the face has no such table
 abbrev pub IsRead : {X : Type 0} → FontFile → (tag : ℕ) → (Is : List ℕ → X → Type 0) → Option X → Type 0

@@ -1,4 +1,7 @@
 //! Errors.
+ghost use Rattle.std.specs.Prelude.{◌≡◌};
+ghost use Rattle.postscript_instance_file.specs.declared.error.Error.TheVariants as errors;
+
 use std::alloc::{AllocError, AllocFailed};
 use thiserror::Error;
 
@@ -83,6 +86,8 @@ pub enum Error {
 
 /// Converts a failed allocation to `Memory`.
 impl From<AllocError> for Error {
+    ghost from_gives = { λ _ e. e ≡ errors.Memory };
+
     fn from(_fault: AllocError) -> Error {
         Error::Memory
     }
@@ -90,6 +95,8 @@ impl From<AllocError> for Error {
 
 /// Converts a failed allocation that returns its value to `Memory`.
 impl<T: Drop> From<AllocFailed<T>> for Error {
+    ghost from_gives = { λ _ e. e ≡ errors.Memory };
+
     fn from(_fault: AllocFailed<T>) -> Error {
         Error::Memory
     }
@@ -97,6 +104,8 @@ impl<T: Drop> From<AllocFailed<T>> for Error {
 
 /// Converts an error of reading a file to `File`.
 impl From<postscript_sfnt::Error> for Error {
+    ghost from_gives = { λ fault e. e ≡ errors.File fault };
+
     fn from(fault: postscript_sfnt::Error) -> Error {
         Error::File(fault)
     }
@@ -104,6 +113,8 @@ impl From<postscript_sfnt::Error> for Error {
 
 /// Converts an error of the `CFF2` table to `Font`.
 impl From<postscript_cff2::Error> for Error {
+    ghost from_gives = { λ fault e. e ≡ errors.Font fault };
+
     fn from(fault: postscript_cff2::Error) -> Error {
         Error::Font(fault)
     }
@@ -111,6 +122,8 @@ impl From<postscript_cff2::Error> for Error {
 
 /// Converts an error of a location to `Place`.
 impl From<postscript_variable_font::Error> for Error {
+    ghost from_gives = { λ fault e. e ≡ errors.Place fault };
+
     fn from(fault: postscript_variable_font::Error) -> Error {
         Error::Place(fault)
     }
@@ -118,6 +131,8 @@ impl From<postscript_variable_font::Error> for Error {
 
 /// Converts an error of the written `CFF ` table to `Table`.
 impl From<postscript_instance::Error> for Error {
+    ghost from_gives = { λ fault e. e ≡ errors.Table fault };
+
     fn from(fault: postscript_instance::Error) -> Error {
         Error::Table(fault)
     }
@@ -125,6 +140,8 @@ impl From<postscript_instance::Error> for Error {
 
 /// Converts an error of a written file to `Write`.
 impl From<postscript_sfnt_write::Error> for Error {
+    ghost from_gives = { λ fault e. e ≡ errors.Write fault };
+
     fn from(fault: postscript_sfnt_write::Error) -> Error {
         Error::Write(fault)
     }

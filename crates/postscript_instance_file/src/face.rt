@@ -1,11 +1,14 @@
 //! Variable fonts of files: fonts with outlines in a `CFF2` table.
-ghost use Rattle.std.specs.Prelude.{◌≡◌, IfOk, IfSome};
+ghost use Rattle.std.specs.Prelude.{◌≡◌, IfErr, IfOk, IfSome, MatchOption};
 ghost use Rattle.postscript_base.specs.Numbers.{big_endian};
 ghost use Rattle.postscript_instance_file.specs.Faces.{HasAdvances, IsFoundFace, IsRead, IsVariableFace, avar_tag, cff2_tag, fvar_tag, hvar_tag};
+ghost use Rattle.postscript_instance_file.specs.Refusals.{IsNeeded, IsNotVariable, IsUnopened, IsUnread};
+ghost use Rattle.postscript_instance_file.specs.declared.error.Error.TheVariants as errors;
 ghost use Rattle.postscript_sfnt.specs.Lent.{IsTableOf};
 ghost use Rattle.postscript_variation.specs.LentAdvances.{AreAdvancesOf};
 ghost use Rattle.postscript_variation.specs.LentAxes.{AreAxesOf};
 ghost use Rattle.postscript_variation.specs.LentMaps.{AreMapsOf};
+ghost use Rattle.postscript_variation.specs.declared.error.Error.{Error as TableError};
 
 use crate::error::{Error, Result};
 use crate::weight::heavy_table;
@@ -37,7 +40,8 @@ pub struct VariableFace<'l> {
 
 /// Returns a table of variations that was read, or its error.
 pub(crate) fn read_as<T>(name: &'static str, read: postscript_variation::Result<T>) -> Result<T>
-    ensures { IfOk result (λ value. read ≡ Ok value) }
+    ensures value { IfOk result (λ value. read ≡ Ok value) }
+    ensures why { IfErr result (λ e. (cause : TableError) × (read ≡ Err cause) × (e ≡ errors.Variations name.entry cause)) }
 {
     match read {
         Ok(read) => Ok(read),
@@ -47,7 +51,9 @@ pub(crate) fn read_as<T>(name: &'static str, read: postscript_variation::Result<
 
 /// Returns a required table.
 fn needed<'l>(file: &FontFile<'l>, tag: [u8; 4], name: &'static str) -> Result<&'l [u8]>
-    ensures { IfOk result (λ table. IsTableOf file.now (big_endian tag) table.now) }
+    requires { IsNeeded name.now (big_endian tag) }
+    ensures found { IfOk result (λ table. IsTableOf file.now (big_endian tag) table.now) }
+    ensures why { IfErr result (λ e. IsUnopened file.now e) }
 {
     match file.table(tag) {
         Some(table) => Ok(table),
@@ -57,7 +63,8 @@ fn needed<'l>(file: &FontFile<'l>, tag: [u8; 4], name: &'static str) -> Result<&
 
 /// Returns the advance widths of a face.
 fn advances_of<'l>(file: &FontFile<'l>) -> Result<Advances<'l>>
-    ensures { IfOk result (λ advances. HasAdvances file.now advances) }
+    ensures found { IfOk result (λ advances. HasAdvances file.now advances) }
+    ensures why { IfErr result (λ e. IsUnopened file.now e) }
 {
     let hhea = needed(file, *b"hhea", "hhea")?;
     let hmtx = needed(file, *b"hmtx", "hmtx")?;
@@ -68,7 +75,9 @@ fn advances_of<'l>(file: &FontFile<'l>) -> Result<Advances<'l>>
 }
 
 /// Returns the number of glyphs of a face.
-fn glyphs_of(file: &FontFile<'_>) -> Result<u16> {
+fn glyphs_of(file: &FontFile<'_>) -> Result<u16>
+    ensures { IfErr result (λ e. IsUnopened file.now e) }
+{
     match glyphs(needed(file, *b"maxp", "maxp")?) {
         Some(glyphs) => Ok(glyphs),
         None => Err(Error::Cut("maxp")),
@@ -77,7 +86,8 @@ fn glyphs_of(file: &FontFile<'_>) -> Result<u16> {
 
 /// Returns the axes of a face, if it has them.
 fn axes_of<'l>(file: &FontFile<'l>) -> Result<Option<Axes<'l>>>
-    ensures { IfOk result (λ axes. IsRead file.now fvar_tag AreAxesOf axes) }
+    ensures found { IfOk result (λ axes. IsRead file.now fvar_tag AreAxesOf axes) }
+    ensures why { IfErr result (λ e. IsUnopened file.now e) }
 {
     match file.table(*b"fvar") {
         Some(fvar) => Ok(Some(read_as("fvar", Axes::read(fvar))?)),
@@ -87,7 +97,8 @@ fn axes_of<'l>(file: &FontFile<'l>) -> Result<Option<Axes<'l>>>
 
 /// Returns the maps of coordinates of a face, if it has them.
 fn maps_of<'l>(file: &FontFile<'l>) -> Result<Option<Maps<'l>>>
-    ensures { IfOk result (λ maps. IsRead file.now avar_tag AreMapsOf maps) }
+    ensures found { IfOk result (λ maps. IsRead file.now avar_tag AreMapsOf maps) }
+    ensures why { IfErr result (λ e. IsUnopened file.now e) }
 {
     match file.table(*b"avar") {
         Some(avar) => Ok(Some(read_as("avar", Maps::read(avar))?)),
@@ -97,7 +108,8 @@ fn maps_of<'l>(file: &FontFile<'l>) -> Result<Option<Maps<'l>>>
 
 /// Returns the variations of advance widths of a face, if it has them.
 fn variations_of<'l>(file: &FontFile<'l>) -> Result<Option<AdvanceVariations<'l>>>
-    ensures { IfOk result (λ variations. IsRead file.now hvar_tag AreAdvancesOf variations) }
+    ensures found { IfOk result (λ variations. IsRead file.now hvar_tag AreAdvancesOf variations) }
+    ensures why { IfErr result (λ e. IsUnopened file.now e) }
 {
     match file.table(*b"HVAR") {
         Some(hvar) => Ok(Some(read_as("HVAR", AdvanceVariations::read(hvar))?)),
@@ -115,7 +127,7 @@ fn names_of<'l>(file: &FontFile<'l>) -> Option<Names<'l>> {
 
 /// Returns the `CFF2` table of a face that has no `CFF ` table.
 fn cff2_of<'l>(file: &FontFile<'l>) -> Option<&'l [u8]>
-    ensures { IfSome result (λ cff2. IsTableOf file.now cff2_tag cff2.now) }
+    ensures { MatchOption result (IsNotVariable file.now) (λ cff2. IsTableOf file.now cff2_tag cff2.now) }
 {
     match file.table(*b"CFF ") {
         Some(_) => None,
@@ -134,6 +146,8 @@ impl<'l> VariableFace<'l> {
     pub fn read(bytes: &'l [u8], number: usize) -> Result<VariableFace<'l>>
         // The font of the face of this number, with what its own tables say.
         ensures found { IfOk result (λ face. IsFoundFace bytes.now number face) }
+        // An error is justified by the file, by its tables, or by one that is too expensive.
+        ensures why { IfErr result (λ e. IsUnread bytes.now number e) }
     {
         let file = FontFile::read(bytes, number)?;
         match VariableFace::open(&file)? {
@@ -153,6 +167,10 @@ impl<'l> VariableFace<'l> {
     pub fn open(file: &FontFile<'l>) -> Result<Option<VariableFace<'l>>>
         // The font of this face, with what its own tables say.
         ensures found { IfOk result (λ found. IfSome found (λ face. IsVariableFace file.now face)) }
+        // Without a font the face has no `CFF2` table, or it has a `CFF ` table too.
+        ensures none { IfOk result (λ found. MatchOption found (IsNotVariable file.now) (λ _. Unit {0})) }
+        // An error is justified by a table that is missing, malformed or too expensive.
+        ensures why { IfErr result (λ e. IsUnopened file.now e) }
     {
         let Some(cff2) = cff2_of(file) else {
             return Ok(None);

@@ -1,6 +1,7 @@
 //! Static fonts with outlines in a `CFF ` table.
-ghost use Rattle.std.specs.Prelude.{IfOk};
+ghost use Rattle.std.specs.Prelude.{◌≤◌, IfErr, IfOk};
 ghost use Rattle.postscript_instance_file.specs.Instances.{HaveFont, IsFileOf, IsFileWith, IsFontAt, IsInstanceFile, IsStaticFont, IsTableBy};
+ghost use Rattle.postscript_instance_file.specs.Refusals.{IsUnmade, NoInstanceFile};
 
 use crate::drawn::{Budget, Drawn};
 use crate::error::{Error, GlyphError};
@@ -233,6 +234,10 @@ pub fn static_font<W: Watch>(
 ) -> Result<StaticFont, Error>
     // The file opens with exactly its tables. Its `CFF ` table has the glyphs at the location.
     ensures written { IfOk result (λ made. IsStaticFont is_rounded face.now location.now made.file.items) }
+    // The limit of all glyphs never grows.
+    ensures spends { left.new ≤ left.old }
+    // An error names a glyph of the font, or a table that is malformed or not written.
+    ensures why { IfErr result (λ e. IsUnmade is_rounded face.now location.now e) }
 {
     let mut budget = Budget { limit, left: *left };
     let drawn = Drawn::of(alloc, face, location, &mut budget, is_rounded, watch);
@@ -261,6 +266,10 @@ pub fn instance_file(
 ) -> Result<StaticFont, Error>
     // The file is a static font of the face at the location of the settings.
     ensures written { IfOk result (λ made. IsInstanceFile is_rounded file.now number settings.items made.file.items) }
+    // The limit of all glyphs never grows.
+    ensures spends { left.new ≤ left.old }
+    // An error is justified as those of the three calls.
+    ensures why { IfErr result (λ e. NoInstanceFile is_rounded file.now number settings.items e) }
 {
     let face = VariableFace::read(file, number)?;
     let location = Location::of(alloc, &face, settings, None)?;

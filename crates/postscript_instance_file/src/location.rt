@@ -1,6 +1,8 @@
 //! Locations in the design space.
-ghost use Rattle.std.specs.Prelude.{IfOk};
+ghost use Rattle.std.specs.Prelude.{◌≡◌, IfErr, IfOk};
 ghost use Rattle.postscript_instance_file.specs.Faces.{AreNormalized, IsAt};
+ghost use Rattle.postscript_instance_file.specs.Refusals.{IsUnplaced, NoPlaceIn};
+ghost use Rattle.postscript_instance_file.specs.declared.error.Error.TheVariants as errors;
 
 use crate::error::Result;
 use crate::face::VariableFace;
@@ -23,7 +25,8 @@ pub struct Location {
 
 /// Returns the normalized coordinates of user coordinates, one for each axis.
 fn normalized(alloc: Global, face: &VariableFace<'_>, settings: &[Setting]) -> Result<Vec<i16>>
-    ensures { IfOk result (λ all. AreNormalized face.now.axes face.now.maps settings.now all.items) }
+    ensures found { IfOk result (λ all. AreNormalized face.now.axes face.now.maps settings.now all.items) }
+    ensures memory { IfErr result (λ e. e ≡ errors.Memory) }
 {
     let mut coordinates: Vec<i16> = Vec::new(alloc);
     if let Some(axes) = &face.axes {
@@ -31,6 +34,20 @@ fn normalized(alloc: Global, face: &VariableFace<'_>, settings: &[Setting]) -> R
         axes.normalize(face.maps, settings, &mut coordinates);
     }
     Ok(coordinates)
+}
+
+/// Returns the scalars of a face at normalized coordinates.
+fn scalars(
+    alloc: Global,
+    face: &VariableFace<'_>,
+    coordinates: &[i16],
+) -> postscript_variable_font::Result<Place>
+    ensures { IfErr result (λ e. NoPlaceIn face.now.font.store e) }
+{
+    match &face.font.store {
+        Some(store) => Place::of(alloc, Some(store), coordinates),
+        None => Place::of(alloc, None, coordinates),
+    }
 }
 
 impl Location {
@@ -51,9 +68,15 @@ impl Location {
     ) -> Result<Location>
         // The coordinates are those of the settings, normalized.
         ensures at { IfOk result (λ location. IsAt face.now settings.items location) }
+        // The location keeps the settings.
+        ensures settings { IfOk result (λ location. location.settings ≡ settings) }
+        // It keeps the chosen instance.
+        ensures instance { IfOk result (λ location. location.instance ≡ instance) }
+        // An error is `Memory`, or the item variation store of the font lacks data.
+        ensures why { IfErr result (λ e. IsUnplaced face.now e) }
     {
         let coordinates = normalized(alloc, face, settings.as_slice())?;
-        let place = Place::of(alloc, face.font.store.as_ref(), coordinates.as_slice())?;
+        let place = scalars(alloc, face, coordinates.as_slice())?;
         Ok(Location {
             place,
             coordinates,

@@ -1,0 +1,118 @@
+-- Why a variable font is not opened, and why it has no location or no static font.
+use Rattle.std.specs.Prelude.{◌≡◌, ◌⊎◌, ◌<◌, ℕ, List, Bool, true, false, codes, length, Option, Some, None}
+use denote.Ref.{Bor}
+use Rattle.postscript_cff2.specs.Causes.{NoFont}
+use Rattle.postscript_cff2.specs.Shown.{view_shown}
+use Rattle.postscript_cff2.specs.declared.error.Error.{Error as FontError}
+use Rattle.postscript_cff2.specs.declared.font.Font.{Font}
+use Rattle.postscript_instance.specs.Advances.{LacksRoom}
+use Rattle.postscript_instance.specs.Glyphs.{NoRoundedTable, NoTable}
+use Rattle.postscript_instance.specs.declared.advances.AdvancesAt.{AdvancesAt}
+use Rattle.postscript_instance.specs.declared.error.Error.{Error as CauseOfTable}
+use Rattle.postscript_instance.specs.declared.naming.Naming.{Naming}
+use Rattle.postscript_instance_file.specs.Faces.{IsAt, IsFoundFace, IsVariableFace, avar_tag, cff2_tag, fvar_tag, hhea_tag, hmtx_tag, hvar_tag, maxp_tag, mvar_tag}
+use Rattle.postscript_instance_file.specs.Instances.{AreAdvancesAt, cff_tag}
+use Rattle.postscript_instance_file.specs.declared.error.Error.{Error}
+use Rattle.postscript_instance_file.specs.declared.error.Error.TheVariants as errors
+use Rattle.postscript_instance_file.specs.declared.error.GlyphError.{GlyphError}
+use Rattle.postscript_instance_file.specs.declared.face.VariableFace.{VariableFace}
+use Rattle.postscript_instance_file.specs.declared.location.Location.{Location}
+use Rattle.postscript_sfnt.specs.Lent.{HasNoTable, IsFaceOf, IsTableOf}
+use Rattle.postscript_sfnt.specs.Metrics.{HasAdvances, IsGlyphs}
+use Rattle.postscript_sfnt.specs.Refusals.{NoFace}
+use Rattle.postscript_sfnt.specs.declared.error.Error.{Error as FileError}
+use Rattle.postscript_sfnt.specs.declared.file.FontFile.{FontFile}
+use Rattle.postscript_sfnt_write.specs.Files.{Refuses}
+use Rattle.postscript_sfnt_write.specs.declared.error.Error.{Error as CauseOfFile}
+use Rattle.postscript_sfnt_write.specs.declared.error.Error.TheVariants as writing
+use Rattle.postscript_sfnt_write.specs.declared.file.Table.{Table}
+use Rattle.postscript_variable_font.specs.Places.{NoPlace}
+use Rattle.postscript_variable_font.specs.declared.error.Error.{Error as PlaceError}
+use Rattle.postscript_variation.specs.Refusals.{NoAdvances, NoAxes, NoMaps, NoMetrics}
+use Rattle.postscript_variation.specs.declared.coordinates.Setting.{Setting}
+use Rattle.postscript_variation.specs.declared.error.Error.{Error as TableError}
+use Rattle.postscript_variation.specs.declared.store.Store.{Store}
+
+-- the face has a table with this tag, which the relation rejects
+abbrev pub HasBad : FontFile → (tag : ℕ) → (IsBad : List ℕ → Type 0) → Type 0
+HasBad file tag IsBad = (table : List ℕ) × IsTableOf file tag table × IsBad table
+
+-- the `hhea` and `hmtx` tables have no advance widths
+abbrev pub HasBadAdvances : FontFile → Type 0
+HasBadAdvances file = (hhea : List ℕ) × (hmtx : List ℕ) × IsTableOf file hhea_tag hhea × IsTableOf file hmtx_tag hmtx
+    × ((count : ℕ) → HasAdvances hhea hmtx count → ⊥)
+
+-- the `maxp` table has no number of glyphs
+abbrev pub HasBadCount : FontFile → Type 0
+HasBadCount file = HasBad file maxp_tag (λ maxp. (count : ℕ) → IsGlyphs maxp count → ⊥)
+
+-- one of the required tables has this name and this tag
+pub data IsNeeded : (name : List ℕ) → (tag : ℕ) → Type 0 where
+  of_hhea : IsNeeded (codes "hhea") hhea_tag
+  of_hmtx : IsNeeded (codes "hmtx") hmtx_tag
+  of_maxp : IsNeeded (codes "maxp") maxp_tag
+
+-- Why a face with a `CFF2` table is not opened. No rule says which tables are too expensive.
+pub data IsUnopened (file : FontFile) (e : Error) : Type 0 where
+  no_table : (name : Bor (List ℕ)) (tag : ℕ) → IsNeeded name.now tag → HasNoTable file tag → e ≡ errors.NoTable name → IsUnopened file e
+  cut_advances : (name : Bor (List ℕ)) → name.now ≡ codes "hmtx" → HasBadAdvances file → e ≡ errors.Cut name → IsUnopened file e
+  cut_count : (name : Bor (List ℕ)) → name.now ≡ codes "maxp" → HasBadCount file → e ≡ errors.Cut name → IsUnopened file e
+  bad_axes : (name : Bor (List ℕ)) (cause : TableError) → name.now ≡ codes "fvar" → HasBad file fvar_tag (NoAxes cause) →
+      e ≡ errors.Variations name cause → IsUnopened file e
+  bad_maps : (name : Bor (List ℕ)) (cause : TableError) → name.now ≡ codes "avar" → HasBad file avar_tag (NoMaps cause) →
+      e ≡ errors.Variations name cause → IsUnopened file e
+  bad_variations : (name : Bor (List ℕ)) (cause : TableError) → name.now ≡ codes "HVAR" → HasBad file hvar_tag (NoAdvances cause) →
+      e ≡ errors.Variations name cause → IsUnopened file e
+  bad_font : (cause : FontError) → HasBad file cff2_tag (NoFont cause) → e ≡ errors.Font cause → IsUnopened file e
+  heavy : (name : Bor (List ℕ)) (face : VariableFace) → IsVariableFace file face → e ≡ errors.Heavy name → IsUnopened file e
+
+-- the face has no `CFF2` table, or it has a `CFF ` table too
+abbrev pub IsNotVariable : FontFile → Type 0
+IsNotVariable file = HasNoTable file cff2_tag ⊎ ((cff : List ℕ) × IsTableOf file cff_tag cff)
+
+-- why the face of a file with this number is not opened
+pub data IsUnread (bytes : List ℕ) (number : ℕ) (e : Error) : Type 0 where
+  no_face : (cause : FileError) → NoFace cause bytes number → e ≡ errors.File cause → IsUnread bytes number e
+  not_variable : (file : FontFile) → IsFaceOf bytes number file → IsNotVariable file → e ≡ errors.NotVariable → IsUnread bytes number e
+  unopened : (file : FontFile) → IsFaceOf bytes number file → IsUnopened file e → IsUnread bytes number e
+
+-- the item variation store of a font has no scalars, or memory runs out
+abbrev pub NoPlaceIn : Option Store → PlaceError → Type 0
+NoPlaceIn None e = ⊥
+NoPlaceIn (Some store) e = NoPlace store e
+
+-- why a face has no location
+pub data IsUnplaced (face : VariableFace) (e : Error) : Type 0 where
+  no_memory : e ≡ errors.Memory → IsUnplaced face e
+  no_place : (cause : PlaceError) → NoPlaceIn face.font.store cause → e ≡ errors.Place cause → IsUnplaced face e
+
+-- the number of glyphs of a face
+abbrev pub glyphs_in : VariableFace → ℕ
+glyphs_in face = length (view_shown face.font).char_strings
+
+-- why there is no `CFF ` table of a face at a location; if it is rounded, each point is a whole number of units
+abbrev pub LacksTableBy : (rounded : Bool) → Font → Naming → AdvancesAt → CauseOfTable → Type 0
+LacksTableBy true font naming advances e = NoRoundedTable font naming advances e
+LacksTableBy false font naming advances e = NoTable font naming advances e
+
+-- Why a face has no static font at a location. No rule says which names are too long, and which glyphs cost too much.
+pub data IsUnmade (rounded : Bool) (face : VariableFace) (location : Location) (e : Error) : Type 0 where
+  memory : e ≡ errors.Memory → IsUnmade rounded face location e
+  of_glyph : (gid : ℕ) (cause : GlyphError) → gid < glyphs_in face → e ≡ errors.Glyph gid cause → IsUnmade rounded face location e
+  bad_metrics : (name : Bor (List ℕ)) (cause : TableError) → name.now ≡ codes "MVAR" → HasBad face.file mvar_tag (NoMetrics cause) →
+      e ≡ errors.Variations name cause → IsUnmade rounded face location e
+  no_widths : (advances : AdvancesAt) (cause : CauseOfTable) → AreAdvancesAt face location.coordinates.items advances →
+      LacksRoom advances (glyphs_in face) cause → e ≡ errors.Table cause → IsUnmade rounded face location e
+  no_font : (naming : Naming) (advances : AdvancesAt) (cause : CauseOfTable) → AreAdvancesAt face location.coordinates.items advances →
+      LacksTableBy rounded face.font naming advances cause → e ≡ errors.Table cause → IsUnmade rounded face location e
+  names : e ≡ errors.Names → IsUnmade rounded face location e
+  cut : e ≡ errors.Write writing.Cut → IsUnmade rounded face location e
+  unwritten : (tables : List Table) (cause : CauseOfFile) → Refuses cause tables → e ≡ errors.Write cause →
+      IsUnmade rounded face location e
+
+-- why there is no static font of a face of a file, at the location of some settings
+pub data NoInstanceFile (rounded : Bool) (bytes : List ℕ) (number : ℕ) (settings : List Setting) (e : Error) : Type 0 where
+  unread : IsUnread bytes number e → NoInstanceFile rounded bytes number settings e
+  unplaced : (face : VariableFace) → IsFoundFace bytes number face → IsUnplaced face e → NoInstanceFile rounded bytes number settings e
+  unmade : (face : VariableFace) (location : Location) → IsFoundFace bytes number face → IsAt face settings location →
+      IsUnmade rounded face location e → NoInstanceFile rounded bytes number settings e
