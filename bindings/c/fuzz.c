@@ -18,7 +18,7 @@ static void holds(int fact) {
 
 /* A status of the header. */
 static int32_t known(int32_t status) {
-    holds(status >= PSF_OK && status <= PSF_CUT_TABLE);
+    holds(status >= PSF_OK && status <= PSF_UNKNOWN_TABLE);
     return status;
 }
 
@@ -128,6 +128,7 @@ static void places(const uint8_t *file, size_t length) {
 static void files(const uint8_t *file, size_t length) {
     static const uint32_t letters[] = {'A', 'e', 0x2698}, tags[] = {PSF_TAG('n', 'a', 'm', 'e'), PSF_TAG('h', 'e', 'a', 'd')};
     static const size_t glyphs[] = {1};
+    static const int32_t coordinates[] = {650 * 65536};
     size_t room = 2 * length + 2048, count = 0, place = 0, size = 0;
     uint8_t *written = buffer(room);
     psf_refusal refusal = {0, 0};
@@ -136,6 +137,9 @@ static void files(const uint8_t *file, size_t length) {
     for (uint32_t keeps = 0; keeps < 2; keeps++)
         if (known(psf_file_subset(file, length, 0, letters, 3, glyphs, 1, tags, 2, 1, keeps, LIMIT, written, room, &count, &refusal)) == PSF_OK)
             holds(psf_file_table(written, count, 0, PSF_TAG('c', 'm', 'a', 'p'), &place, &size) == PSF_OK);
+    for (uint32_t rounded = 0; rounded < 2; rounded++)
+        if (known(psf_file_instance(file, length, 0, coordinates, 1, rounded, LIMIT, written, room, &count, &refusal)) == PSF_OK)
+            holds(psf_file_table(written, count, 0, PSF_TAG('C', 'F', 'F', ' '), &place, &size) == PSF_OK);
     free(written);
 }
 
@@ -144,7 +148,7 @@ static void texts(const uint8_t *bytes, size_t length) {
     int32_t status = 0;
     uint8_t *text = buffer(room);
     memcpy(&status, bytes, length < sizeof status ? length : sizeof status);
-    for (int32_t one = 0; one <= PSF_CUT_TABLE + 1; one++) {
+    for (int32_t one = 0; one <= PSF_UNKNOWN_TABLE + 1; one++) {
         int32_t found = known(psf_status_text(one, text, room, &count));
         holds(found == PSF_OK ? count <= room : found == PSF_NO_ROOM ? count > room : found == PSF_NO_STATUS);
     }

@@ -32,7 +32,7 @@
  *
  * Units: coordinates, widths and bounds are in 1/65536 of a font unit. Glyphs, faces and offsets count from 0.
  *
- * Variable fonts: psf_variation_axis and the four calls after it take a whole OpenType file and the index of a face, instead of a
+ * Variable fonts: psf_variation_axis and the five calls after it take a whole OpenType file and the index of a face, instead of a
  * CFF table. Axis values are coordinates[0..named]: user coordinates in 1/65536, in the order of the axes. Missing ones are
  * defaults, and all are clamped to their axis. A face without an fvar table has no axes. These calls also return
  * PSF_TOO_MANY_COORDINATES and PSF_MEMORY; PSF_CUT_FVAR, PSF_UNKNOWN_FVAR, PSF_CUT_AVAR or PSF_UNKNOWN_AVAR for a malformed
@@ -61,7 +61,7 @@ enum {
     PSF_MALFORMED_OFFSET = 5,             /* the offset size of an INDEX is 0 or greater than 4 */
     PSF_MALFORMED_INDEX = 6,              /* unused */
     PSF_MALFORMED_NUMBER = 7,             /* the bytes are no number */
-    PSF_OUT_OF_RANGE_NUMBER = 8,          /* a real number with too many digits, or too large an exponent */
+    PSF_OUT_OF_RANGE_NUMBER = 8,          /* a real number with too many digits or too large an exponent; an advance out of range */
     PSF_UNKNOWN_OPERATOR = 9,             /* no operator has this code */
     PSF_MALFORMED_CHAR_SET = 10,          /* unused */
     PSF_UNKNOWN_CHAR_SET_FORMAT = 11,     /* no charset has this format */
@@ -125,7 +125,9 @@ enum {
     PSF_NO_CHARACTER = 70,                /* the face has no glyph for a character */
     PSF_OVERLAP = 71,                     /* the tables of the face overlap: together they have more bytes than the file */
     PSF_SAME_TAG = 72,                    /* two tables of the new file would have the same tag */
-    PSF_CUT_TABLE = 73                    /* the maxp table is truncated */
+    PSF_CUT_TABLE = 73,                   /* a table is truncated, for psf_file_subset the maxp table */
+    PSF_NOT_VARIABLE = 74,                /* the face has no CFF2 table, or a CFF table too */
+    PSF_UNKNOWN_TABLE = 75                /* a table has an unknown format */
 };
 
 /* Kinds of segments. */
@@ -227,10 +229,12 @@ typedef struct psf_layout {
     int32_t gdef;
 } psf_layout;
 
-/* Details of an error of psf_font_flat, psf_font_subset, psf_file_flat, psf_file_subset and psf_file_subset_layout. */
+/* Details of an error of psf_font_flat, psf_font_subset, psf_file_flat, psf_file_subset, psf_file_subset_layout and
+ * psf_file_instance. */
 typedef struct psf_refusal {
     uint64_t glyph; /* the glyph of the error; 0 if there is none. On PSF_TOO_LARGE, 0 is .notdef or no glyph. On
-                       PSF_NO_CHARACTER the character, on PSF_NO_TABLE and PSF_SAME_TAG the tag of the table */
+                       PSF_NO_CHARACTER the character, on PSF_NO_TABLE and PSF_SAME_TAG the tag of the table. On errors
+                       of psf_file_instance: see there */
     int32_t cause;  /* on PSF_REFUSED_GLYPH the error of the glyph; otherwise 0 */
 } psf_refusal;
 
@@ -399,6 +403,18 @@ int32_t psf_variable_glyphs(const uint8_t *file, size_t length, size_t face, siz
  * PSF_CUT_HVAR, PSF_UNKNOWN_HVAR; PSF_MEMORY. */
 int32_t psf_variable_advance(const uint8_t *file, size_t length, size_t face, const int32_t *coordinates, size_t named,
                              size_t glyph, int64_t *advance);
+
+/* Writes a whole font file with a CFF table of a face of file[0..length] at the given axis values, to instance[0..room]. It is a static
+ * font: its glyphs, metrics, positions and names are those at the location, and it has no tables of variations. If rounded is not 0,
+ * each point is rounded to whole units.
+ * The glyphs may cost limit units together. A glyph may cost a twentieth of the limit, and no more than a fortieth of that, since its
+ * operations are kept in memory; and it may draw a segment for each 50 units of the twentieth. A good limit is 20 * PSF_LIMIT.
+ * Sets *count to the size on PSF_OK and PSF_NO_ROOM; on all other errors sets *refusal instead. Other errors: PSF_NOT_VARIABLE;
+ * PSF_NO_TABLE, PSF_CUT_TABLE and PSF_UNKNOWN_TABLE, with the tag of the table (0 for a written one); PSF_REFUSED_GLYPH and PSF_NO_PART,
+ * with the glyph; PSF_TOO_LONG, with the glyph, or 0 if a table is too expensive; from PSF_CFF2_HEADER to PSF_CFF2_DATA; PSF_TOO_LARGE;
+ * PSF_SAME_TAG; PSF_NO_GLYPH; and from 1 to 30. */
+int32_t psf_file_instance(const uint8_t *file, size_t length, size_t face, const int32_t *coordinates, size_t named, uint32_t rounded,
+                          uint64_t limit, uint8_t *instance, size_t room, size_t *count, psf_refusal *refusal);
 
 #ifdef __cplusplus
 }

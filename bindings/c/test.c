@@ -599,15 +599,56 @@ static void check_subset_layout(const uint8_t *file, size_t length) {
           == PSF_NO_FACE, "no layout of no face");
 }
 
+/* One location of the variable font as a file: its glyphs draw as the variable font does there. */
+static void check_instance(const uint8_t *file, size_t length, const uint8_t *plain, size_t plain_length) {
+    static const uint32_t gone[] = {PSF_TAG('C', 'F', 'F', '2'), PSF_TAG('f', 'v', 'a', 'r'), PSF_TAG('a', 'v', 'a', 'r'), PSF_TAG('H', 'V', 'A', 'R')};
+    static uint8_t spoiled[1024];
+    uint8_t written[1024];
+    size_t count = 0, needed = 0, place = 0, size = 0;
+    psf_refusal refusal = {77, 77};
+    drawn was, is;
+    int64_t advance = 0, fixed = 0;
+    written[0] = 7;
+    holds(psf_file_instance(file, length, 0, places[0], 2, 0, 20 * PSF_LIMIT, written, 20, &needed, &refusal) == PSF_NO_ROOM && needed > 20
+          && written[0] == 7, "no room for an instance");
+    holds(psf_file_instance(file, length, 0, places[0], 2, 0, 20 * PSF_LIMIT, written, sizeof written, &count, &refusal) == PSF_OK && count == needed
+          && refusal.glyph == 77 && refusal.cause == 77, "an instance");
+    for (int i = 0; i < 4; i++) holds(psf_file_table(written, count, 0, gone[i], &place, &size) == PSF_NO_TABLE, "without variations");
+    holds(psf_file_table(written, count, 0, PSF_TAG('C', 'F', 'F', ' '), &place, &size) == PSF_OK, "with a table CFF");
+    holds(same_table(file, length, written, count, PSF_TAG('c', 'm', 'a', 'p')), "with the same characters");
+    for (size_t glyph = 0; glyph < 3; glyph++) {
+        memset(&was, 0, sizeof was);
+        memset(&is, 0, sizeof is);
+        holds(draw(file, length, places[0], 2, glyph, PSF_LIMIT, 5, &was) == PSF_OK, "a glyph at the location");
+        holds(draw(written, count, places[0], 0, glyph, PSF_LIMIT, 5, &is) == PSF_OK, "the same glyph of the instance");
+        holds(memcmp(&was, &is, sizeof was) == 0, "draws the same");
+        holds(psf_variable_advance(file, length, 0, places[0], 2, glyph, &advance) == PSF_OK
+              && psf_variable_advance(written, count, 0, places[0], 0, glyph, &fixed) == PSF_OK && advance == fixed, "with the same advance");
+    }
+    holds(psf_file_instance(file, length, 0, places[0], 0, 1, 20 * PSF_LIMIT, written, sizeof written, &count, &refusal) == PSF_OK
+          && draw(written, count, places[0], 0, 1, PSF_LIMIT, 5, &is) == PSF_OK && is.segments[2].x == 450 * 65536, "a rounded one at the defaults");
+    holds(psf_file_instance(file, length, 0, places[0], 3, 0, 20 * PSF_LIMIT, written, sizeof written, &count, &refusal) == PSF_TOO_MANY_COORDINATES
+          && refusal.glyph == 0 && refusal.cause == 0, "an instance of three axes");
+    holds(psf_file_instance(file, length, 0, places[0], 2, 0, 1, written, sizeof written, &count, &refusal) == PSF_TOO_LONG, "past the limit");
+    holds(psf_file_instance(file, length, 1, places[0], 2, 0, 20 * PSF_LIMIT, written, sizeof written, &count, &refusal) == PSF_NO_FACE, "of no face");
+    holds(psf_file_instance(plain, plain_length, 0, places[0], 0, 0, 20 * PSF_LIMIT, written, sizeof written, &count, &refusal) == PSF_NOT_VARIABLE,
+          "of a font that does not vary");
+    memcpy(spoiled, file, length);
+    holds(psf_file_table(file, length, 0, PSF_TAG('H', 'V', 'A', 'R'), &place, &size) == PSF_OK, "HVAR");
+    spoiled[place + 1] = 2;
+    holds(psf_file_instance(spoiled, length, 0, places[0], 2, 0, 20 * PSF_LIMIT, written, sizeof written, &count, &refusal) == PSF_UNKNOWN_TABLE
+          && refusal.glyph == PSF_TAG('H', 'V', 'A', 'R'), "HVAR 2.0");
+}
+
 static void check_texts(void) {
     uint8_t text[80];
     size_t count = 0;
     holds(psf_version() == PSF_VERSION, "the version of the header");
-    for (int32_t status = 0; status <= PSF_CUT_TABLE; status++)
+    for (int32_t status = 0; status <= PSF_UNKNOWN_TABLE; status++)
         holds(psf_status_text(status, text, sizeof text, &count) == PSF_OK && count > 0, "a text");
     holds(psf_status_text(PSF_NO_GLYPH, text, sizeof text, &count) == PSF_OK && memcmp(text, "no such glyph", 13) == 0, "its words");
     holds(psf_status_text(PSF_NO_GLYPH, text, 3, &count) == PSF_NO_ROOM && count == 13, "no room for a text");
-    holds(psf_status_text(PSF_CUT_TABLE + 1, text, sizeof text, &count) == PSF_NO_STATUS, "no text");
+    holds(psf_status_text(PSF_UNKNOWN_TABLE + 1, text, sizeof text, &count) == PSF_NO_STATUS, "no text");
     holds(psf_status_text(-1, text, sizeof text, &count) == PSF_NO_STATUS, "no text below 0");
 }
 
@@ -681,6 +722,7 @@ int main(int argc, char **argv) {
     length = read_hex(argv[5], layout, sizeof layout);
     holds(length == 592, "the length of the file with layout tables");
     check_subset_layout(layout, length);
+    check_instance(variable, 752, whole, 412);
     check_texts();
     printf("postscript.h: %s\n", failures ? "tests failed" : "all tests passed");
     return failures != 0;

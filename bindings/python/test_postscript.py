@@ -577,6 +577,27 @@ class Variable(Case):
         with self.assertRaises(IndexError):
             self.font.at()[-1]
 
+    def test_files(self):
+        for asked, advances, path, curved in self.ROWS:
+            for rounded in (False, True):
+                file = self.font.at(asked).file(rounded)
+                fixed, metrics = Font.from_bytes(file), VariableFont.from_bytes(file)
+                self.assertEqual([glyph.svg_path() for glyph in fixed], ["", path, curved])
+                self.assertEqual(tuple(glyph.advance for glyph in fixed), advances)
+                self.assertEqual(tuple(glyph.advance for glyph in metrics.at()), advances)
+                self.assertEqual((dict(fixed.cmap), metrics.axes), (dict(self.font.cmap), ()))
+        place = self.font.at(wght=433)
+        self.assertEqual(Font.from_bytes(place.file())[1].svg_path(), place[1].svg_path())
+        self.assertNotEqual(Font.from_bytes(place.file(rounded=True))[1].svg_path(), place[1].svg_path())
+
+    def test_refused_files(self):
+        self.refused(Status.NOT_VARIABLE, VariableFont.from_bytes(small()).at().file)
+        self.refused(Status.TOO_LONG, VariableFont.from_bytes(self.file, limit=0).at().file)
+        self.refused(Status.CFF2_VERSION, VariableFont.from_bytes(self.changed(b"CFF2", 0, 1)).at().file)
+        with self.assertRaises(WriteError) as raised:
+            VariableFont.from_bytes(self.changed(b"HVAR", 1, 2)).at().file()
+        self.assertEqual((raised.exception.status, raised.exception.table), (Status.UNKNOWN_TABLE, "HVAR"))
+
     def test_a_font_without_axes(self):
         file = small()
         font, plain = VariableFont.from_bytes(file), Font.from_bytes(file)
@@ -598,6 +619,10 @@ class Variable(Case):
             except Error as e:
                 paths = e.status
             self.assertTrue(paths)
+            try:
+                self.assertTrue(VariableFont.from_bytes(file).at().file())
+            except Error as e:
+                self.assertTrue(e.status)
 
 
 class Installed(unittest.TestCase):

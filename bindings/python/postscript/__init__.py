@@ -13,6 +13,7 @@ gives the result that its contract states. This module calls it through ctypes, 
 
     variable = postscript.VariableFont.open("variable.otf")
     print(variable.axes, variable.at(wght=650).glyph_of("A").svg_path())
+    static = variable.at(wght=650).file()  # the bytes of a font file
 
 Units. Coordinates, bounds and advances are in font units, usually 1000 to the em. They are multiples of 1/65536, so a float
 holds them exactly. Glyphs and faces are numbered from 0, and characters are Unicode code points.
@@ -206,6 +207,8 @@ class Status(enum.IntEnum):
     OVERLAP = 71
     SAME_TAG = 72
     CUT_TABLE = 73
+    NOT_VARIABLE = 74
+    UNKNOWN_TABLE = 75
 
 
 def _status(number: int) -> Union[Status, int]:
@@ -232,13 +235,15 @@ class LayoutWarning(UserWarning):
 
 class WriteError(Error):
     """A font was not written. `glyph` is the glyph that caused it, or None, as for `Status.TOO_LARGE`. For `Status.REFUSED_GLYPH`, `cause` is the error of
-    that glyph. `character` is the code point for `Status.NO_CHARACTER`, and `table` the tag for `Status.NO_TABLE` and `SAME_TAG`."""
+    that glyph. `character` is the code point for `Status.NO_CHARACTER`, and `table` the tag for `Status.NO_TABLE` and `SAME_TAG`, and of
+    `Place.file` also for `CUT_TABLE` and `UNKNOWN_TABLE`."""
 
     def __init__(self, status: int, glyph: int, cause: int) -> None:
         means_glyph = status in (Status.REFUSED_GLYPH, Status.NO_GLYPH, Status.NO_PART, Status.NO_NAME)
         text = _text_of(cause if status == Status.REFUSED_GLYPH else status)
         self.character: Optional[int] = glyph if status == Status.NO_CHARACTER else None
-        self.table: Optional[str] = glyph.to_bytes(4, "big").decode("latin-1") if status in (Status.NO_TABLE, Status.SAME_TAG) else None
+        means_table = glyph != 0 and status in (Status.NO_TABLE, Status.SAME_TAG, Status.CUT_TABLE, Status.UNKNOWN_TABLE)
+        self.table: Optional[str] = glyph.to_bytes(4, "big").decode("latin-1") if means_table else None
         if means_glyph:
             text = f"glyph {glyph}: {text}"
         elif self.character is not None:
@@ -459,6 +464,9 @@ for _name, _arguments in {
     ],
     "psf_variable_glyphs": [_bytes, _size, _size, _sizes],
     "psf_variable_advance": [_bytes, _size, _size, POINTER(c_int32), _size, _size, POINTER(c_int64)],
+    "psf_file_instance": [
+        _bytes, _size, _size, POINTER(c_int32), _size, c_uint32, c_uint64, _room, _size, _sizes, POINTER(_Refusal),
+    ],
 }.items():
     getattr(_library, _name).argtypes = _arguments
     getattr(_library, _name).restype = c_int32
@@ -1031,6 +1039,23 @@ class Place:
 
     def __getitem__(self, number: int) -> VariableGlyph:
         return self.glyph(number)
+
+    def file(self, rounded: bool = False) -> bytes:
+        """Returns a font file with a `CFF ` table of this location: a static font. Its glyphs, metrics, positions and names are those at
+        the location, and it has no tables of variations. With `rounded`, each point is rounded to whole units.
+
+            Path("Semi.otf").write_bytes(font.at(wght=650).file())
+
+        All glyphs together may cost 20 times the limit of the font, and a glyph a fortieth of the limit. Raises `WriteError`:
+        `Status.NOT_VARIABLE` if the face has no `CFF2` table, or a `CFF ` table too; `NO_TABLE`, `CUT_TABLE` and `UNKNOWN_TABLE` for a
+        missing or malformed table; `REFUSED_GLYPH` and `NO_PART` for a glyph; `TOO_LONG` beyond the limit; those from `CFF2_HEADER` to
+        `CFF2_DATA`; and `TOO_LARGE`."""
+        view, numbers = self.font._view, self._numbers
+        limit = min(self.font.limit * _GLYPHS, 2**64 - 1)
+        return _font_of(
+            2 * len(view) + 1024,
+            lambda *lent: _library.psf_file_instance(*view.told, self.font.face, numbers, len(numbers), int(rounded), limit, *lent),
+        )
 
     def glyph_of(self, character: str) -> VariableGlyph:
         """Returns the glyph of a character, or glyph 0. Raises `Status.NO_MAP`."""

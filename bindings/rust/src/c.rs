@@ -266,6 +266,19 @@ extern "C" {
         layout: *mut Layout,
         refusal: *mut Refusal,
     ) -> i32;
+    fn psf_file_instance(
+        file: *const u8,
+        length: usize,
+        face: usize,
+        coordinates: *const i32,
+        named: usize,
+        rounded: u32,
+        limit: u64,
+        instance: *mut u8,
+        room: usize,
+        count: *mut usize,
+        refusal: *mut Refusal,
+    ) -> i32;
     fn psf_glyph_name(
         cff: *const u8,
         length: usize,
@@ -739,4 +752,28 @@ pub fn file_subset_layout(
         )
     })?;
     Ok((bytes, layout))
+}
+
+pub fn file_instance(
+    file: &[u8],
+    face: usize,
+    coordinates: &[i32],
+    rounded: bool,
+    limit: u64,
+) -> core::result::Result<Vec<u8>, (Error, Refusal)> {
+    written(2 * file.len() + 1024, |room, count, refusal| unsafe {
+        psf_file_instance(
+            file.as_ptr(),
+            file.len(),
+            face,
+            coordinates.as_ptr(),
+            coordinates.len(),
+            rounded.into(),
+            limit,
+            room.as_mut_ptr(),
+            room.len(),
+            count,
+            refusal,
+        )
+    })
 }

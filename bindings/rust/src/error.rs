@@ -35,7 +35,7 @@ pub enum Error {
     MalformedOffset = 5,
     /// The bytes are no number.
     MalformedNumber = 7,
-    /// A real number with too many digits, or too large an exponent.
+    /// A real number with too many digits or too large an exponent; an advance out of range.
     OutOfRangeNumber = 8,
     /// No operator has this code.
     UnknownOperator = 9,
@@ -159,8 +159,12 @@ pub enum Error {
     Overlap = 71,
     /// Two tables of the new file would have the same tag.
     SameTag = 72,
-    /// The maxp table is truncated.
+    /// A table is truncated, for [`SubsetFile`](crate::SubsetFile) the maxp table.
     CutTable = 73,
+    /// The face has no CFF2 table, or a CFF table too.
+    NotVariable = 74,
+    /// A table has an unknown format.
+    UnknownTable = 75,
     /// A status that this crate does not know.
     Other = -1,
     /// The linked library has another version than this crate, so no font is opened.
@@ -168,7 +172,7 @@ pub enum Error {
 }
 
 /// All errors with a number.
-const ERRORS: [Error; 67] = [
+const ERRORS: [Error; 69] = [
     Error::UnexpectedEof,
     Error::Memory,
     Error::MalformedOffset,
@@ -236,6 +240,8 @@ const ERRORS: [Error; 67] = [
     Error::Overlap,
     Error::SameTag,
     Error::CutTable,
+    Error::NotVariable,
+    Error::UnknownTable,
 ];
 
 impl Error {

@@ -2,6 +2,7 @@
 use crate::c;
 use crate::error::{Error, Result};
 use crate::outline::{Glyph, Outline, OutlineSink};
+use crate::write::WriteError;
 use alloc::vec::Vec;
 
 /// An axis of a variable font. Its values are user coordinates: exact multiples of 1/65536.
@@ -348,5 +349,53 @@ impl<'a> Place<'a> {
     /// [`Error::UnknownHvar`]; [`Error::CutAvar`] and [`Error::UnknownAvar`]; [`Error::NoGlyph`] for a number above 65535.
     pub fn advance(&self, glyph: usize) -> Result<f64> {
         Ok(c::variable_advance(self.font.file, self.font.face, &self.coordinates, glyph)? as f64)
+    }
+
+    /// Writes a font file with a `CFF ` table of this location: a static font. Its glyphs, metrics, positions and names are those at the
+    /// location, and it has no tables of variations.
+    ///
+    /// All glyphs together may cost 20 times the limit of the font, and a glyph a fortieth of the limit.
+    ///
+    /// ```
+    /// # let bytes = std::fs::read("examples/variable.otf")?;
+    /// # let font = postscript::VariableFont::from_file(&bytes, 0)?;
+    /// let place = font.at(&[(*b"wght", 650.0)])?;
+    /// let file = place.file()?;
+    /// let fixed = postscript::Font::from_file(&file, 0)?;
+    /// assert_eq!(fixed.outline(1)?.svg_path(), place.outline(1)?.svg_path());
+    /// # Ok::<(), Box<dyn std::error::Error>>(())
+    /// ```
+    ///
+    /// # Errors
+    ///
+    /// [`Error::NotVariable`] if the face has no `CFF2` table, or a `CFF ` table too; [`Error::NoTable`], [`Error::CutTable`] and
+    /// [`Error::UnknownTable`] for a missing or malformed table; [`Error::RefusedGlyph`] and [`Error::NoPart`] for a glyph;
+    /// [`Error::TooLong`] beyond the limit; those from [`Error::Cff2Header`] to [`Error::Cff2Data`]; [`Error::TooLarge`].
+    pub fn file(&self) -> core::result::Result<Vec<u8>, WriteError> {
+        self.written(false)
+    }
+
+    /// Writes the same file with each point rounded to whole units.
+    ///
+    /// ```
+    /// # let bytes = std::fs::read("examples/variable.otf")?;
+    /// # let font = postscript::VariableFont::from_file(&bytes, 0)?;
+    /// let file = font.at(&[(*b"wght", 433.0)])?.rounded_file()?;
+    /// let bounds = postscript::Font::from_file(&file, 0)?.outline(1)?.bounds.unwrap();
+    /// assert_eq!(bounds.high.x, bounds.high.x.round());
+    /// # Ok::<(), Box<dyn std::error::Error>>(())
+    /// ```
+    ///
+    /// # Errors
+    ///
+    /// Those of [`Place::file`].
+    pub fn rounded_file(&self) -> core::result::Result<Vec<u8>, WriteError> {
+        self.written(true)
+    }
+
+    fn written(&self, rounded: bool) -> core::result::Result<Vec<u8>, WriteError> {
+        let font = &self.font;
+        let limit = font.limit.saturating_mul(crate::GLYPHS);
+        c::file_instance(font.file, font.face, &self.coordinates, rounded, limit).map_err(WriteError::of)
     }
 }

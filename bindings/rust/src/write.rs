@@ -314,7 +314,8 @@ pub struct WriteError {
     pub cause: Option<Error>,
     /// The character of the error, for [`Error::NoCharacter`].
     pub character: Option<u32>,
-    /// The tag of the table, for [`Error::NoTable`] and [`Error::SameTag`].
+    /// The tag of the table, for [`Error::NoTable`] and [`Error::SameTag`], and of [`Place::file`](crate::Place::file) also for
+    /// [`Error::CutTable`] and [`Error::UnknownTable`].
     pub table: Option<[u8; 4]>,
 }
 
@@ -323,13 +324,14 @@ impl WriteError {
     pub(crate) fn of((error, told): (Error, c::Refusal)) -> WriteError {
         let means_glyph =
             matches!(error, Error::RefusedGlyph | Error::NoGlyph | Error::NoPart | Error::NoName);
+        let means_table =
+            matches!(error, Error::NoTable | Error::SameTag | Error::CutTable | Error::UnknownTable);
         WriteError {
             error,
             glyph: means_glyph.then_some(told.glyph as usize),
             cause: (error == Error::RefusedGlyph).then(|| Error::of(told.cause)),
             character: (error == Error::NoCharacter).then_some(told.glyph as u32),
-            table: matches!(error, Error::NoTable | Error::SameTag)
-                .then(|| (told.glyph as u32).to_be_bytes()),
+            table: (means_table && told.glyph != 0).then(|| (told.glyph as u32).to_be_bytes()),
         }
     }
 }

@@ -71,6 +71,47 @@ fn coordinates_outside_of_an_axis() {
     assert_eq!(font.at(&[(*b"wght", 650.0), (*b"wght", 900.0)]).unwrap().advance(1), Ok(720.0));
 }
 
+/// A location as a file: its glyphs draw as the variable font does there.
+#[test]
+fn files_of_places() {
+    let bytes = bytes();
+    let font = VariableFont::from_file(&bytes, 0).unwrap();
+    for (coordinates, advances, path, curved) in ROWS {
+        let place = font.at(coordinates).unwrap();
+        let (exact, rounded) = (place.file().unwrap(), place.rounded_file().unwrap());
+        for file in [&exact, &rounded] {
+            let (fixed, metrics) = (Font::from_file(file, 0).unwrap(), VariableFont::from_file(file, 0).unwrap());
+            assert_eq!((fixed.glyph_index('A'), metrics.axes()), (Some(1), Ok(vec![])));
+            for (glyph, outline) in ["", path, curved].into_iter().enumerate() {
+                let drawn = fixed.outline(glyph).unwrap();
+                assert_eq!((drawn.advance, drawn.svg_path().as_str()), (advances[glyph], outline));
+                assert_eq!(metrics.at(&[]).unwrap().advance(glyph), Ok(advances[glyph]));
+            }
+        }
+    }
+    let place = font.at(&[(*b"wght", 433.0)]).unwrap();
+    let points = |file: Vec<u8>| Font::from_file(&file, 0).unwrap().outline(1).unwrap().svg_path();
+    assert_eq!(points(place.file().unwrap()), place.outline(1).unwrap().svg_path());
+    assert_ne!(points(place.rounded_file().unwrap()), place.outline(1).unwrap().svg_path());
+}
+
+#[test]
+fn refusals_of_files() {
+    let mut bytes = bytes();
+    assert_eq!(VariableFont::from_file(&bytes, 0).unwrap().with_limit(0).at(&[]).unwrap().file().unwrap_err().error, Error::TooLong);
+    let small = VariableFont::from_file(include_bytes!("../examples/small.otf"), 0).unwrap();
+    assert_eq!(small.at(&[]).unwrap().file().unwrap_err().error, Error::NotVariable);
+    let tag = bytes.windows(4).position(|tag| tag == b"HVAR").unwrap();
+    bytes[tag] = b'J';
+    assert!(VariableFont::from_file(&bytes, 0).unwrap().at(&[]).unwrap().file().is_ok());
+    bytes[tag] = b'H';
+    let place = u32::from_be_bytes(bytes[tag + 8..tag + 12].try_into().unwrap()) as usize;
+    bytes[place + 1] = 2;
+    let error = VariableFont::from_file(&bytes, 0).unwrap().at(&[]).unwrap().file().unwrap_err();
+    assert_eq!((error.error, error.table), (Error::UnknownTable, Some(*b"HVAR")));
+    assert_eq!(error.to_string(), "table \"HVAR\": a table has an unknown format");
+}
+
 #[test]
 fn refusals() {
     let bytes = bytes();
@@ -105,6 +146,7 @@ fn changed_bytes() {
         if let Ok(font) = VariableFont::from_file(&bytes, 0) {
             let _ = font.instances();
             if let Ok(at) = font.at(&[]) {
+                let _ = (at.file(), at.rounded_file());
                 for glyph in 0..4 {
                     let _ = (at.outline(glyph), at.advance(glyph));
                 }
