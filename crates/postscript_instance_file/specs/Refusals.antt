@@ -1,5 +1,6 @@
 -- Why a variable font is not opened, and why it has no location or no static font.
 use Rattle.std.specs.Prelude.{◌≡◌, ◌⊎◌, ◌<◌, ℕ, List, Bool, true, false, codes, length, Option, Some, None}
+use Rattle.std.specs.List.Sorted.{IsPermutation}
 use denote.Ref.{Bor}
 use Rattle.postscript_cff2.specs.Causes.{NoFont}
 use Rattle.postscript_cff2.specs.Shown.{view_shown}
@@ -11,7 +12,7 @@ use Rattle.postscript_instance.specs.declared.advances.AdvancesAt.{AdvancesAt}
 use Rattle.postscript_instance.specs.declared.error.Error.{Error as CauseOfTable}
 use Rattle.postscript_instance.specs.declared.naming.Naming.{Naming}
 use Rattle.postscript_instance_file.specs.Faces.{IsAt, IsFoundFace, IsVariableFace, avar_tag, cff2_tag, fvar_tag, hhea_tag, hmtx_tag, hvar_tag, maxp_tag, mvar_tag}
-use Rattle.postscript_instance_file.specs.Instances.{AreAdvancesAt, cff_tag}
+use Rattle.postscript_instance_file.specs.Instances.{AreAdvancesAt, HaveFont, IsFontAt, cff_tag}
 use Rattle.postscript_instance_file.specs.declared.error.Error.{Error}
 use Rattle.postscript_instance_file.specs.declared.error.Error.TheVariants as errors
 use Rattle.postscript_instance_file.specs.declared.error.GlyphError.{GlyphError}
@@ -95,20 +96,44 @@ abbrev pub LacksTableBy : (rounded : Bool) → Font → Naming → AdvancesAt �
 LacksTableBy true font naming advances e = NoRoundedTable font naming advances e
 LacksTableBy false font naming advances e = NoTable font naming advances e
 
+-- the `MVAR` table is rejected
+pub record HasBadMetrics (file : FontFile) (e : Error) : Type 0 where
+  pub name : Bor (List ℕ)
+  pub cause : TableError
+  pub named : name.now ≡ codes "MVAR"
+  pub bad : HasBad file mvar_tag (NoMetrics cause)
+  pub is : e ≡ errors.Variations name cause
+
+-- the error names one of the first `count` glyphs
+pub record NamesGlyph (count : ℕ) (e : Error) : Type 0 where
+  pub gid : ℕ
+  pub cause : GlyphError
+  pub there : gid < count
+  pub is : e ≡ errors.Glyph gid cause
+
+-- why there is no file of these tables, sorted by their tags
+pub data NoFileOf (tables : List Table) (e : Error) : Type 0 where
+  out_of_memory : e ≡ errors.Memory → NoFileOf tables e
+  refused : (sorted : List Table) (cause : CauseOfFile) → IsPermutation tables sorted → Refuses cause sorted → e ≡ errors.Write cause →
+      NoFileOf tables e
+
+-- why there is no file of tables with this `CFF ` table
+pub data NoFileWith (font : List ℕ) (e : Error) : Type 0 where
+  no_tables : e ≡ errors.Memory → NoFileWith font e
+  no_file_of : (tables : List Table) → HaveFont tables font → NoFileOf tables e → NoFileWith font e
+
 -- Why a face has no static font at a location. No rule says which names are too long, and which glyphs cost too much.
 pub data IsUnmade (rounded : Bool) (face : VariableFace) (location : Location) (e : Error) : Type 0 where
   memory : e ≡ errors.Memory → IsUnmade rounded face location e
-  of_glyph : (gid : ℕ) (cause : GlyphError) → gid < glyphs_in face → e ≡ errors.Glyph gid cause → IsUnmade rounded face location e
-  bad_metrics : (name : Bor (List ℕ)) (cause : TableError) → name.now ≡ codes "MVAR" → HasBad face.file mvar_tag (NoMetrics cause) →
-      e ≡ errors.Variations name cause → IsUnmade rounded face location e
+  of_glyph : NamesGlyph (glyphs_in face) e → IsUnmade rounded face location e
+  bad_metrics : HasBadMetrics face.file e → IsUnmade rounded face location e
   no_widths : (advances : AdvancesAt) (cause : CauseOfTable) → AreAdvancesAt face location.coordinates.items advances →
       LacksRoom advances (glyphs_in face) cause → e ≡ errors.Table cause → IsUnmade rounded face location e
   no_font : (naming : Naming) (advances : AdvancesAt) (cause : CauseOfTable) → AreAdvancesAt face location.coordinates.items advances →
       LacksTableBy rounded face.font naming advances cause → e ≡ errors.Table cause → IsUnmade rounded face location e
   names : e ≡ errors.Names → IsUnmade rounded face location e
   cut : e ≡ errors.Write writing.Cut → IsUnmade rounded face location e
-  unwritten : (tables : List Table) (cause : CauseOfFile) → Refuses cause tables → e ≡ errors.Write cause →
-      IsUnmade rounded face location e
+  no_file : (font : List ℕ) → IsFontAt rounded face location font → NoFileWith font e → IsUnmade rounded face location e
 
 -- why there is no static font of a face of a file, at the location of some settings
 pub data NoInstanceFile (rounded : Bool) (bytes : List ℕ) (number : ℕ) (settings : List Setting) (e : Error) : Type 0 where

@@ -1,11 +1,18 @@
 //! The glyphs of an instance, drawn within the limit and measured.
+ghost use Rattle.std.specs.Prelude.{◌≡◌, ◌⊎◌, ◌≤◌, Bool, length, IfErr, IfOk, OnOk};
+ghost use Rattle.postscript_instance.specs.Advances.{LacksRoom};
+ghost use Rattle.postscript_instance_file.specs.Instances.{AreAdvancesAt};
+ghost use Rattle.postscript_instance_file.specs.Refusals.{IsUnmade, NamesGlyph, glyphs_in};
+ghost use Rattle.postscript_instance_file.specs.declared.error.Error.TheVariants as errors;
+ghost use Rattle.postscript_instance_file.specs.declared.error.GlyphError.{GlyphError as Cause};
+
 use crate::error::{Error, GlyphError};
 use crate::face::VariableFace;
 use crate::held::Held;
 use crate::instance::Watch;
 use crate::location::Location;
 use postscript_drawing::Error as Undrawn;
-use postscript_instance::Error as Unwritten;
+use postscript_instance::{AdvancesAt, Error as Unwritten};
 use postscript_outline::{Bounds, Outline, Point, Segment};
 use postscript_sfnt_write::Metric;
 use postscript_type2::Operand;
@@ -132,7 +139,9 @@ fn draw_into(
     location: &Location,
     budget: &mut Budget,
     held: &mut Held,
-) -> Result<(), GlyphError> {
+) -> Result<(), GlyphError>
+    ensures { budget.new.left ≤ budget.old.left }
+{
     let share = budget.limit.min(budget.left);
     let mut left = share;
     let glyph = usize::from(gid);
@@ -156,7 +165,10 @@ fn frame_of(
     location: &Location,
     budget: &mut Budget,
     is_rounded: bool,
-) -> Result<Option<Frame>, Error> {
+) -> Result<Option<Frame>, Error>
+    ensures spends { budget.new.left ≤ budget.old.left }
+    ensures why { IfErr result (λ e. (cause : Cause) × (e ≡ errors.Glyph gid cause)) }
+{
     let mut held = Held::new(alloc, budget.limit / ROOM);
     if let Err(error) = draw_into(alloc, face, gid, location, budget, &mut held) {
         return Err(Error::Glyph(gid, error));
@@ -174,20 +186,46 @@ fn frame_of(
     Ok(outline.tight_bounds().map(Frame::round))
 }
 
+/// Returns the number of a glyph in 16 bits. Greater numbers are cut to the greatest one.
+pub(crate) fn gid_of(glyph: usize) -> u16
+    ensures { result ≤ glyph }
+{
+    if glyph < 65535 { glyph as u16 } else { 65535 }
+}
+
+/// Returns the error of advances that a charstring cannot hold.
+fn unheld(
+    face: &VariableFace<'_>,
+    location: &Location,
+    advances: &AdvancesAt<'_>,
+    error: Unwritten,
+) -> Error
+    requires are { AreAdvancesAt face.now location.now.coordinates.items advances.now }
+    requires lacks { LacksRoom advances.now (glyphs_in face.now) error }
+    ensures { (rounded : Bool) → IsUnmade rounded face.now location.now result }
+{
+    match error {
+        Unwritten::Advance(glyph) => {
+            let gid = gid_of(glyph);
+            Error::Glyph(gid, GlyphError::Advance(advances.of(gid)))
+        }
+        error => Error::Table(error),
+    }
+}
+
 /// Returns the advances of all glyphs. It fails if a charstring cannot hold one.
 fn widths_of(
     alloc: Global,
     face: &VariableFace<'_>,
     location: &Location,
-) -> Result<Vec<Operand>, Error> {
+) -> Result<Vec<Operand>, Error>
+    ensures counted { IfOk result (λ widths. length widths.items ≡ glyphs_in face.now) }
+    ensures why { IfErr result (λ e. (rounded : Bool) → IsUnmade rounded face.now location.now e) }
+{
     let advances = face.advances_at(&location.coordinates);
     match advances.operands(alloc, face.font.char_strings.len()) {
         Ok(widths) => Ok(widths),
-        Err(Unwritten::Advance(glyph)) => {
-            let gid = u16::try_from(glyph).unwrap_or(u16::MAX);
-            Err(Error::Glyph(gid, GlyphError::Advance(advances.of(gid))))
-        }
-        Err(error) => Err(Error::Table(error)),
+        Err(error) => Err(unheld(face, location, &advances, error)),
     }
 }
 
@@ -200,7 +238,10 @@ fn whole(width: Operand) -> u16 {
 }
 
 impl Drawn {
-    fn put(&mut self, width: u16, frame: Option<Frame>) -> Result<(), Error> {
+    fn put(&mut self, width: u16, frame: Option<Frame>) -> Result<(), Error>
+        ensures kept { self.new.widths ≡ self.old.widths }
+        ensures memory { IfErr result (λ e. e ≡ errors.Memory) }
+    {
         let bearing = match frame {
             Some(frame) => frame.left.max(-32768).min(32767) as i16,
             None => 0,
@@ -230,7 +271,11 @@ impl Drawn {
         glyphs: u16,
         is_rounded: bool,
         watch: &mut W,
-    ) -> Result<(), Error> {
+    ) -> Result<(), Error>
+        ensures kept { self.new.widths ≡ self.old.widths }
+        ensures spends { budget.new.left ≤ budget.old.left }
+        ensures why { IfErr result (λ e. (e ≡ errors.Memory) ⊎ NamesGlyph glyphs e) }
+    {
         for gid in 0..glyphs {
             watch.at_glyph(gid);
             let width = self
@@ -252,8 +297,12 @@ impl Drawn {
         budget: &mut Budget,
         is_rounded: bool,
         watch: &mut W,
-    ) -> Result<Drawn, Error> {
-        let glyphs = u16::try_from(face.font.char_strings.len()).unwrap_or(u16::MAX);
+    ) -> Result<Drawn, Error>
+        ensures counted { IfOk result (λ drawn. length drawn.widths.items ≡ glyphs_in face.now) }
+        ensures spends { budget.new.left ≤ budget.old.left }
+        ensures why { IfErr result (λ e. (rounded : Bool) → IsUnmade rounded face.now location.now e) }
+    {
+        let glyphs = gid_of(face.font.char_strings.len());
         let mut drawn = Drawn {
             metrics: Vec::new(alloc),
             widths: widths_of(alloc, face, location)?,

@@ -1,14 +1,17 @@
 //! Static fonts with outlines in a `CFF ` table.
-ghost use Rattle.std.specs.Prelude.{◌≤◌, IfErr, IfOk};
+ghost use Rattle.std.specs.Prelude.{◌≡◌, ◌⊎◌, ◌≤◌, Bool, length, IfErr, IfOk, IfSome};
 ghost use Rattle.postscript_instance_file.specs.Instances.{HaveFont, IsFileOf, IsFileWith, IsFontAt, IsInstanceFile, IsStaticFont, IsTableBy};
-ghost use Rattle.postscript_instance_file.specs.Refusals.{IsUnmade, NoInstanceFile};
+ghost use Rattle.postscript_instance_file.specs.Refusals.{IsUnmade, LacksTableBy, NamesGlyph, NoFileOf, NoFileWith, NoInstanceFile, glyphs_in};
+ghost use Rattle.postscript_instance_file.specs.declared.error.Error.TheVariants as errors;
+ghost use Rattle.postscript_instance_file.specs.declared.face.VariableFace.{VariableFace as Face};
+ghost use Rattle.postscript_instance_file.specs.declared.location.Location.{Location as At};
 
-use crate::drawn::{Budget, Drawn};
+use crate::drawn::{Budget, Drawn, gid_of};
 use crate::error::{Error, GlyphError};
 use crate::face::VariableFace;
 use crate::glyph_names::{Kept, names_of};
 use crate::location::Location;
-use crate::made::Made;
+use crate::made::{Made, Unmade};
 use crate::style::Style;
 use crate::{kept, metrics, positions};
 use postscript_cff2::Font;
@@ -55,7 +58,10 @@ fn unwritten(
     location: &Location,
     drawn: &Drawn,
     is_rounded: bool,
-) -> Option<Error> {
+) -> Option<Error>
+    requires { length drawn.now.widths.items ≡ glyphs_in face.now }
+    ensures { IfSome result (λ e. NamesGlyph (glyphs_in face.now) e) }
+{
     for i in 0..drawn.widths.len() {
         let width = drawn.widths.get(i).copied();
         let written = if is_rounded {
@@ -64,8 +70,7 @@ fn unwritten(
             glyph(alloc, &face.font, i, &location.place, width)
         };
         if let Err(error) = written {
-            let gid = u16::try_from(i).unwrap_or(u16::MAX);
-            return Some(Error::Glyph(gid, GlyphError::Unwritten(error)));
+            return Some(Error::Glyph(gid_of(i), GlyphError::Unwritten(error)));
         }
     }
     None
@@ -79,7 +84,10 @@ fn error_of(
     drawn: &Drawn,
     is_rounded: bool,
     error: Unwritten,
-) -> Error {
+) -> Error
+    requires { length drawn.now.widths.items ≡ glyphs_in face.now }
+    ensures { NamesGlyph (glyphs_in face.now) result ⊎ (result ≡ errors.Table error) }
+{
     match error {
         Unwritten::TooManyOperands | Unwritten::NoMove | Unwritten::TooFar => match unwritten(
             alloc, face, location, drawn, is_rounded,
@@ -100,6 +108,7 @@ fn table_by(
     is_rounded: bool,
 ) -> Result<Vec<u8>, Unwritten>
     ensures written { IfOk result (λ table. IsTableBy is_rounded font.now naming.now advances.now table.items) }
+    ensures why { IfErr result (λ e. LacksTableBy is_rounded font.now naming.now advances.now e) }
 {
     if is_rounded {
         rounded_table(alloc, font, naming, advances)
@@ -118,7 +127,9 @@ fn font_of(
     names: &Kept<'_>,
     is_rounded: bool,
 ) -> Result<Vec<u8>, Error>
+    requires { length drawn.now.widths.items ≡ glyphs_in face.now }
     ensures written { IfOk result (λ font. IsFontAt is_rounded face.now location.now font.items) }
+    ensures why { IfErr result (λ e. IsUnmade is_rounded face.now location.now e) }
 {
     let naming = Naming {
         font: style.postscript.as_str().as_bytes(),
@@ -131,6 +142,17 @@ fn font_of(
     }
 }
 
+/// Returns the error of a table that is not made.
+fn error_of_table(unmade: Unmade) -> Error
+    ensures { (rounded : Bool) (face : Face) (location : At) → IsUnmade rounded face location result }
+{
+    match unmade {
+        Unmade::Memory => Error::Memory,
+        Unmade::Names => Error::Names,
+        Unmade::Cut => Error::Write(postscript_sfnt_write::Error::Cut),
+    }
+}
+
 /// Returns all tables that are made for an instance, apart from the `CFF ` table.
 fn made_of(
     alloc: Global,
@@ -138,12 +160,17 @@ fn made_of(
     location: &Location,
     drawn: &Drawn,
     style: &Style,
-) -> Result<Made, Error> {
+) -> Result<Made, Error>
+    ensures { IfErr result (λ e. (rounded : Bool) → IsUnmade rounded face.now location.now e) }
+{
+    let metrics = metrics::of(&face.file)?;
     let mut made = Made::new(alloc);
-    metrics::put(&mut made, alloc, face, location, drawn, style)?;
+    metrics::put(&mut made, alloc, face, location, drawn, style, metrics);
     positions::put(&mut made, alloc, face, location);
-    made.end()?;
-    Ok(made)
+    match made.end() {
+        Ok(()) => Ok(made),
+        Err(unmade) => Err(error_of_table(unmade)),
+    }
 }
 
 /// Returns a `CFF ` table, the made tables and the copied ones.
@@ -167,6 +194,7 @@ fn all_tables<'t>(
 /// Returns a file of tables, sorted by their tags.
 fn file_with(alloc: Global, tables: &[Table<'_>]) -> Result<Vec<u8>, Error>
     ensures file { IfOk result (λ file. IsFileOf tables.now file.items) }
+    ensures why { IfErr result (λ e. NoFileOf tables.now e) }
 {
     let mut sorted = Vec::from_slice(alloc, tables)?;
     sorted.sort_by_key(|table: &Table<'_>| table.tag)?;
@@ -182,6 +210,7 @@ fn written(
     made: &Made,
 ) -> Result<Vec<u8>, Error>
     ensures written { IfOk result (λ file. IsFileWith font.now file.items) }
+    ensures why { IfErr result (λ e. NoFileWith font.now e) }
 {
     let tables = all_tables(alloc, face, font, made)?;
     let file = file_with(alloc, tables.as_slice())?;
@@ -197,7 +226,9 @@ fn styled(
     style: &Style,
     is_rounded: bool,
 ) -> Result<StaticFont, Error>
+    requires { length drawn.now.widths.items ≡ glyphs_in face.now }
     ensures written { IfOk result (λ made. IsStaticFont is_rounded face.now location.now made.file.items) }
+    ensures why { IfErr result (λ e. IsUnmade is_rounded face.now location.now e) }
 {
     let names = names_of(alloc, face)?;
     let font = font_of(alloc, face, location, drawn, style, &names, is_rounded)?;

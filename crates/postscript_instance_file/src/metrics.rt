@@ -1,12 +1,16 @@
 //! The tables of an instance that are made from those of the variable font.
+ghost use Rattle.std.specs.Prelude.{IfErr};
+ghost use Rattle.postscript_instance_file.specs.Refusals.{HasBadMetrics};
+
 use crate::drawn::{Drawn, Frame};
 use crate::error::Error;
 use crate::face::{VariableFace, read_as};
 use crate::location::Location;
-use crate::made::Made;
+use crate::made::{Made, Unmade};
 use crate::records::names_of;
 use crate::style::Style;
 use crate::values::{Entry, HHEA, OS2, POST, VHEA, set_signed, set_unsigned, set_word, vary, word};
+use postscript_sfnt::FontFile;
 use postscript_sfnt_write::{
     Metric, hmtx, with_number_of_glyphs, with_number_of_metrics, without_names,
 };
@@ -115,7 +119,7 @@ impl<'m, 'l> Maker<'m, 'l> {
     }
 
     /// Returns the `hhea` table, with the extremes of the metrics.
-    fn hhea(&self) -> Result<Vec<u8>, Error> {
+    fn hhea(&self) -> Result<Vec<u8>, Unmade> {
         let mut hhea = self.varied(self.old(*b"hhea"), &HHEA)?;
         let frame = self.drawn.frame.unwrap_or(Frame::NONE);
         set_word(&mut hhea, 10, widest(&self.drawn.metrics));
@@ -144,7 +148,7 @@ impl<'m, 'l> Maker<'m, 'l> {
     }
 
     /// Returns the `post` table without glyph names, with the slant and the underline.
-    fn post(&self) -> Result<Vec<u8>, Error> {
+    fn post(&self) -> Result<Vec<u8>, Unmade> {
         let old = match self.old(*b"post") {
             old if old.len() >= 32 => old,
             _ => &[0; 32],
@@ -183,19 +187,26 @@ impl<'m, 'l> Maker<'m, 'l> {
     }
 }
 
+/// Returns the variations of the metrics of a face, if it has them.
+pub(crate) fn of<'l>(file: &FontFile<'l>) -> Result<Option<MetricVariations<'l>>, Error>
+    ensures { IfErr result (λ e. HasBadMetrics file.now e) }
+{
+    match file.table(*b"MVAR") {
+        Some(mvar) => Ok(Some(read_as("MVAR", MetricVariations::read(mvar))?)),
+        None => Ok(None),
+    }
+}
+
 /// Adds the tables of an instance, except the outlines.
-pub(crate) fn put(
+pub(crate) fn put<'l>(
     made: &mut Made,
     alloc: Global,
-    face: &VariableFace<'_>,
+    face: &VariableFace<'l>,
     location: &Location,
     drawn: &Drawn,
     style: &Style,
-) -> Result<(), Error> {
-    let metrics = match face.file.table(*b"MVAR") {
-        Some(mvar) => Some(read_as("MVAR", MetricVariations::read(mvar))?),
-        None => None,
-    };
+    metrics: Option<MetricVariations<'l>>,
+) {
     let maker = Maker {
         alloc,
         face,
@@ -206,5 +217,4 @@ pub(crate) fn put(
     };
     maker.put_needed(made);
     maker.put_others(made);
-    made.end()
 }

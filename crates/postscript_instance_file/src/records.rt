@@ -1,6 +1,6 @@
 //! The `name` table of an instance (ISO/IEC 14496-22).
-use crate::error::Error;
 use crate::face::VariableFace;
+use crate::made::Unmade;
 use crate::style::Style;
 use postscript_base::index::number::number_within;
 use postscript_text::names::{MOST, NameTable, Record, record_at};
@@ -220,12 +220,12 @@ fn keep(kept: &mut NameTable, records: &[Record<'_>]) -> Result<(), AllocError> 
 }
 
 /// Returns the table of records, in their order.
-fn table_of(alloc: Global, records: &[Record<'_>]) -> Result<Vec<u8>, Error> {
+fn table_of(alloc: Global, records: &[Record<'_>]) -> Result<Vec<u8>, Unmade> {
     let mut kept = NameTable::new(alloc);
     keep(&mut kept, records)?;
     match kept.table(alloc)? {
         Some(table) => Ok(table),
-        None => Err(Error::Names),
+        None => Err(Unmade::Names),
     }
 }
 
@@ -234,7 +234,7 @@ pub(crate) fn names_of(
     alloc: Global,
     face: &VariableFace<'_>,
     style: &Style,
-) -> Result<Vec<u8>, Error> {
+) -> Result<Vec<u8>, Unmade> {
     let table = face.file.table(*b"name").unwrap_or(&[]);
     let mut texts = Vec::new(alloc);
     put_texts(&mut texts, alloc, face, style)?;
