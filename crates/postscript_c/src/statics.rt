@@ -309,7 +309,7 @@ fn static_refusal(e: &Error) -> PsfRefusal
 {
     match e {
         Error::NoTable(name) | Error::Cut(name) | Error::Variations(name, _) => {
-            refusal_with(tag_of(name), 0)
+            refusal_with(tag_of(*name), 0)
         }
         Error::Glyph(gid, fault) => refusal_with(usize::from(*gid), glyph_cause(fault)),
         _ => refusal_with(0, 0),

@@ -1,12 +1,28 @@
+use Rattle.std.proofs.lemmas.Result.{err_from_is_err_and}
+use Rattle.postscript_instance_file.specs.Refusals.{unmade, unplaced, unread}
 use Rattle.postscript_instance_file.proofs.instance.instance_file.Goals as goal
 
-pub returns : goal.returns
-returns c = record {
-  written = record {
-    face = c.in_ok-face.face;
-    found = c.in_ok-face.ensures.found;
-    location = c.in_ok-location.location;
-    at = c.in_ok-location.ensures.at;
-    is = c.in_ok-made.ensures.written;
-  };
+pub returns-clause-written : goal.returns-clause-written
+returns-clause-written c = record {
+  face = c.in_ok-face.face;
+  found = c.in_ok-face.ensures.found;
+  location = c.in_ok-location.location;
+  at = c.in_ok-location.ensures.at;
+  is = c.in_ok-made.ensures.written;
 }
+
+pub returns-in_err-face-clause-why : goal.returns-in_err-face-clause-why
+returns-in_err-face-clause-why c =
+    let error = err_from_is_err_and c.from_residual-in_err-face.result c.from_residual-in_err-face.ensures.1 in
+    rw (error.1, error.2) (unread c.in_err-face.ensures.why)
+
+pub returns-in_err-location-clause-why : goal.returns-in_err-location-clause-why
+returns-in_err-location-clause-why c =
+    let error = err_from_is_err_and c.from_residual-in_err-location.result c.from_residual-in_err-location.ensures.1 in
+    rw (error.1, error.2) (unplaced c.in_ok-face.face c.in_ok-face.ensures.found c.in_err-location.ensures.why)
+
+pub returns-in_err-made-clause-why : goal.returns-in_err-made-clause-why
+returns-in_err-made-clause-why c =
+    let error = err_from_is_err_and c.from_residual-in_err-made.result c.from_residual-in_err-made.ensures.1 in
+    rw (error.1, error.2) (unmade c.in_ok-face.face c.in_ok-location.location c.in_ok-face.ensures.found c.in_ok-location.ensures.at
+    c.in_err-made.ensures.why)
