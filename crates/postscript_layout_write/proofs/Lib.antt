@@ -7,6 +7,8 @@ pub mod Holding
 pub mod Reading
 pub mod Collecting
 pub mod Kept
+pub mod PieceReading
+pub mod Placing
 pub mod Classed
 pub mod Ends
 pub mod Renumbered

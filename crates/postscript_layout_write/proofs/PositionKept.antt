@@ -4,9 +4,9 @@ use Rattle.std.specs.Prelude.{Option, None, Some, is_none, nat_eq, nat_lt, if◌
 use Rattle.std.specs.List.{range_with_len}
 use Rattle.postscript_layout.specs.Numbers.{word, long}
 use Rattle.postscript_layout_write.specs.First.{first_some}
-use Rattle.postscript_layout_write.specs.Holds.{Holds}
 use Rattle.postscript_layout_write.specs.Flags.{set_of, uses_set}
-use Rattle.postscript_layout_write.specs.Lookups.{HasLookup, HasLookups, HasPosition, Keeps, has_contexts, has_pairs, has_typed}
+use Rattle.postscript_layout_write.specs.Lookups.{HasLookups, HasPosition, Keeps, has_contexts, has_pairs, has_typed}
+use Rattle.postscript_layout_write.specs.Pieces.{HasLookup}
 use Rattle.postscript_layout_write.specs.Sequences.{Context}
 use Rattle.postscript_layout_write.specs.Cursive.{by_lookup as connection_by_lookup, by_subtables as connections_by}
 use Rattle.postscript_layout_write.specs.Ligatures.{by_lookup as ligature_by_lookup, by_subtables as ligatures_by}
@@ -26,18 +26,10 @@ use Rattle.postscript_layout_write.specs.declared.scope.Scope.{Scope}
 use Rattle.postscript_layout_write.specs.declared.scope.Scope.TheVariants.{Flags, Marks, Pairs}
 use Rattle.postscript_layout_write.specs.declared.values.Adjustment.{Adjustment}
 use Rattle.postscript_layout_write.proofs.Firsts.{Found, first-cases, first-none, none_found, some_found}
-use Rattle.postscript_layout_write.proofs.Kept.{count-held, flag-read, keeps-lists, lookup-in, lookup-read, lookups-held, place-read, set-read, type-read}
+use Rattle.postscript_layout_write.proofs.Kept.{count-held, keeps-lists, lookups-held, place-read}
+use Rattle.postscript_layout_write.proofs.PieceReading.{flag-read, lookup-read, set-read, type-read}
+use Rattle.postscript_layout_write.proofs.Placing.{position-in}
 use Rattle.postscript_layout_write.proofs.TypedKept.{components-attached, connections-kept, contexts-kept, kept-alone, marks-attached, singles-kept, type-eight, type-not, typed-flag, typed-set, typed-type, word-eight, word-type}
-use Rattle.postscript_layout_write.proofs.TypedWriting.{typed-in}
-
-position-in : (scope : Scope) (gpos kept : List ℕ) (lookup : ℕ) (t bytes : List ℕ) (at offset : ℕ) → Holds bytes t at → HasPosition scope gpos kept lookup bytes offset →
-    HasPosition scope gpos kept lookup t (at + offset)
-position-in scope gpos kept lookup t bytes at offset h (has_pairs never none p) =
-    has_pairs never none (lookup-in (new_flag scope (word gpos (lookup + 2))) (set_of gpos lookup) (new_pair scope gpos kept lookup) t bytes at offset h p)
-position-in scope gpos kept lookup t bytes at offset h (has_typed takes m) =
-    has_typed takes (typed-in gpos kept lookup (new_flag scope (word gpos (lookup + 2))) t bytes at offset h m)
-position-in scope gpos kept lookup t bytes at offset h (has_contexts takes m) =
-    has_contexts takes (typed-in gpos kept lookup (new_flag scope (word gpos (lookup + 2))) t bytes at offset h m)
 
 and-left : (a b : Bool) → (a && b) ≡ true → a ≡ true
 and-left true b is = refl
@@ -148,8 +140,7 @@ module _ (scope : Scope) (gpos kept : List ℕ) (lookup : ℕ) (t : List ℕ) (l
   eight takes m = type-eight gpos kept lookup (new_flag scope (word gpos (lookup + 2))) t l m (is-context scope gpos lookup takes)
 
   two : HasLookup (new_flag scope (word gpos (lookup + 2))) (set_of gpos lookup) (new_pair scope gpos kept lookup) t l → type_at t l ≡ 2
-  two p = ap (λ k. if k == 9 then word t (l + word t (l + 6) + 2) else k)
-      (type-read (new_flag scope (word gpos (lookup + 2))) (set_of gpos lookup) (new_pair scope gpos kept lookup) t l p)
+  two p = type-read (new_flag scope (word gpos (lookup + 2))) (set_of gpos lookup) (new_pair scope gpos kept lookup) t l p
 
   -- a lookup that does not keep its type has no subtables but of pairs
   untyped : {X : Type 0} (b : Bool) (old : Option X) → takes_type scope gpos lookup ≡ false → None ≡ (if takes_type scope gpos lookup && b then old else None)

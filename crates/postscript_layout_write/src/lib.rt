@@ -4,9 +4,10 @@
 //!
 //! It is proved that each lookup of the new `GPOS` table adjusts each pair of kept glyphs exactly as the lookup of the
 //! same index of the old table, and no other pair (`KeepsKerning` in specs/Kerning.antt). The first subtable that applies
-//! to a pair counts, in both formats, and extensions are followed (specs/Pairs.antt). The script list and the feature list
-//! have the same bytes at the same offsets, with all tables that they name (specs/ScriptLists.antt). Each kept glyph has
-//! its class (specs/Classes.antt).
+//! to a pair counts, in both formats, and extensions are followed (specs/Pairs.antt). The number of pairs has no bound:
+//! many pairs are in several subtables, which follow all lookups, and the lookup has extensions. The script list and the
+//! feature list have the same bytes at the same offsets, with all tables that they name (specs/ScriptLists.antt). Each kept
+//! glyph has its class (specs/Classes.antt).
 //!
 //! With `positions`, each lookup also adjusts each kept single glyph as before, and attaches each kept mark to each kept
 //! base, mark or component of a ligature at the same anchors as before, and nothing else (`KeepsPositions` in
@@ -46,7 +47,8 @@
 //! - Contour points, device tables, variation indexes and feature variations are dropped: the new table has version 1.0.
 //! - Numbers past the end of the old table are 0. If a coverage table, a class definition or a set of pairs is not in
 //!   order, its first entry counts. Readers that search by halves may find another entry there.
-//! - No clause says when `TooLarge` comes, how small the new table is, or which limit suffices.
+//! - Lookups of `GPOS` other than pair adjustments, and all lookups of `GSUB`, have no extensions: more than 64 kB of them
+//!   are too large. No clause says when `TooLarge` comes, how small the new table is, or which limit suffices.
 #![tactic(auto)]
 
 mod anchors;
@@ -59,6 +61,7 @@ mod coverages;
 mod definitions;
 mod entries;
 mod error;
+mod forms;
 mod labels;
 mod leaving;
 mod left_positions;
@@ -68,6 +71,7 @@ mod lookups;
 mod marks;
 mod numbers;
 mod pairs;
+mod pieces;
 mod position_contexts;
 mod positioning;
 mod ranges;
