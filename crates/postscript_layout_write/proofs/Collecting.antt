@@ -7,11 +7,14 @@ use Rattle.std.proofs.lemmas.List.{get_or_append_left, get_or_push}
 use Rattle.std.proofs.lemmas.List.Elements.{All-contains, All-weaker, Contains-append_left, Contains-push}
 use Rattle.postscript_layout.specs.Numbers.{word}
 use Rattle.postscript_layout_write.specs.Typed.{AddsTyped}
+use Rattle.postscript_layout_write.specs.Coverages.{AddsChained}
 use Rattle.postscript_layout_write.specs.Entries.{AreEntries, entry, form_of}
 use Rattle.postscript_layout_write.specs.Holds.{Holds}
 use Rattle.postscript_layout_write.specs.Flags.{set_of}
 use Rattle.postscript_layout_write.specs.Lookups.{AddsForms, AddsPosition, AreForms, HasLookup, HasLookups, HasPosition, PutsLookup, has_contexts, has_pairs, has_typed}
+use Rattle.postscript_layout_write.specs.Marks.{type_at}
 use Rattle.postscript_layout_write.specs.Pairs.{lookup_at}
+use Rattle.postscript_layout_write.specs.PositionContexts.{contexts_by}
 use Rattle.postscript_layout_write.specs.Scopes.{mark_set_text, new_flag, new_pair, pair_by, takes_contexts, takes_type}
 use Rattle.postscript_layout_write.specs.Sets.{Adds, AddsSubtable, AreOffsets, AreSets, HasSet, HasSubtable, no_pairs, some_pairs, no_subtable, one_subtable}
 use Rattle.postscript_layout_write.specs.Text.{AreOfForm, EntryFits, lookup_text, set_text, subtable_text}
@@ -23,6 +26,7 @@ use Rattle.postscript_layout_write.specs.declared.positioning.Forms.{Forms}
 use Rattle.postscript_layout_write.specs.declared.scope.Scope.{Scope}
 use Rattle.postscript_layout_write.specs.declared.subtables.Sets.{Sets}
 use Rattle.postscript_layout_write.specs.declared.values.Adjustment.{Adjustment}
+use Rattle.postscript_layout_write.proofs.ContextCollecting.{chained-on}
 use Rattle.postscript_layout_write.proofs.Firsts.{nat_cases}
 use Rattle.postscript_layout_write.proofs.Holding.{holds-last, holds-on, holds-whole}
 use Rattle.postscript_layout_write.proofs.Listing.{entries-as}
@@ -313,7 +317,7 @@ position-on scope gpos kept lookup bytes more at (has_pairs never none h) =
 position-on scope gpos kept lookup bytes more at (has_typed takes h) =
     has_typed takes (typed-on gpos kept lookup (new_flag scope (word gpos (lookup + 2))) bytes more at h)
 position-on scope gpos kept lookup bytes more at (has_contexts takes h) =
-    has_contexts takes (typed-on gpos kept lookup (new_flag scope (word gpos (lookup + 2))) bytes more at h)
+    has_contexts takes (chained-on 8 (new_flag scope (word gpos (lookup + 2))) (set_of gpos lookup) (contexts_by gpos kept lookup (type_at gpos lookup)) bytes more at h)
 
 pub pairs-added : (scope : Scope) (gpos kept : List ℕ) (lookup : ℕ) (forms : Forms) (old new : List ℕ) → takes_type scope gpos lookup ≡ false →
     takes_contexts scope gpos lookup ≡ false → AreForms (new_pair scope gpos kept lookup) (length kept) forms → PutsLookup (new_flag scope (word gpos (lookup + 2))) (set_of gpos lookup) forms old new →
@@ -334,7 +338,8 @@ typed-added scope gpos kept lookup old new takes adds = record {
 }
 
 pub contexts-added : (scope : Scope) (gpos kept : List ℕ) (lookup : ℕ) (old new : List ℕ) → takes_contexts scope gpos lookup ≡ true →
-    AddsTyped gpos kept lookup (new_flag scope (word gpos (lookup + 2))) old new → AddsPosition scope gpos kept lookup old new
+    AddsChained 8 (new_flag scope (word gpos (lookup + 2))) (set_of gpos lookup) (contexts_by gpos kept lookup (type_at gpos lookup)) old new →
+    AddsPosition scope gpos kept lookup old new
 contexts-added scope gpos kept lookup old new takes adds = record {
   more = adds.more;
   bytes = adds.bytes;

@@ -15,7 +15,7 @@ use crate::entries::{Entry, Form, entries_of};
 use crate::error::{Error, Result};
 use crate::limit::pay;
 use crate::numbers::{put_uint16, word};
-use crate::position_contexts::{has_contexts, keeps_contexts};
+use crate::position_contexts::{has_contexts, keeps_contexts, put_contexts};
 use crate::scope::{Scope, new_flag, put_set};
 use crate::script_lists::lists_end;
 use crate::subtables::{Sets, put_offsets, put_subtable};
@@ -184,8 +184,12 @@ fn put_any(
     let typed = takes_type(gpos, lookup, scope, limit)?;
     let contextual = takes_contexts(gpos, lookup, scope, limit)?;
     let flag = new_flag(scope, word(gpos, lookup + 2));
-    if typed || contextual {
+    if typed {
         put_typed(alloc, out, gpos, lookup, flag, kept, limit)?;
+        return Ok(());
+    }
+    if contextual {
+        put_contexts(alloc, out, gpos, lookup, flag, kept, limit)?;
         return Ok(());
     }
     let forms = forms_of(alloc, gpos, lookup, scope, kept, limit)?;

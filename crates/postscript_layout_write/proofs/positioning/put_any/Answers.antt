@@ -1,11 +1,13 @@
 use Rattle.std.proofs.Common.{◌≡◌, ◌∙◌, ◌+◌, sym, ℕ, ap, subst}
 use Rattle.postscript_layout.specs.Numbers.{word}
-use Rattle.postscript_layout_write.specs.Typed.{AddsTyped}
+use Rattle.postscript_layout_write.specs.Coverages.{AddsChained}
 use Rattle.postscript_layout_write.specs.Flags.{set_of}
 use Rattle.postscript_layout_write.specs.Lookups.{PutsLookup}
+use Rattle.postscript_layout_write.specs.Marks.{type_at}
+use Rattle.postscript_layout_write.specs.PositionContexts.{contexts_by}
 use Rattle.postscript_layout_write.specs.Scopes.{new_flag}
+use Rattle.postscript_layout_write.specs.Typed.{AddsTyped}
 use Rattle.postscript_layout_write.proofs.Collecting.{contexts-added, typed-added, pairs-added}
-use Rattle.postscript_layout_write.proofs.positioning.put_any.Goals.{then-typed-via-then-typed, then-typed-via-else-typed+then-contextual}
 use Rattle.postscript_layout_write.proofs.positioning.put_any.Goals as goal
 
 pub returns-clause-done : goal.returns-clause-done
@@ -23,9 +25,16 @@ returns-then-typed-clause-done c =
     let old = c.args.out.now.items in
     let new = c.put_typed.new.out.items in
     let flag : c.new_flag-flag.result ≡ new_flag c.args.scope (word gpos (c.args.lookup + 2)) = c.new_flag-flag.ensures.exact ∙ ap (new_flag c.args.scope) c.word.ensures.exact in
-    let adds = subst (λ (n : ℕ). AddsTyped gpos kept c.args.lookup n old new) flag c.in_ok-put_typed.ensures.done in
-    elim c.then-typed.branch [
-      | then-typed-via-then-typed w ↦ typed-added c.args.scope gpos kept c.args.lookup old new (sym c.in_ok-typed.ensures.exact ∙ w.if-typed.true) adds
-      | then-typed-via-else-typed+then-contextual w ↦ contexts-added c.args.scope gpos kept c.args.lookup old new
-          (sym c.in_ok-contextual.ensures.exact ∙ w.if-contextual.true) adds
-    ]
+    typed-added c.args.scope gpos kept c.args.lookup old new (sym c.in_ok-typed.ensures.exact ∙ c.if-typed.true)
+    (subst (λ (n : ℕ). AddsTyped gpos kept c.args.lookup n old new) flag c.in_ok-put_typed.ensures.done)
+
+pub returns-then-contextual-clause-done : goal.returns-then-contextual-clause-done
+returns-then-contextual-clause-done c =
+    let gpos = c.args.gpos.now in
+    let kept = c.args.kept.now in
+    let lookup = c.args.lookup in
+    let old = c.args.out.now.items in
+    let new = c.put_contexts.new.out.items in
+    let flag : c.new_flag-flag.result ≡ new_flag c.args.scope (word gpos (lookup + 2)) = c.new_flag-flag.ensures.exact ∙ ap (new_flag c.args.scope) c.word.ensures.exact in
+    contexts-added c.args.scope gpos kept lookup old new (sym c.in_ok-contextual.ensures.exact ∙ c.if-contextual.true)
+    (subst (λ (n : ℕ). AddsChained 8 n (set_of gpos lookup) (contexts_by gpos kept lookup (type_at gpos lookup)) old new) flag c.in_ok-put_contexts.ensures.done)
