@@ -28,7 +28,6 @@ pub mod MarkWriting
 pub mod MarkReading
 pub mod MarkKept
 pub mod RowKept
-pub mod PositionContexts
 pub mod TypedWriting
 pub mod TypedKept
 pub mod PositionKept

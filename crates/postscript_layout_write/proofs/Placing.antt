@@ -2,12 +2,15 @@
 use Rattle.std.proofs.Common.{◌≡◌, refl, sym, ap, subst, ◌∙◌, inl, inr, ℕ, ◌+◌, ◌-◌, ◌*◌, ◌≤◌, ◌<◌, List, [], ◌∷◌, ◌++◌, length, length-append, append-nil, get_or, arith, true, false}
 use Rattle.std.proofs.lemmas.List.{append_assoc, get_or_append_left, get_or_push}
 use Rattle.postscript_layout.specs.Numbers.{word}
+use Rattle.postscript_layout_write.specs.Coverages.{AddsChained}
 use Rattle.postscript_layout_write.specs.Flags.{set_of}
 use Rattle.postscript_layout_write.specs.Forms.{HasSubtables}
 use Rattle.postscript_layout_write.specs.Holds.{Holds}
 use Rattle.postscript_layout_write.specs.Lookups.{AreStarts, HasLast, HasLookups, HasPosition, MakesPosition, has_contexts, has_pairs, has_typed}
+use Rattle.postscript_layout_write.specs.Marks.{type_at}
 use Rattle.postscript_layout_write.specs.Pairs.{lookup_at, lookups_of}
 use Rattle.postscript_layout_write.specs.Pieces.{HasFar, HasLookup, HasNear, IsFarPiece, IsNearPiece, IsPiece, extensions_text, far_piece, is_far, is_near, lookup_text, near_piece, set_size}
+use Rattle.postscript_layout_write.specs.PositionContexts.{contexts_by}
 use Rattle.postscript_layout_write.specs.Scopes.{new_flag, new_pair, takes_contexts, takes_type}
 use Rattle.postscript_layout_write.specs.Text.{list_text, offsets_text, uint16}
 use Rattle.postscript_layout_write.specs.Typed.{AddsTyped, HasTyped}
@@ -15,6 +18,7 @@ use Rattle.postscript_layout_write.specs.declared.forms.Subtables.{Subtables}
 use Rattle.postscript_layout_write.specs.declared.pieces.Piece.{Piece}
 use Rattle.postscript_layout_write.specs.declared.scope.Scope.{Scope}
 use Rattle.postscript_layout_write.specs.declared.values.Adjustment.{Adjustment}
+use Rattle.postscript_layout_write.proofs.ContextCollecting.{chained-in, chained-on}
 use Rattle.postscript_layout_write.proofs.Firsts.{nat_cases}
 use Rattle.postscript_layout_write.proofs.Holding.{holds-after, holds-in, holds-last, holds-on, holds-whole}
 use Rattle.postscript_layout_write.proofs.PieceReading.{length-extensions, length-lookup}
@@ -56,7 +60,7 @@ position-in scope gpos kept lookup t bytes at offset h (has_pairs never none p) 
 position-in scope gpos kept lookup t bytes at offset h (has_typed takes m) =
     has_typed takes (typed-in gpos kept lookup (new_flag scope (word gpos (lookup + 2))) t bytes at offset h m)
 position-in scope gpos kept lookup t bytes at offset h (has_contexts takes m) =
-    has_contexts takes (typed-in gpos kept lookup (new_flag scope (word gpos (lookup + 2))) t bytes at offset h m)
+    has_contexts takes (chained-in 8 (new_flag scope (word gpos (lookup + 2))) (set_of gpos lookup) (contexts_by gpos kept lookup (type_at gpos lookup)) t bytes at offset h m)
 
 -- a lookup of pairs that is made
 module _ (flag set distance : ℕ) (f : (x y : ℕ) → Adjustment) (subtables : Subtables) (piece : Piece)
@@ -119,9 +123,11 @@ typed-made scope gpos kept lookup distance front behind takes adds = λ between 
     has_typed takes (typed-there gpos kept lookup (new_flag scope (word gpos (lookup + 2))) front (between ++ behind) adds)
 
 pub contexts-made : (scope : Scope) (gpos kept : List ℕ) (lookup distance : ℕ) (front behind : List ℕ) → takes_contexts scope gpos lookup ≡ true →
-    AddsTyped gpos kept lookup (new_flag scope (word gpos (lookup + 2))) [] front → MakesPosition scope gpos kept lookup distance front behind
+    AddsChained 8 (new_flag scope (word gpos (lookup + 2))) (set_of gpos lookup) (contexts_by gpos kept lookup (type_at gpos lookup)) [] front →
+    MakesPosition scope gpos kept lookup distance front behind
 contexts-made scope gpos kept lookup distance front behind takes adds = λ between long.
-    has_contexts takes (typed-there gpos kept lookup (new_flag scope (word gpos (lookup + 2))) front (between ++ behind) adds)
+    has_contexts takes (chained-on 8 (new_flag scope (word gpos (lookup + 2))) (set_of gpos lookup) (contexts_by gpos kept lookup (type_at gpos lookup))
+    front (between ++ behind) 0 adds.has)
 
 -- one more lookup before the others
 module _ (scope : Scope) (gpos kept : List ℕ) (n : ℕ) (front behind distances lookups subtables : List ℕ) where
@@ -138,7 +144,7 @@ module _ (scope : Scope) (gpos kept : List ℕ) (n : ℕ) (front behind distance
     place = refl;
   }
 
-  pub last-each : (i : ℕ) → i + n + 1 ≡ lookups_of gpos → HasLast scope gpos kept n distances lookups subtables →
+  last-each : (i : ℕ) → i + n + 1 ≡ lookups_of gpos → HasLast scope gpos kept n distances lookups subtables →
       MakesPosition scope gpos kept (lookup_at gpos i) (length lookups + length subtables) front behind → (j k : ℕ) → k < n + 1 → j + k + 1 ≡ lookups_of gpos →
       (offset : ℕ) × (offset + get_or (distances ++ length (front ++ lookups) ∷ []) k 0 ≡ length (front ++ lookups))
       × HasPosition scope gpos kept (lookup_at gpos j) joined offset
@@ -157,7 +163,7 @@ module _ (scope : Scope) (gpos kept : List ℕ) (n : ℕ) (front behind distance
         let same = get_or_push distances (length (front ++ lookups)) 0 k (omega (arith, here, many)) in
         let which : i ≡ j = omega (arith, is, at, here) in (
           0,
-          same,
+          omega (arith, same),
           subst (λ m. HasPosition scope gpos kept (lookup_at gpos m) joined 0) which
               (subst (λ (xs : List ℕ). HasPosition scope gpos kept (lookup_at gpos i) xs 0)
               (ap (λ xs. front ++ xs) (append_assoc lookups subtables behind) ∙ sym (append_assoc front lookups (subtables ++ behind)))

@@ -1,10 +1,13 @@
 -- Lookups as they are written. Only contracts of private functions and proofs name this.
 use Rattle.std.specs.Prelude.{◌≡◌, ℕ, true, false, ◌+◌, ◌-◌, ◌*◌, ◌<◌, ◌≤◌, List, ◌++◌, length, slice_index}
 use Rattle.postscript_layout.specs.Numbers.{word}
+use Rattle.postscript_layout_write.specs.Coverages.{HasChained}
 use Rattle.postscript_layout_write.specs.Flags.{KeepsFlaggedPositions, set_of}
 use Rattle.postscript_layout_write.specs.Kerning.{KeepsKerning}
+use Rattle.postscript_layout_write.specs.Marks.{type_at}
 use Rattle.postscript_layout_write.specs.Pairs.{lookup_at, lookups_of}
 use Rattle.postscript_layout_write.specs.Pieces.{HasLookup}
+use Rattle.postscript_layout_write.specs.PositionContexts.{contexts_by}
 use Rattle.postscript_layout_write.specs.Positions.{KeepsPositions}
 use Rattle.postscript_layout_write.specs.Scopes.{new_flag, new_pair, takes_contexts, takes_type}
 use Rattle.postscript_layout_write.specs.Sets.{AreOffsets}
@@ -20,7 +23,8 @@ pub data HasPosition (scope : Scope) (gpos kept : List ℕ) (lookup : ℕ) (byte
       HasPosition scope gpos kept lookup bytes offset
   has_typed : takes_type scope gpos lookup ≡ true → HasTyped gpos kept lookup (new_flag scope (word gpos (lookup + 2))) bytes offset →
       HasPosition scope gpos kept lookup bytes offset
-  has_contexts : takes_contexts scope gpos lookup ≡ true → HasTyped gpos kept lookup (new_flag scope (word gpos (lookup + 2))) bytes offset →
+  has_contexts : takes_contexts scope gpos lookup ≡ true →
+      HasChained 8 (new_flag scope (word gpos (lookup + 2))) (set_of gpos lookup) (contexts_by gpos kept lookup (type_at gpos lookup)) bytes offset →
       HasPosition scope gpos kept lookup bytes offset
 
 -- The bytes of a lookup, and those of its subtables that follow all lookups. The end of all lookups and subtables is at a distance after it.

@@ -1,9 +1,12 @@
 //! Writes a `GPOS` table with adjustments of pairs and of single glyphs, cursive attachment, marks, and contexts.
 ghost use Rattle.std.specs.Prelude.{◌≡◌, ◌⊎◌, ◌%◌, ◌^◌, ◌+◌, ◌<◌, ◌≤◌, ◌&&◌, ◌++◌, ◌∷◌, [], true, false, length, slice_range, IfErr, IfOk, OnOk};
-ghost use Rattle.postscript_layout_write.specs.Flags.{KeepsFlaggedPositions};
+ghost use Rattle.postscript_layout_write.specs.Coverages.{AddsChained};
+ghost use Rattle.postscript_layout_write.specs.Flags.{KeepsFlaggedPositions, set_of};
 ghost use Rattle.postscript_layout_write.specs.Kerning.{KeepsKerning};
 ghost use Rattle.postscript_layout_write.specs.Lookups.{AreStarts, HasLast, Keeps, MakesPosition, PutsList};
+ghost use Rattle.postscript_layout_write.specs.Marks.{type_at};
 ghost use Rattle.postscript_layout_write.specs.Pairs.{lookups_of};
+ghost use Rattle.postscript_layout_write.specs.PositionContexts.{contexts_by};
 ghost use Rattle.postscript_layout_write.specs.Positions.{KeepsPositions};
 ghost use Rattle.postscript_layout_write.specs.Refusals.{Fails, IsUsedUp, Refuses};
 ghost use Rattle.postscript_layout_write.specs.Scopes.{takes_contexts as the_contexts, takes_type as the_taking};
@@ -16,7 +19,7 @@ use crate::forms::forms_of;
 use crate::limit::pay;
 use crate::numbers::{put_uint16, word};
 use crate::pieces::{Piece, pairs_piece};
-use crate::position_contexts::{has_contexts, keeps_contexts};
+use crate::position_contexts::{has_contexts, keeps_contexts, put_contexts};
 use crate::scope::{Scope, new_flag};
 use crate::script_lists::lists_end;
 use crate::subtables::put_offsets;
@@ -103,7 +106,7 @@ fn takes_contexts(gpos: &[u8], lookup: usize, scope: Scope, limit: &mut u64) -> 
     }
 }
 
-/// Returns a lookup with its type or its contexts.
+/// Returns a lookup with its type.
 fn typed_piece(
     alloc: Global,
     gpos: &[u8],
@@ -116,12 +119,35 @@ fn typed_piece(
     requires few { length kept.now < 65536 }
     requires small { flag < 65536 }
     ensures done { IfOk result (λ piece. AddsTyped gpos.now kept.now lookup flag [] piece.lookup.items) }
-    ensures none { IfOk result (λ piece. piece.subtables.items ≡ []) }
     ensures spends { limit.new ≤ limit.old }
     ensures why { IfErr result (λ e. Fails limit.new e) }
 {
     let mut bytes = Vec::new(alloc);
     put_typed(alloc, &mut bytes, gpos, lookup, flag, kept, limit)?;
+    Ok(Piece {
+        lookup: bytes,
+        subtables: Vec::new(alloc),
+    })
+}
+
+/// Returns a lookup with its contexts.
+fn contexts_piece(
+    alloc: Global,
+    gpos: &[u8],
+    lookup: usize,
+    flag: usize,
+    kept: &[u16],
+    limit: &mut u64,
+) -> Result<Piece>
+    requires near { lookup < 2 ^ 31 }
+    requires few { length kept.now < 65536 }
+    requires small { flag < 65536 }
+    ensures done { IfOk result (λ piece. AddsChained 8 flag (set_of gpos.now lookup) (contexts_by gpos.now kept.now lookup (type_at gpos.now lookup)) [] piece.lookup.items) }
+    ensures spends { limit.new ≤ limit.old }
+    ensures why { IfErr result (λ e. Fails limit.new e) }
+{
+    let mut bytes = Vec::new(alloc);
+    put_contexts(alloc, &mut bytes, gpos, lookup, flag, kept, limit)?;
     Ok(Piece {
         lookup: bytes,
         subtables: Vec::new(alloc),
@@ -149,8 +175,12 @@ fn piece_of(
     let typed = takes_type(gpos, lookup, scope, limit)?;
     let contextual = takes_contexts(gpos, lookup, scope, limit)?;
     let flag = new_flag(scope, word(gpos, lookup + 2));
-    if typed || contextual {
+    if typed {
         let piece = typed_piece(alloc, gpos, lookup, flag, kept, limit)?;
+        return Ok(piece);
+    }
+    if contextual {
+        let piece = contexts_piece(alloc, gpos, lookup, flag, kept, limit)?;
         return Ok(piece);
     }
     let forms = forms_of(alloc, gpos, lookup, scope, kept, limit)?;
