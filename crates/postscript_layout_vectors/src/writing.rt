@@ -419,20 +419,39 @@ const POSITIONS: &[Row] = &[
         new: &[1, 4, 8, 0, 1, 8, 3, 0, 1, 16, 0, 1, 0, 1, 1, 1, 1],
     },
     Row {
-        what: "a context of a glyph that is not kept: never",
+        what: "a context of a glyph that is not kept: none",
         old: &[1, 4, 8, 0, 1, 8, 3, 0, 1, 12, 0, 0, 1, 1, 2],
-        new: &[1, 4, 8, 0, 1, 8, 3, 0, 1, 12, 0, 0, 1, 0],
+        new: &[1, 4, 8, 0, 0],
     },
     Row {
-        what: "a context by glyphs: nothing",
-        old: &[1, 4, 7, 0, 1, 8, 1, 6, 0, 1, 1, 1],
-        new: &[1, 4, 2, 0, 0],
+        what: "a context by glyphs: 1 before 5",
+        old: &[
+            1, 4, 7, 0, 1, 8, 1, 8, 1, 14, 1, 1, 1, 1, 4, 2, 1, 5, 0, 3,
+        ],
+        new: &[
+            1, 4, 8, 0, 1, 8, 3, 0, 2, 18, 24, 0, 1, 0, 3, 1, 1, 0, 1, 1, 1,
+        ],
     },
     Row {
-        what: "contexts by sets and by glyphs: nothing",
+        what: "a chained context by classes: 5 after 1",
+        old: &[
+            1, 4, 8, 0, 1, 8, 2, 16, 22, 30, 0, 2, 0, 38, 1, 1, 5, 1, 1, 1, 2, 1, 5, 1, 1, 1, 4, 1,
+            2, 1, 0, 1, 0, 9,
+        ],
+        new: &[
+            1, 4, 8, 0, 1, 8, 3, 1, 18, 1, 24, 0, 1, 0, 9, 1, 1, 0, 1, 1, 1,
+        ],
+    },
+    Row {
+        what: "contexts by sets and by glyphs without rules: the first",
         old: &[
             1, 4, 8, 0, 2, 10, 28, 3, 0, 1, 12, 0, 0, 1, 1, 5, 1, 6, 0, 1, 1, 5,
         ],
+        new: &[1, 4, 8, 0, 1, 8, 3, 0, 1, 12, 0, 0, 1, 1, 1],
+    },
+    Row {
+        what: "a context of an unknown format: nothing",
+        old: &[1, 4, 8, 0, 1, 8, 4],
         new: &[1, 4, 2, 0, 0],
     },
 ];
@@ -658,12 +677,12 @@ fn stacked(rt: HostRuntime) {
     assert!(rt; long == Err(Error::TooLong) && limit == 0);
 }
 
-/// A lookup of marks with a set, a context by glyphs, and pairs with a set are left out. A single adjustment and pairs
+/// A lookup of marks with a set, a context of an unknown format, and pairs with a set are left out. A single adjustment and pairs
 /// without subtables are not.
 #[test]
 fn left_positions(rt: HostRuntime) {
     let lookups = [
-        5, 12, 20, 28, 36, 44, 1, 0, 1, 8, 4, 16, 1, 8, 7, 0, 1, 8, 2, 17, 1, 8, 2, 0, 0,
+        5, 12, 20, 28, 36, 44, 1, 0, 1, 8, 4, 16, 1, 8, 7, 0, 1, 2, 2, 17, 1, 8, 2, 0, 0,
     ];
     let gpos = table(rt.alloc(), HEAD, &lookups).expect(&rt, "memory");
     let mut limit = 100;

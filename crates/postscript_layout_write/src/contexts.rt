@@ -1,4 +1,5 @@
-//! Contexts of substitutions (types 5 and 6), which are written as chained contexts of sets of glyphs (format 3).
+//! Contexts of substitutions (types 5 and 6) and of positions (types 7 and 8), which are written as chained contexts of sets
+//! of glyphs (format 3).
 ghost use Rattle.std.specs.Prelude.{◌≡◌, ◌⊎◌, ◌+◌, ◌*◌, ◌^◌, ◌<◌, ◌≤◌, ◌++◌, ◌&&◌, [], ◌∷◌, ℕ, Some, true, length, IfErr, IfOk, IfSome, OnOk};
 ghost use Rattle.std.specs.List.{All};
 ghost use Rattle.postscript_layout.specs.Numbers.{word as the_word, words as the_words};

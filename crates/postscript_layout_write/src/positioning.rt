@@ -189,13 +189,7 @@ fn piece_of(
 }
 
 /// Collects the lookups of a table, from the last one to the first.
-fn last_of(
-    alloc: Global,
-    gpos: &[u8],
-    scope: Scope,
-    kept: &[u16],
-    limit: &mut u64,
-) -> Result<Last>
+fn last_of(alloc: Global, gpos: &[u8], scope: Scope, kept: &[u16], limit: &mut u64) -> Result<Last>
     requires few { length kept.now < 65536 }
     ensures exact { IfOk result (λ last. HasLast scope gpos.now kept.now (lookups_of gpos.now) last.distances.items last.lookups.items last.subtables.items) }
     ensures spends { limit.new ≤ limit.old }
@@ -338,8 +332,8 @@ pub fn kerning(alloc: Global, gpos: &[u8], kept: &[u16], limit: &mut u64) -> Res
 /// the script list and the feature list of the old one, and as many lookups in the same order. Lookups of pair
 /// adjustments are kept as by `kerning`. A lookup of single adjustments (type 1), of cursive attachment (type 3), or of
 /// marks on bases, on ligatures or on other marks (types 4 to 6) keeps its type, also by extensions. It has a subtable for
-/// each old one. A lookup of contexts (types 7 and 8) whose subtables all have format 3 keeps the contexts
-/// whose sets of glyphs all have kept glyphs, as a lookup of type 8. All other lookups have no subtables, and neither has a
+/// each old one. A lookup of contexts (types 7 and 8) whose subtables all have format 1, 2 or 3 keeps the contexts
+/// whose sets of glyphs all have kept glyphs, as a lookup of type 8 with contexts by sets of glyphs (format 3). All other lookups have no subtables, and neither has a
 /// lookup with a flag above bit 3.
 ///
 /// Units of the limit are paid as by `kerning`. One unit is paid for each kept glyph in a subtable of single adjustments or
