@@ -77,9 +77,8 @@ EXTENSION = {"GSUB": 7, "GPOS": 9}
 
 
 def is_contextual(lookup, tag):
-    """Returns whether a lookup has contexts. Those of GPOS are kept by sets of glyphs only."""
-    formats = (1, 2, 3) if tag == "GSUB" else (3,)
-    return type_of(lookup, EXTENSION[tag]) in CONTEXTS[tag] and all(one.Format in formats for one in parts_of(lookup, EXTENSION[tag]))
+    """Returns whether a lookup has contexts, all of them of a known format."""
+    return type_of(lookup, EXTENSION[tag]) in CONTEXTS[tag] and all(one.Format in (1, 2, 3) for one in parts_of(lookup, EXTENSION[tag]))
 
 
 def has_classes(font):

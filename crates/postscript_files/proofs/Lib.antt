@@ -13,5 +13,7 @@ pub mod Charting
 pub mod Ordering
 pub mod Measuring
 pub mod Counting
+pub mod Few
 pub mod Subsetting
 pub mod Refusing
+pub mod Readings

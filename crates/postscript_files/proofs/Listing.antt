@@ -8,10 +8,10 @@ use Rattle.std.proofs.lemmas.Option.{slice_get_within}
 use Rattle.postscript_sfnt.specs.Lent.{HasNoTable, IsTableOf, tag_of}
 use Rattle.postscript_sfnt.specs.declared.file.FontFile.{FontFile}
 use Rattle.postscript_sfnt_write.specs.declared.file.Table.{Table}
-use Rattle.postscript_files.specs.Copies.{HasAll, HasCopy, IsFileOf}
+use Rattle.postscript_files.specs.Copies.{HasAll, HasCopy, IsFileOf, IsListed, tagged}
 use Rattle.postscript_files.specs.Faces.{cff_tag, cmap_tag, hhea_tag, hmtx_tag, maxp_tag, post_tag}
-use Rattle.postscript_files.specs.Listed.{Adds, AreCopiedTo, AreGivenTo, AreMade, HasParts, IsFileOfParts, IsListed, Puts, tagged}
-use Rattle.postscript_files.specs.Subsets.{IsCopied, IsGivenTag}
+use Rattle.postscript_files.specs.Listed.{Adds, AreCopiedTo, AreGivenTo, AreMade, AreParts, HasParts, IsFileOfParts, Puts}
+use Rattle.postscript_files.specs.Subsets.{IsCopied, IsExpected, IsGivenTag}
 use Rattle.postscript_files.specs.declared.choice.Choice.{Choice}
 use Rattle.postscript_files.specs.declared.choice.Given.{Given}
 use Rattle.postscript_files.specs.declared.error.Error.{Error}
@@ -137,48 +137,55 @@ made-in tables new tag bytes other all h =
     let copy = copied-in tables new tag bytes all h in
     subst (λ (xs : List ℕ). IsTableOf new tag xs) (copy.2.same other) copy.1
 
--- the parts of a file whose tables are made, given and copied
-parts-in : (choice : Choice) (old : FontFile) (font : List ℕ) (made : Made) (first second third : List Table) (new : FontFile) →
+-- the tables that are made, given and copied
+pub parts : (choice : Choice) (old : FontFile) (font : List ℕ) (made : Made) (first second third : List Table) →
     AreMade font made first → Adds first (IsGivenTag choice.given.now) second →
     AreGivenTo choice.given.now (length choice.given.now) second → Adds second (IsCopied old choice.copied.now) third →
-    AreCopiedTo old choice.copied.now (length choice.copied.now) third → HasAll new third → HasParts choice old font made new
-parts-in choice old font made first second third new six more given rest copied all = record {
-  cff = made-in third new cff_tag font (λ e. omega (arith, e)) all (rest.kept _ _ (more.kept _ _ six.cff));
-  cmap = made-in third new cmap_tag made.cmap.items (λ e. omega (arith, e)) all (rest.kept _ _ (more.kept _ _ six.cmap));
-  hhea = made-in third new hhea_tag made.hhea.items (λ e. omega (arith, e)) all (rest.kept _ _ (more.kept _ _ six.hhea));
-  hmtx = made-in third new hmtx_tag made.hmtx.items (λ e. omega (arith, e)) all (rest.kept _ _ (more.kept _ _ six.hmtx));
-  maxp = made-in third new maxp_tag made.maxp.items (λ e. omega (arith, e)) all (rest.kept _ _ (more.kept _ _ six.maxp));
-  post = made-in third new post_tag made.post.items (λ e. omega (arith, e)) all (rest.kept _ _ (more.kept _ _ six.post));
+    AreCopiedTo old choice.copied.now (length choice.copied.now) third → AreParts choice old font made third
+parts choice old font made first second third six more given rest copied = record {
+  cff = rest.kept _ _ (more.kept _ _ six.cff);
+  cmap = rest.kept _ _ (more.kept _ _ six.cmap);
+  hhea = rest.kept _ _ (more.kept _ _ six.hhea);
+  hmtx = rest.kept _ _ (more.kept _ _ six.hmtx);
+  maxp = rest.kept _ _ (more.kept _ _ six.maxp);
+  post = rest.kept _ _ (more.kept _ _ six.post);
   copied = λ tag table asked is.
       let e : get_or choice.copied.now asked.0 0 ≡ tag = get_or_default choice.copied.now asked.0 0 tag asked.1 ∙ asked.2 in
-      copied-in third new tag table all
-      (subst (λ t. IsListed third t table) e
-      (copied asked.0 table asked.1 (subst (λ t. IsTableOf old t table) (sym e) is)));
+      subst (λ t. IsListed third t table) e (copied asked.0 table asked.1 (subst (λ t. IsTableOf old t table) (sym e) is));
   given = λ i table is.
-      copied-in third new table.tag table.bytes.items all
-      (rest.kept table.tag table.bytes.items (given i table (slice_get_within choice.given.now i table is) is));
-  only = λ i below.
-      let is = all.only i below in
-      elim (rest.only (tag_of new i) (is.0, is.1, is.2, is.3)) [
-        | inr was ↦ inr (inr (inl was))
-        | inl h ↦ elim (more.only (tag_of new i) h) [
-          | inr was ↦ inr (inr (inr was))
-          | inl h ↦ elim (six.only (tag_of new i) h) [
-            | inl was ↦ inl was
-            | inr was ↦ inr (inl was)
-          ]
-        ]
-      ];
+      rest.kept table.tag table.bytes.items (given i table (slice_get_within choice.given.now i table is) is);
+  only = λ i table is. elim (rest.only table.tag (i, table, is, refl)) [
+    | inr was ↦ inr (inr (inl was))
+    | inl h ↦ elim (more.only table.tag h) [
+      | inr was ↦ inr (inr (inr was))
+      | inl h ↦ elim (six.only table.tag h) [
+        | inl was ↦ inl was
+        | inr was ↦ inr (inl was)
+      ]
+    ]
+  ];
+}
+
+-- a file of these tables
+has-parts : (choice : Choice) (old : FontFile) (font : List ℕ) (made : Made) (tables : List Table) (new : FontFile) →
+    AreParts choice old font made tables → HasAll new tables → HasParts choice old font made new
+has-parts choice old font made tables new it all = record {
+  cff = made-in tables new cff_tag font (λ e. omega (arith, e)) all it.cff;
+  cmap = made-in tables new cmap_tag made.cmap.items (λ e. omega (arith, e)) all it.cmap;
+  hhea = made-in tables new hhea_tag made.hhea.items (λ e. omega (arith, e)) all it.hhea;
+  hmtx = made-in tables new hmtx_tag made.hmtx.items (λ e. omega (arith, e)) all it.hmtx;
+  maxp = made-in tables new maxp_tag made.maxp.items (λ e. omega (arith, e)) all it.maxp;
+  post = made-in tables new post_tag made.post.items (λ e. omega (arith, e)) all it.post;
+  copied = λ tag table asked is. copied-in tables new tag table all (it.copied tag table asked is);
+  given = λ i table is. copied-in tables new table.tag table.bytes.items all (it.given i table is);
+  only = λ i below. let is = all.only i below in subst (IsExpected choice old) is.3 (it.only is.0 is.1 is.2);
 }
 
 pub if-parts : (r : Result (Vec ℕ Global) Error) (choice : Choice) (old : FontFile) (font : List ℕ) (made : Made)
-    (first second third all : List Table) → all ≡ third → AreMade font made first →
-    Adds first (IsGivenTag choice.given.now) second → AreGivenTo choice.given.now (length choice.given.now) second →
-    Adds second (IsCopied old choice.copied.now) third → AreCopiedTo old choice.copied.now (length choice.copied.now) third →
-    IfOk r (λ file. IsFileOf all file.items) → IfOk r (λ file. IsFileOfParts choice old font made file.items)
-if-parts (Ok file) choice old font made first second third all same six more given rest copied is = record {
+    (tables all : List Table) → all ≡ tables → AreParts choice old font made tables → IfOk r (λ file. IsFileOf all file.items) →
+    IfOk r (λ file. IsFileOfParts choice old font made file.items)
+if-parts (Ok file) choice old font made tables all same it is = record {
   opens = (length all, is.opens);
-  is = λ new read. parts-in choice old font made first second third new six more given rest copied
-      (subst (HasAll new) same (is.has new read));
+  is = λ new read. has-parts choice old font made tables new it (subst (HasAll new) same (is.has new read));
 }
-if-parts (Err e) choice old font made first second third all same six more given rest copied is = tt
+if-parts (Err e) choice old font made tables all same it is = tt

@@ -13,8 +13,7 @@ use Rattle.postscript_sfnt_write.specs.declared.file.Table.{Table}
 use Rattle.postscript_files.specs.Copies.{HasAll, HasCopy, IsFileOf, NoFileOf}
 use Rattle.postscript_files.specs.Faces.{cff_tag}
 use Rattle.postscript_files.specs.Flats.{AreStaying, IsFlatFont, IsFlatOf, NoFlatOf, Stays, StayingHaveMore, dsig_tag}
-use Rattle.postscript_files.specs.Listed.{tagged}
-use Rattle.postscript_files.proofs.Twice.{none-tagged, once-tagged, other-tagged, twice-tagged}
+use Rattle.postscript_files.proofs.Twice.{no-twice, twice-tagged}
 use Rattle.postscript_files.specs.Others.{AreListedTo, AreOthers, Has, HasOthers, IsFileWith, IsUnwritten}
 use Rattle.postscript_files.specs.declared.error.Error.{Error}
 use Rattle.postscript_files.specs.declared.error.Error.TheVariants.{Cut, File, Font, Memory, MissingCharacter, MissingTable, NoAdvances, NoMap, Overlap, SameTag, TooLarge}
@@ -203,19 +202,6 @@ pub have-more : (old : FontFile) (font : List ℕ) (tables : List Table) (most s
 have-more old font [] most sum it listed small more = absurd (let s = it.some in omega (arith, s))
 have-more old font (u ∷ us) most sum it listed small more =
     record { tables = us; are = are-staying old font u us it listed; more = omega (arith, small, more) }
-
--- each tag is there once
-no-twice : (tables : List Table) (tag : ℕ) →
-    ((i j : ℕ) (a b : Table) → i < j → IsGiven tables i a → IsGiven tables j b → a.tag ≢ b.tag) → tagged tables tag ≤ 1
-no-twice [] tag once = omega arith
-no-twice (u ∷ us) tag once =
-    by (u.tag == tag) refl (no-twice us tag (λ i j a b less x y. once (suc i) (suc j) a b (omega (arith, less)) x y))
-  where
-    by : (b : Bool) → (u.tag == tag) ≡ b → tagged us tag ≤ 1 → tagged (u ∷ us) tag ≤ 1
-    by false e rest = let same = other-tagged u us tag e in omega (arith, same, rest)
-    by true e rest =
-        let named = eqb-true u.tag tag e in
-        once-tagged u us tag named (none-tagged us tag (λ k t h same. once 0 (suc k) u t (omega arith) refl h (named ∙ sym same)))
 
 unwritten : (e : Error) (old : FontFile) (most : ℕ) (font : List ℕ) (tables : List Table) → AreOthers old font tables →
     AreListedTo old (tables_of old) tables → NoFileOf e tables → IsUnwritten old most font e

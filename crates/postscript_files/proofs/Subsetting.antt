@@ -5,7 +5,7 @@ use Rattle.std.specs.List.{Contains}
 use Rattle.std.specs.declared.alloc.Global.{Global}
 use Rattle.std.proofs.lemmas.List.{get_or-drop}
 use Rattle.std.proofs.lemmas.List.Elements.{Contains-append_left, Contains-get_or}
-use Rattle.postscript_base.proofs.NumbersAt.{of_four, of_two}
+use Rattle.postscript_base.proofs.NumbersAt.{of_four}
 use Rattle.postscript_base.specs.Index.{number_at}
 use Rattle.postscript_sfnt.specs.Choice.{place_at}
 use Rattle.postscript_sfnt.specs.Lent.{AreAdvancesOf, IsFaceOf}
@@ -17,6 +17,7 @@ use Rattle.postscript_sfnt.specs.declared.file.FontFile.{FontFile}
 use Rattle.postscript_sfnt_write.specs.Files.{Opens}
 use Rattle.postscript_sfnt_write.specs.Mappings.{IsGlyphIn}
 use Rattle.postscript_sfnt_write.specs.Metrics.{KeepsBut}
+use Rattle.postscript_sfnt_write.specs.declared.file.Table.{Table}
 use Rattle.postscript_sfnt_write.specs.declared.mapping.Mapping.{Mapping}
 use Rattle.postscript_write.specs.Drawings.{DrawsTheSame}
 use Rattle.postscript_write.specs.Refusals.{IsSubsetRefusedBy}
@@ -24,11 +25,12 @@ use Rattle.postscript_write.specs.SameGlyphs.{IsSameGlyph}
 use Rattle.postscript_write.specs.Sources.{choice_by}
 use Rattle.postscript_write.specs.declared.error.Error.{Error as Refusal}
 use Rattle.postscript_files.specs.Choices.{AreKeptPairs, IsFirstMissing, IsKept, NoneIsMissing, glyph_of, glyphs_of, named_of}
+use Rattle.postscript_files.specs.Copies.{tagged}
 use Rattle.postscript_files.specs.Faces.{IsBestMap, IsFaceIn, cff_tag, cmap_tag, hhea_tag, hmtx_tag, maxp_tag}
-use Rattle.postscript_files.specs.Listed.{HasParts, IsFileOfParts, IsUnmade, NoFileOfParts}
+use Rattle.postscript_files.specs.Listed.{AreParts, HasParts, IsFileOfParts, IsUnmade, NoFileOfParts}
 use Rattle.postscript_files.specs.Made.{AreBytes, HasNoOrigins, IsCutFile, IsHmtxOf, IsMade, IsMapOf}
-use Rattle.postscript_files.specs.Origins.{AreOrigins, AreOriginsOf, IsKeptGlyph, IsOrigin, NoOriginsOf}
-use Rattle.postscript_files.specs.Subsets.{AreCounted, AreInOrder, HasSame, IsSame, IsSubsetFace, IsSubsetFile, IsSubsetFont, IsSubsetOf, KeepsNumber, NoSubsetBy, NoSubsetFrom, NoSubsetOf}
+use Rattle.postscript_files.specs.Origins.{AreFew, AreOrigins, AreOriginsOf, IsKeptGlyph, IsOrigin, NoOriginsOf}
+use Rattle.postscript_files.specs.Subsets.{AreCounted, AreInOrder, AreTablesOf, HasSame, IsSame, IsSubsetFace, IsSubsetFile, IsSubsetFont, IsSubsetOf, KeepsNumber, NoSubsetBy, NoSubsetFrom, NoSubsetOf}
 use Rattle.postscript_files.specs.declared.choice.Choice.{Choice}
 use Rattle.postscript_files.specs.declared.error.Error.{Error}
 use Rattle.postscript_files.specs.declared.error.Error.TheVariants.{Cut, File, Font, Memory, MissingCharacter, MissingTable, NoAdvances, NoMap, Overlap, SameTag, TooLarge}
@@ -37,6 +39,7 @@ use Rattle.postscript_files.specs.declared.face.Face.{Face}
 use Rattle.postscript_files.specs.declared.subset.Made.{Made}
 use Rattle.postscript_files.proofs.Charting.{find-char, glyph-named, mapping-from, mapping-there, named-for, numbered}
 use Rattle.postscript_files.proofs.Counting.{many-glyphs}
+use Rattle.postscript_files.proofs.Few.{few-pairs, two-small}
 use Rattle.postscript_files.proofs.Measuring.{many-metrics, same-advance, same-bearing}
 use Rattle.postscript_files.proofs.OneGlyph.{some-glyph}
 use Rattle.postscript_files.proofs.Origins.{above-zero, has-origin, origin-like, own-number}
@@ -224,13 +227,6 @@ subset-face choice old new pairs origins font made kept is are m has file read =
       given = has.given;
       only = has.only;
     }
-
-two-small : (bytes : List ℕ) (place : ℕ) → AreBytes bytes → place + 2 ≤ length bytes → number_at bytes place 2 < 65536
-two-small bytes place are room =
-    let e = of_two bytes place room in
-    let a = are place in
-    let b = are (place + 1) in
-    omega (arith, e, a, b)
 
 four-small : (bytes : List ℕ) (place : ℕ) → AreBytes bytes → place + 4 ≤ length bytes → number_at bytes place 4 < 4294967296
 four-small bytes place are room =
@@ -443,7 +439,7 @@ no-subset-so (Err e) choice bytes number old was h = inr (old, was, by-from e ch
 
 pub unmade-so : (e : Error) (choice : Choice) (old : Face) → IsUnmade old e → NoSubsetFrom choice old e
 unmade-so Memory choice old h = tt
-unmade-so TooLarge choice old h = tt
+unmade-so TooLarge choice old h = absurd h
 unmade-so Cut choice old h = h
 unmade-so (SameTag tag) choice old h = absurd h
 unmade-so (File e) choice old h = absurd h
@@ -457,23 +453,53 @@ unmade-so (MissingCharacter char) choice old h = absurd h
 pub no-made-so : (e : Error) (choice : Choice) (old : Face) → IsUnmade old e → NoSubsetFrom choice old e
 no-made-so e choice old h = unmade-so e choice old h
 
-unwritten-so : (e : Error) (choice : Choice) (old : Face) → NoFileOfParts choice old.file e → NoSubsetFrom choice old e
-unwritten-so Memory choice old h = tt
-unwritten-so TooLarge choice old h = tt
-unwritten-so (SameTag tag) choice old h = h
-unwritten-so Cut choice old h = absurd h
-unwritten-so (File e) choice old h = absurd h
-unwritten-so (MissingTable tag) choice old h = absurd h
-unwritten-so NoMap choice old h = absurd h
-unwritten-so NoAdvances choice old h = absurd h
-unwritten-so (Font e) choice old h = absurd h
-unwritten-so Overlap choice old h = absurd h
-unwritten-so (MissingCharacter char) choice old h = absurd h
+-- the tables of a subset that was made
+tables-of : (choice : Choice) (old : Face) (pairs : List Mapping) (origins font : List ℕ) (made : Made) (tables : List Table) →
+    AreKeptPairs choice old.map pairs → IsSubsetFont choice.retain_gids (named_of (glyphs_of choice) pairs) old.cff.now font →
+    AreFew origins → IsMade old pairs origins made → AreParts choice old.file font made tables →
+    ((tag : ℕ) → tagged tables tag ≤ 1) → AreTablesOf choice old tables
+tables-of choice old pairs origins font made tables kept is few m parts once = record {
+  named = named_of (glyphs_of choice) pairs;
+  are = λ glyph h. named-for choice old.map pairs kept glyph h;
+  cff = (font, parts.cff, is);
+  cmap = (made.cmap.items, parts.cmap,
+      let size = m.cmap_size in let most = few-pairs choice old.map pairs kept in omega (arith, size, most));
+  hhea = (made.hhea.items, parts.hhea, m.hhea_kept.size);
+  hmtx = (made.hmtx.items, parts.hmtx,
+      let size = m.hmtx.size in let many = many-metrics old origins made.hmtx.items m.hmtx in let most = few.0 in
+      omega (arith, size, many, most));
+  maxp = (made.maxp.items, parts.maxp, m.maxp_kept.size);
+  post = (made.post.items, parts.post, m.post.size);
+  copied = parts.copied;
+  given = parts.given;
+  only = parts.only;
+  once = once;
+}
 
-pub no-written-so : (r : Result (Vec ℕ Global) Error) (choice : Choice) (old : Face) → IfErr r (λ e. NoFileOfParts choice old.file e) →
-    IfErr r (λ e. NoSubsetFrom choice old e)
-no-written-so (Ok file) choice old h = tt
-no-written-so (Err e) choice old h = unwritten-so e choice old h
+unwritten-so : (e : Error) (choice : Choice) (old : Face) (pairs : List Mapping) (origins font : List ℕ) (made : Made) →
+    AreKeptPairs choice old.map pairs → IsSubsetFont choice.retain_gids (named_of (glyphs_of choice) pairs) old.cff.now font →
+    AreFew origins → IsMade old pairs origins made → NoFileOfParts choice old.file font made e → NoSubsetFrom choice old e
+unwritten-so Memory choice old pairs origins font made kept is few m h = tt
+unwritten-so TooLarge choice old pairs origins font made kept is few m h =
+    (h.0, tables-of choice old pairs origins font made h.0 kept is few m h.1 h.2, h.3)
+unwritten-so (SameTag tag) choice old pairs origins font made kept is few m h = h
+unwritten-so Cut choice old pairs origins font made kept is few m h = absurd h
+unwritten-so (File e) choice old pairs origins font made kept is few m h = absurd h
+unwritten-so (MissingTable tag) choice old pairs origins font made kept is few m h = absurd h
+unwritten-so NoMap choice old pairs origins font made kept is few m h = absurd h
+unwritten-so NoAdvances choice old pairs origins font made kept is few m h = absurd h
+unwritten-so (Font e) choice old pairs origins font made kept is few m h = absurd h
+unwritten-so Overlap choice old pairs origins font made kept is few m h = absurd h
+unwritten-so (MissingCharacter char) choice old pairs origins font made kept is few m h = absurd h
+
+pub no-written-so : (r : Result (Vec ℕ Global) Error) (choice : Choice) (old : Face) (pairs : List Mapping) (named origins font : List ℕ)
+    (made : Made) → AreKeptPairs choice old.map pairs → named ≡ named_of (glyphs_of choice) pairs →
+    IsSubsetFont choice.retain_gids named old.cff.now font → AreFew origins → IsMade old pairs origins made →
+    IfErr r (λ e. NoFileOfParts choice old.file font made e) → IfErr r (λ e. NoSubsetFrom choice old e)
+no-written-so (Ok file) choice old pairs named origins font made kept same is few m h = tt
+no-written-so (Err e) choice old pairs named origins font made kept same is few m h =
+    unwritten-so e choice old pairs origins font made kept
+    (subst (λ (xs : List ℕ). IsSubsetFont choice.retain_gids xs old.cff.now font) same is) few m h
 
 -- the font of the named glyphs is refused
 pub no-font-so : (e : Error) (choice : Choice) (old : Face) (pairs : List Mapping) (named all : List ℕ) → AreKeptPairs choice old.map pairs →

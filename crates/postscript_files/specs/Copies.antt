@@ -1,5 +1,6 @@
 -- Tables that are copied from one file to another (ISO/IEC 14496-22, 4.5).
-use Rattle.std.specs.Prelude.{◌≡◌, ◌≢◌, ◌⊎◌, ℕ, ◌+◌, ◌<◌, ◌≤◌, ◌^◌, List, length, take, drop}
+use Rattle.std.specs.Prelude.{◌≡◌, ◌≢◌, ◌⊎◌, ℕ, ◌+◌, ◌<◌, ◌≤◌, ◌^◌, ◌==◌, List, length, take, drop, if◌then◌else◌}
+use Rattle.std.specs.List.{sum_by}
 use Rattle.std.specs.List.Sorted.{IsPermutation}
 use Rattle.postscript_sfnt.specs.Lent.{IsFaceOf, IsTableOf, tables_of, tag_of}
 use Rattle.postscript_sfnt.specs.declared.file.FontFile.{FontFile}
@@ -31,6 +32,14 @@ pub record IsFileOf (tables : List Table) (bytes : List ℕ) : Type 0 where
   pub opens : Opens bytes (length tables)
   pub has : (face : FontFile) → IsFaceOf bytes 0 face → HasAll face tables
   pub size : length bytes ≡ size_of tables
+
+-- the list has a table with this tag and these bytes
+abbrev pub IsListed : List Table → (tag : ℕ) → List ℕ → Type 0
+IsListed tables tag bytes = (k : ℕ) × (t : Table) × IsGiven tables k t × (t.tag ≡ tag) × (t.bytes.now ≡ bytes)
+
+-- how many tables have a tag
+abbrev pub tagged : List Table → (tag : ℕ) → ℕ
+tagged tables tag = sum_by (λ t. if t.tag == tag then 1 else 0) tables
 
 -- two neighbours have this tag
 pub record HasNeighbours (tables : List Table) (tag : ℕ) : Type 0 where

@@ -11,3 +11,4 @@ pub mod Flats
 pub mod Others
 pub mod Made
 pub mod Listed
+pub mod Readings

@@ -1,12 +1,12 @@
 -- Tables in the order in which they are put into a list. Only private contracts and proofs use these definitions.
 use Rattle.std.specs.Prelude.{◌≡◌, ◌⊎◌, ℕ, ◌+◌, ◌<◌, ◌≤◌, ◌==◌, List, [], ◌∷◌, Some, length, map, slice_get, slice_index_or, if◌then◌else◌}
-use Rattle.std.specs.List.{Contains, sum_by}
+use Rattle.std.specs.List.{Contains}
 use Rattle.postscript_sfnt.specs.Lent.{HasNoTable, IsFaceOf, IsTableOf, tables_of, tag_of}
 use Rattle.postscript_sfnt.specs.declared.file.FontFile.{FontFile}
 use Rattle.postscript_sfnt_write.specs.Files.{Opens}
 use Rattle.postscript_sfnt_write.specs.Tables.{IsGiven}
 use Rattle.postscript_sfnt_write.specs.declared.file.Table.{Table}
-use Rattle.postscript_files.specs.Copies.{HasCopy}
+use Rattle.postscript_files.specs.Copies.{AreTooLarge, HasCopy, IsListed, tagged}
 use Rattle.postscript_files.specs.Faces.{IsNeeded, cff_tag, cmap_tag, hhea_tag, hmtx_tag, maxp_tag, post_tag}
 use Rattle.postscript_files.specs.Others.{Has}
 use Rattle.postscript_files.specs.Subsets.{IsExpected, IsTwice, given_tag, times}
@@ -17,18 +17,10 @@ use Rattle.postscript_files.specs.declared.error.Error.TheVariants.{Cut, Memory,
 use Rattle.postscript_files.specs.declared.face.Face.{Face}
 use Rattle.postscript_files.specs.declared.subset.Made.{Made}
 
--- the list has a table with this tag and these bytes
-abbrev pub IsListed : List Table → (tag : ℕ) → List ℕ → Type 0
-IsListed tables tag bytes = (k : ℕ) × (t : Table) × IsGiven tables k t × (t.tag ≡ tag) × (t.bytes.now ≡ bytes)
-
 -- Tables are added to a list, and the tag of each has this property.
 pub record Adds (old : List Table) (IsAdded : ℕ → Type 0) (new : List Table) : Type 0 where
   pub kept : (tag : ℕ) (bytes : List ℕ) → IsListed old tag bytes → IsListed new tag bytes
   pub only : (tag : ℕ) → Has new tag → Has old tag ⊎ IsAdded tag
-
--- how many tables have a tag
-abbrev pub tagged : List Table → (tag : ℕ) → ℕ
-tagged tables tag = sum_by (λ t. if t.tag == tag then 1 else 0) tables
 
 -- one table is added
 pub record Puts (old : List Table) (tag : ℕ) (bytes : List ℕ) (new : List Table) : Type 0 where
@@ -68,17 +60,33 @@ pub record CountsCopied (file : FontFile) (tags : List ℕ) (old new : List Tabl
   pub none : (tag : ℕ) → HasNoTable file tag → tagged new tag ≡ tagged old tag
   pub most : (tag : ℕ) → tagged new tag ≤ tagged old tag + times tags tag
 
+-- the tables of a new face
+pub record AreParts (choice : Choice) (old : FontFile) (font : List ℕ) (made : Made) (tables : List Table) : Type 0 where
+  pub cff : IsListed tables cff_tag font
+  pub cmap : IsListed tables cmap_tag made.cmap.items
+  pub hhea : IsListed tables hhea_tag made.hhea.items
+  pub hmtx : IsListed tables hmtx_tag made.hmtx.items
+  pub maxp : IsListed tables maxp_tag made.maxp.items
+  pub post : IsListed tables post_tag made.post.items
+  pub copied : (tag : ℕ) (table : List ℕ) → Contains choice.copied.now tag → IsTableOf old tag table → IsListed tables tag table
+  pub given : (i : ℕ) (table : Given) → slice_get choice.given.now i ≡ Some table → IsListed tables table.tag table.bytes.items
+  pub only : (i : ℕ) (table : Table) → IsGiven tables i table → IsExpected choice old table.tag
+
+-- these tables, each with a tag of its own, are too large
+abbrev pub ArePartsTooLarge : Choice → (old : FontFile) → (font : List ℕ) → Made → Type 0
+ArePartsTooLarge choice old font made = (tables : List Table) × AreParts choice old font made tables × ((tag : ℕ) → tagged tables tag ≤ 1)
+    × AreTooLarge tables
+
 -- why no file of these tables is written
-abbrev pub NoFileOfParts : Choice → (old : FontFile) → Error → Type 0
-NoFileOfParts choice old Memory = Unit {0}
-NoFileOfParts choice old TooLarge = Unit {0}
-NoFileOfParts choice old (SameTag tag) = IsTwice choice old tag
-NoFileOfParts choice old _ = ⊥
+abbrev pub NoFileOfParts : Choice → (old : FontFile) → (font : List ℕ) → Made → Error → Type 0
+NoFileOfParts choice old font made Memory = Unit {0}
+NoFileOfParts choice old font made TooLarge = ArePartsTooLarge choice old font made
+NoFileOfParts choice old font made (SameTag tag) = IsTwice choice old tag
+NoFileOfParts choice old font made _ = ⊥
 
 -- why the tables are not made
 abbrev pub IsUnmade : Face → Error → Type 0
 IsUnmade face Memory = Unit {0}
-IsUnmade face TooLarge = Unit {0}
 IsUnmade face Cut = length face.maxp.now < 6
 IsUnmade face _ = ⊥
 

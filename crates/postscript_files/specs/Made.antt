@@ -1,5 +1,5 @@
 -- The tables that are made. Only private contracts, laws and proofs use these definitions.
-use Rattle.std.specs.Prelude.{◌≡◌, ◌⊎◌, ℕ, ◌*◌, ◌<◌, ◌≤◌, Bool, List, length, map, take, drop, replicate, slice_index_or}
+use Rattle.std.specs.Prelude.{◌≡◌, ◌⊎◌, ℕ, ◌+◌, ◌*◌, ◌<◌, ◌≤◌, Bool, List, length, map, take, drop, replicate, slice_index_or}
 use Rattle.postscript_base.specs.Index.{number_at}
 use Rattle.postscript_sfnt.specs.Lent.{IsTableOf}
 use Rattle.postscript_sfnt.specs.Metrics.{IsGlyphs, IsWord}
@@ -48,6 +48,7 @@ pub record IsMapOf (pairs : List Mapping) (origins cmap : List ℕ) : Type 0 whe
 
 -- a `post` table without names, with the other values of the old one, or zeros
 pub record IsPostOf (file : FontFile) (post : List ℕ) : Type 0 where
+  pub size : length post ≡ 32
   pub version : number_at post 0 4 ≡ 0x00030000
   pub kept : (was : List ℕ) → IsTableOf file post_tag was → 32 ≤ length was → drop 4 post ≡ drop 4 (take 32 was)
   pub lacking : ((was : List ℕ) → IsTableOf file post_tag was → length was < 32) → drop 4 post ≡ replicate 28 0
@@ -66,6 +67,7 @@ pub record IsMade (face : Face) (pairs : List Mapping) (origins : List ℕ) (mad
   pub small : AreSmall origins
   pub cmap : IsMapOf pairs origins made.cmap.items
   pub cmap_bytes : AreBytes made.cmap.items
+  pub cmap_size : length made.cmap.items ≤ 64076 + length pairs * 12
   pub hhea : IsWord made.hhea.items 34 (length origins)
   pub hhea_kept : KeepsBut 34 face.hhea.now made.hhea.items
   pub hmtx : IsHmtxOf face origins made.hmtx.items

@@ -35,6 +35,10 @@ IsNamed choice face glyph = Contains (glyphs_of choice) glyph ⊎ ((char : ℕ) 
 abbrev pub AreAllNamed : Choice → Face → (named : List ℕ) → Type 0
 AreAllNamed choice face named = (glyph : ℕ) → Contains named glyph ↔ IsNamed choice face glyph
 
+-- fewer than 65,536 numbers, each of them below 65,536
+abbrev pub AreFew : (numbers : List ℕ) → Type 0
+AreFew numbers = (length numbers < 65536) × ((k : ℕ) → k < length numbers → slice_index_or numbers k 0 < 65536)
+
 -- these are the origins of the glyphs of a subset
 abbrev pub AreOriginsOf : Choice → Face → (origins : List ℕ) → Type 0
 AreOriginsOf choice face origins = (pairs : List Mapping) × AreKeptPairs choice face.map pairs

@@ -1,9 +1,7 @@
 -- The new numbers of glyphs, listed by their old numbers. Only private contracts use this file.
-use Rattle.std.specs.Prelude.{◌≡◌, ◌⊎◌, ℕ, ◌<◌, ◌≤◌, List, length, map, slice_index_or}
+use Rattle.std.specs.Prelude.{◌≡◌, ℕ, ◌<◌, List, length, map, slice_index_or}
 use Rattle.postscript_sfnt_write.specs.declared.mapping.Mapping.{Mapping}
 use Rattle.postscript_files.specs.Origins.{IsOrigin}
-use Rattle.postscript_files.specs.declared.error.Error.{Error}
-use Rattle.postscript_files.specs.declared.error.Error.TheVariants.{Memory, TooLarge}
 
 -- the number that is listed for an old glyph is that of a new glyph with this origin
 abbrev pub IsNumbered : (origins numbers : List ℕ) → (glyph : ℕ) → Type 0
@@ -11,12 +9,6 @@ IsNumbered origins numbers glyph = IsOrigin origins (slice_index_or numbers glyp
 
 abbrev pub AreNumbersOf : (origins numbers : List ℕ) → Type 0
 AreNumbersOf origins numbers = (k : ℕ) → k < length origins → IsNumbered origins numbers (slice_index_or origins k 0)
-
--- there are more glyphs than numbers of two bytes
-abbrev pub IsTooLarge : (origins : List ℕ) → Error → Type 0
-IsTooLarge origins Memory = Unit {0}
-IsTooLarge origins TooLarge = (65536 < length origins) ⊎ ((k : ℕ) × (k < length origins) × (65536 ≤ slice_index_or origins k 0))
-IsTooLarge origins _ = ⊥
 
 -- a character with the new number of its glyph
 abbrev pub renumber : (numbers : List ℕ) → Mapping → Mapping

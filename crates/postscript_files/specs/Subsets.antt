@@ -1,5 +1,5 @@
 -- A file with only some glyphs of a face (ISO/IEC 14496-22, 4.5 and 5.2).
-use Rattle.std.specs.Prelude.{◌≡◌, ◌⊎◌, ℕ, ℤ, ◌+◌, ◌*◌, ◌<◌, ◌≤◌, ◌==◌, List, [], ◌∷◌, Bool, true, false, Some, length, map, take, drop, replicate, slice_get, if◌then◌else◌}
+use Rattle.std.specs.Prelude.{◌≡◌, ◌⊎◌, ℕ, ℤ, ◌+◌, ◌*◌, ◌^◌, ◌<◌, ◌≤◌, ◌==◌, List, [], ◌∷◌, Bool, true, false, Some, length, map, take, drop, replicate, slice_get, if◌then◌else◌}
 use Rattle.std.specs.List.{Contains}
 use Rattle.postscript_base.specs.Index.{number_at}
 use Rattle.postscript_sfnt.specs.Lent.{HasNoTable, IsTableOf, advance_in, tables_of, tag_of}
@@ -8,6 +8,8 @@ use Rattle.postscript_sfnt.specs.Metrics.{IsGlyphs, IsWord}
 use Rattle.postscript_sfnt.specs.declared.file.FontFile.{FontFile}
 use Rattle.postscript_sfnt_write.specs.Files.{Opens}
 use Rattle.postscript_sfnt_write.specs.Metrics.{KeepsBut}
+use Rattle.postscript_sfnt_write.specs.Tables.{IsGiven}
+use Rattle.postscript_sfnt_write.specs.declared.file.Table.{Table}
 use Rattle.postscript_sfnt_write.specs.declared.mapping.Mapping.{Mapping}
 use Rattle.postscript_view.specs.Contents.{View}
 use Rattle.postscript_view.specs.Layout.{IsLaidOut}
@@ -20,7 +22,7 @@ use Rattle.postscript_write.specs.Refusals.{IsSubsetRefusedBy}
 use Rattle.postscript_write.specs.SameGlyphs.{GlyphsKept, IsSameGlyph}
 use Rattle.postscript_write.specs.Sources.{AreThere, choice_by}
 use Rattle.postscript_files.specs.Choices.{AreKeptPairs, IsFirstOf, IsKept, NoneIsMissing, glyphs_of, named_of}
-use Rattle.postscript_files.specs.Copies.{HasCopy}
+use Rattle.postscript_files.specs.Copies.{AreTooLarge, HasCopy, IsListed, tagged}
 use Rattle.postscript_files.specs.Faces.{IsFaceIn, IsNeeded, NoFaceIn, cff_tag, cmap_tag, hhea_tag, hmtx_tag, maxp_tag, post_tag}
 use Rattle.postscript_files.specs.Measures.{bearing_in}
 use Rattle.postscript_files.specs.Origins.{AreOriginsOf, IsKeptGlyph, IsOrigin}
@@ -163,10 +165,34 @@ abbrev pub IsTwice : Choice → (old : FontFile) → (tag : ℕ) → Type 0
 IsTwice choice old tag = (2 ≤ times_put choice tag)
     ⊎ ((HasNoTable old tag → ⊥) × (2 ≤ times_put choice tag + times choice.copied.now tag))
 
+-- the list has a table with this tag, whose bytes have this property
+abbrev pub HasTable : List Table → (tag : ℕ) → (Is : List ℕ → Type 0) → Type 0
+HasTable tables tag Is = (bytes : List ℕ) × IsListed tables tag bytes × Is bytes
+
+-- The tables of the file of a subset, each with a tag of its own: `CFF ` with the glyphs, five more that are made, and the tables that are
+-- copied and given.
+pub record AreTablesOf (choice : Choice) (old : Face) (tables : List Table) : Type 0 where
+  pub named : List ℕ
+  pub are : AreNamed choice old named
+  pub cff : HasTable tables cff_tag (λ cff. IsSubsetFont choice.retain_gids named old.cff.now cff)
+  pub cmap : HasTable tables cmap_tag (λ cmap. length cmap < 2 ^ 24)
+  pub hhea : HasTable tables hhea_tag (λ hhea. length hhea ≡ length old.hhea.now)
+  pub hmtx : HasTable tables hmtx_tag (λ hmtx. length hmtx < 2 ^ 18)
+  pub maxp : HasTable tables maxp_tag (λ maxp. length maxp ≡ length old.maxp.now)
+  pub post : HasTable tables post_tag (λ post. length post ≡ 32)
+  pub copied : (tag : ℕ) (table : List ℕ) → Contains choice.copied.now tag → IsTableOf old.file tag table → IsListed tables tag table
+  pub given : (i : ℕ) (table : Given) → slice_get choice.given.now i ≡ Some table → IsListed tables table.tag table.bytes.items
+  pub only : (i : ℕ) (table : Table) → IsGiven tables i table → IsExpected choice old.file table.tag
+  pub once : (tag : ℕ) → tagged tables tag ≤ 1
+
+-- these tables are too large for a file
+abbrev pub IsSubsetTooLarge : Choice → (old : Face) → Type 0
+IsSubsetTooLarge choice old = (tables : List Table) × AreTablesOf choice old tables × AreTooLarge tables
+
 -- why no subset of the face is written
 abbrev pub NoSubsetFrom : Choice → (old : Face) → Error → Type 0
 NoSubsetFrom choice old Memory = Unit {0}
-NoSubsetFrom choice old TooLarge = Unit {0}
+NoSubsetFrom choice old TooLarge = IsSubsetTooLarge choice old
 NoSubsetFrom choice old Cut = length old.maxp.now < 6
 NoSubsetFrom choice old (MissingCharacter char) = (choice.lenient ≡ false) × IsFirstOf old.map choice.chars.now char
 NoSubsetFrom choice old (SameTag tag) = IsTwice choice old.file tag

@@ -1,6 +1,6 @@
 //! The glyphs of a subset, under their old numbers.
 ghost use Rattle.std.specs.Prelude.{◌≡◌, IfOk, IfErr};
-ghost use Rattle.postscript_files.specs.Origins.{AreAllNamed, AreOriginsOf, HasGlyphs, IsUnopened, NoOriginsOf};
+ghost use Rattle.postscript_files.specs.Origins.{AreAllNamed, AreFew, AreOriginsOf, HasGlyphs, IsUnopened, NoOriginsOf};
 ghost use Rattle.postscript_files.specs.declared.error.Error.TheVariants as errors;
 
 use crate::choice::{Choice, kept_pairs, named};
@@ -58,6 +58,8 @@ impl Face<'_> {
     pub fn origins(&self, alloc: Global, choice: &Choice<'_>) -> Result<Vec<usize>>
         // These are the old glyphs that the new glyphs are made of, in the order of the new numbers.
         ensures are { IfOk result (λ origins. AreOriginsOf choice.now self.now origins.items) }
+        // There are fewer than 65,536, each below 65,536.
+        ensures few { IfOk result (λ origins. AreFew origins.items) }
         // An error is `Memory`, or it is justified by the font or the chosen glyphs.
         ensures refused { IfErr result (λ e. NoOriginsOf choice.now self.now e) }
     {

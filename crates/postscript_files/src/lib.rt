@@ -17,7 +17,7 @@
 //!   `checkSumAdjustment`. There are no other tables. New glyph `i` is the old glyph at index `i` of the list that
 //!   [`Face::origins`] returns.
 //! - Errors of `subset_file`: `MissingCharacter`, `Font`, `Cut` and `SameTag`, and the errors of `Face::open`, come only
-//!   if the old file or the choice has that fault.
+//!   if the old file or the choice has that fault. `TooLarge` comes as that of `flat_file`.
 //! - Errors of `flat_file`: `File`, `MissingTable` and `Font` come only if the old file has that fault. `Overlap` comes only
 //!   if the tables that are copied have more bytes together than the file. `TooLarge` comes only if the tables of the new
 //!   file are 4,096 or more, or if the file of them would have 2^32 bytes or more. Other errors except `Memory` never come.
@@ -25,7 +25,6 @@
 //! # What is not proved
 //!
 //! - That there is enough memory.
-//! - That `TooLarge` of `subset_file` comes only if the tables are too large.
 //! - That text is shaped as before: `GSUB`, `GPOS` and `kern` are not written unless the choice has them, and a copied
 //!   `GSUB` or `GPOS` has the old glyph numbers. `postscript_subset` writes these tables under the new numbers.
 #![tactic(auto)]

@@ -1,9 +1,10 @@
 //! The new numbers of glyphs.
 ghost use Rattle.std.specs.Prelude.{◌≡◌, ℕ, ◌<◌, ◌≤◌, ◌^◌, length, slice_index_or, IfOk, IfErr, OnOk};
-ghost use Rattle.postscript_files.specs.Renumbered.{AreNumbersOf, AreRenumbered, AreSmall, IsTooLarge};
+ghost use Rattle.postscript_files.specs.Origins.{AreFew};
+ghost use Rattle.postscript_files.specs.Renumbered.{AreNumbersOf, AreRenumbered};
 ghost use Rattle.postscript_files.specs.declared.error.Error.TheVariants as errors;
 
-use crate::error::{Error, Result};
+use crate::error::Result;
 use postscript_sfnt_write::Mapping;
 use std::alloc::Global;
 
@@ -12,18 +13,13 @@ const GLYPHS: usize = 0x10000;
 
 /// Returns the new number of each old glyph that is in the new font.
 pub(crate) fn numbers_of(alloc: Global, origins: &[usize]) -> Result<Vec<u16>>
+    requires few { AreFew origins.now }
     ensures numbers { IfOk result (λ numbers. AreNumbersOf origins.now numbers.items) }
-    ensures small { OnOk result (AreSmall origins.now) }
-    ensures few { OnOk result (length origins.now ≤ 65536) }
-    ensures refused { IfErr result (λ e. IsTooLarge origins.now e) }
+    ensures memory { IfErr result (λ e. e ≡ errors.Memory) }
 {
     let mut numbers = vec![in alloc; 0u16; GLYPHS]?;
     for i in 0..origins.len() {
-        let glyph = origins[i];
-        if glyph >= GLYPHS || i >= GLYPHS {
-            return Err(Error::TooLarge);
-        }
-        numbers[glyph] = i as u16;
+        numbers[origins[i]] = i as u16;
     }
     Ok(numbers)
 }

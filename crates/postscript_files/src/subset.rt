@@ -1,5 +1,5 @@
 //! Files with only some glyphs of a face.
-ghost use Rattle.std.specs.Prelude.{◌≡◌, ℕ, ◌<◌, ◌≤◌, List, [], true, false, length, IfOk, IfErr, OnOk, ◌∷◌, ◌⊎◌};
+ghost use Rattle.std.specs.Prelude.{◌≡◌, ℕ, ◌+◌, ◌*◌, ◌<◌, ◌≤◌, List, [], true, false, length, IfOk, IfErr, OnOk, ◌∷◌, ◌⊎◌};
 ghost use Rattle.std.specs.List.{range_with_len};
 ghost use Rattle.postscript_sfnt.specs.Lent.{HasNoTable, IsTableOf};
 ghost use Rattle.postscript_sfnt.specs.Metrics.{IsGlyphs, IsWord};
@@ -7,9 +7,10 @@ ghost use Rattle.postscript_sfnt_write.specs.Metrics.{KeepsBut};
 ghost use Rattle.postscript_write.specs.Refusals.{IsChoiceRefusedBy, IsSubsetRefusedBy};
 ghost use Rattle.postscript_write.specs.Sources.{choice_by};
 ghost use Rattle.postscript_write.specs.declared.error.Error.{Error as Refusal};
-ghost use Rattle.postscript_files.specs.Listed.{Adds, AreCopiedTo, AreGivenTo, AreMade, CountsCopied, CountsGiven, IsFileOfParts, IsListed, IsUnmade, NoFileOfParts, Puts};
+ghost use Rattle.postscript_files.specs.Copies.{IsListed};
+ghost use Rattle.postscript_files.specs.Listed.{Adds, AreCopiedTo, AreGivenTo, AreMade, CountsCopied, CountsGiven, IsFileOfParts, IsUnmade, NoFileOfParts, Puts};
 ghost use Rattle.postscript_files.specs.Made.{AreBytes, HasNoOrigins, IsCutFile, IsHmtxOf, IsMade, IsMapOf, IsPostOf};
-ghost use Rattle.postscript_files.specs.Origins.{AreOrigins, IsUnopened};
+ghost use Rattle.postscript_files.specs.Origins.{AreFew, AreOrigins, IsUnopened};
 ghost use Rattle.postscript_files.specs.Renumbered.{AreSmall};
 ghost use Rattle.postscript_files.specs.Subsets.{IsCopied, IsGivenTag, IsSubsetFile, IsSubsetFont, IsSubsetOf, NoSubsetBy, NoSubsetFrom, NoSubsetOf};
 ghost use Rattle.postscript_files.specs.declared.error.Error.TheVariants as errors;
@@ -96,8 +97,10 @@ pub(crate) fn origins_of(
     retain_gids: bool,
 ) -> Result<Vec<usize>>
     ensures are { IfOk result (λ origins. AreOrigins retain_gids named.now cff.now origins.items) }
+    ensures few { IfOk result (λ origins. AreFew origins.items) }
     ensures refused { IfErr result (λ e. HasNoOrigins retain_gids named.now cff.now e) }
 {
+    are_bytes(cff);
     if retain_gids {
         every(alloc, cff)
     } else {
@@ -133,10 +136,11 @@ fn are_bytes(_bytes: &[u8])
 
 /// Writes the `cmap` table of characters, with the new numbers of their glyphs.
 fn map_of(alloc: Global, pairs: &[Mapping], origins: &[usize]) -> Result<Vec<u8>>
+    requires few { AreFew origins.now }
     ensures map { IfOk result (λ cmap. IsMapOf pairs.now origins.now cmap.items) }
     ensures bytes { IfOk result (λ cmap. AreBytes cmap.items) }
-    ensures small { OnOk result (AreSmall origins.now) }
-    ensures refused { IfErr result (λ e. (e ≡ errors.Memory) ⊎ (e ≡ errors.TooLarge)) }
+    ensures size { IfOk result (λ cmap. length cmap.items ≤ 64076 + length pairs.now * 12) }
+    ensures memory { IfErr result (λ e. e ≡ errors.Memory) }
 {
     let numbers = numbers_of(alloc, origins)?;
     let all = renumbered(alloc, pairs, &numbers)?;
@@ -145,8 +149,7 @@ fn map_of(alloc: Global, pairs: &[Mapping], origins: &[usize]) -> Result<Vec<u8>
             are_bytes(cmap.as_slice());
             Ok(cmap)
         }
-        Err(postscript_sfnt_write::Error::TooLarge) => Err(Error::TooLarge),
-        // The characters are in ascending order.
+        // The characters are in ascending order, and there are at most 1,114,112.
         Err(_) => Err(Error::Memory),
     }
 }
@@ -207,15 +210,14 @@ fn post_of(alloc: Global, file: &FontFile<'_>) -> Result<Vec<u8>>
 
 /// Makes the tables for characters and origins.
 fn made_of(alloc: Global, face: &Face<'_>, pairs: &[Mapping], origins: &[usize]) -> Result<Made>
-    requires { 36 ≤ length face.now.hhea.now }
+    requires room { 36 ≤ length face.now.hhea.now }
+    requires few { AreFew origins.now }
     ensures made { IfOk result (λ made. IsMade face.now pairs.now origins.now made) }
     ensures refused { IfErr result (λ e. IsUnmade face.now e) }
 {
     let cmap = map_of(alloc, pairs, origins)?;
     let hmtx = hmtx_of(alloc, face, origins)?;
-    let Ok(count) = u16::try_from(origins.len()) else {
-        return Err(Error::TooLarge);
-    };
+    let count = origins.len() as u16;
     Ok(Made {
         cmap,
         hhea: hhea_of(alloc, face.hhea, count)?,
@@ -297,7 +299,7 @@ fn written(
     made: &Made,
 ) -> Result<Vec<u8>>
     ensures file { IfOk result (λ file. IsFileOfParts choice.now face.now.file cff.now made.now file.items) }
-    ensures refused { IfErr result (λ e. NoFileOfParts choice.now face.now.file e) }
+    ensures refused { IfErr result (λ e. NoFileOfParts choice.now face.now.file cff.now made.now e) }
 {
     let mut tables = made_tables(alloc, cff, made)?;
     put_given(&mut tables, choice.given)?;
@@ -359,7 +361,7 @@ pub fn subset_file(
 ) -> Result<Vec<u8>>
     // The new file opens, and has exactly the kept characters, glyphs and tables.
     ensures subset { IfOk result (λ new. IsSubsetOf choice.now file.now number new.items) }
-    // An error is justified by the file, the face, a missing character, the font, or a repeated tag.
+    // An error is justified by the file, the face, a missing character, the font, a repeated tag, or the sizes of the tables.
     ensures refused { IfErr result (λ e. NoSubsetOf choice.now file.now number e) }
 {
     let face = Face::open(file, number)?;
@@ -375,7 +377,7 @@ impl Face<'_> {
     pub fn subset(&self, alloc: Global, choice: &Choice<'_>) -> Result<Vec<u8>>
         // The new file opens, and has exactly the kept characters, glyphs and tables.
         ensures subset { IfOk result (λ new. IsSubsetFile choice.now self.now new.items) }
-        // An error is justified by a missing character, the font, a truncated table or a repeated tag.
+        // An error is justified by a missing character, the font, a truncated table, a repeated tag, or the sizes of the tables.
         ensures refused { IfErr result (λ e. NoSubsetBy choice.now self.now e) }
     {
         if self.hhea.len() < 36 {

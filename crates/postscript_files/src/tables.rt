@@ -1,10 +1,11 @@
 //! Files of tables.
-ghost use Rattle.std.specs.Prelude.{◌≡◌, length, IfOk, IfErr, IfSome, IfNone, MatchOption};
+ghost use Rattle.std.specs.Prelude.{◌≡◌, ℕ, ◌≤◌, length, IfOk, IfErr, IfSome, IfNone, MatchOption};
 ghost use Rattle.postscript_sfnt.specs.Lent.{HasNoTable, IsTableOf};
-ghost use Rattle.postscript_files.specs.Copies.{HasNeighbours, IsFileOf, NoFileOf, NoNeighbours};
+ghost use Rattle.postscript_files.specs.Copies.{HasNeighbours, IsFileOf, NoFileOf, NoNeighbours, tagged};
 ghost use Rattle.postscript_files.specs.Refused.{IsTooMuch};
 ghost use Rattle.postscript_sfnt_write.specs.Files.{AreLent, Opens};
 ghost use Rattle.postscript_sfnt_write.specs.Tables.{TagsRise, size_of};
+ghost use Rattle.postscript_files.specs.declared.error.Error.TheVariants as errors;
 
 use crate::error::{Error, Result};
 use postscript_sfnt::FontFile;
@@ -51,6 +52,7 @@ fn written(alloc: Global, tables: &[Table<'_>]) -> Result<Vec<u8>>
 pub(crate) fn file_with(alloc: Global, tables: &[Table<'_>]) -> Result<Vec<u8>>
     ensures file { IfOk result (λ file. IsFileOf tables.now file.items) }
     ensures refused { IfErr result (λ e. NoFileOf e tables.now) }
+    ensures once { IfErr result (λ e. e ≡ errors.TooLarge → (tag : ℕ) → tagged tables.now tag ≤ 1) }
 {
     let mut sorted = Vec::from_slice(alloc, tables)?;
     sorted.sort_by_key(|table: &Table<'_>| table.tag)?;

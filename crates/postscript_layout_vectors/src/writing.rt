@@ -419,20 +419,39 @@ const POSITIONS: &[Row] = &[
         new: &[1, 4, 8, 0, 1, 8, 3, 0, 1, 16, 0, 1, 0, 1, 1, 1, 1],
     },
     Row {
-        what: "a context of a glyph that is not kept: never",
+        what: "a context of a glyph that is not kept: none",
         old: &[1, 4, 8, 0, 1, 8, 3, 0, 1, 12, 0, 0, 1, 1, 2],
-        new: &[1, 4, 8, 0, 1, 8, 3, 0, 1, 12, 0, 0, 1, 0],
+        new: &[1, 4, 8, 0, 0],
     },
     Row {
-        what: "a context by glyphs: nothing",
-        old: &[1, 4, 7, 0, 1, 8, 1, 6, 0, 1, 1, 1],
-        new: &[1, 4, 2, 0, 0],
+        what: "a context by glyphs: 1 before 5",
+        old: &[
+            1, 4, 7, 0, 1, 8, 1, 8, 1, 14, 1, 1, 1, 1, 4, 2, 1, 5, 0, 3,
+        ],
+        new: &[
+            1, 4, 8, 0, 1, 8, 3, 0, 2, 18, 24, 0, 1, 0, 3, 1, 1, 0, 1, 1, 1,
+        ],
     },
     Row {
-        what: "contexts by sets and by glyphs: nothing",
+        what: "a chained context by classes: 5 after 1",
+        old: &[
+            1, 4, 8, 0, 1, 8, 2, 16, 22, 30, 0, 2, 0, 38, 1, 1, 5, 1, 1, 1, 2, 1, 5, 1, 1, 1, 4, 1,
+            2, 1, 0, 1, 0, 9,
+        ],
+        new: &[
+            1, 4, 8, 0, 1, 8, 3, 1, 18, 1, 24, 0, 1, 0, 9, 1, 1, 0, 1, 1, 1,
+        ],
+    },
+    Row {
+        what: "contexts by sets and by glyphs without rules: the first",
         old: &[
             1, 4, 8, 0, 2, 10, 28, 3, 0, 1, 12, 0, 0, 1, 1, 5, 1, 6, 0, 1, 1, 5,
         ],
+        new: &[1, 4, 8, 0, 1, 8, 3, 0, 1, 12, 0, 0, 1, 1, 1],
+    },
+    Row {
+        what: "a context of an unknown format: nothing",
+        old: &[1, 4, 8, 0, 1, 8, 4],
         new: &[1, 4, 2, 0, 0],
     },
 ];
@@ -658,12 +677,12 @@ fn stacked(rt: HostRuntime) {
     assert!(rt; long == Err(Error::TooLong) && limit == 0);
 }
 
-/// A lookup of marks with a set, a context by glyphs, and pairs with a set are left out. A single adjustment and pairs
+/// A lookup of marks with a set, a context of an unknown format, and pairs with a set are left out. A single adjustment and pairs
 /// without subtables are not.
 #[test]
 fn left_positions(rt: HostRuntime) {
     let lookups = [
-        5, 12, 20, 28, 36, 44, 1, 0, 1, 8, 4, 16, 1, 8, 7, 0, 1, 8, 2, 17, 1, 8, 2, 0, 0,
+        5, 12, 20, 28, 36, 44, 1, 0, 1, 8, 4, 16, 1, 8, 7, 0, 1, 2, 2, 17, 1, 8, 2, 0, 0,
     ];
     let gpos = table(rt.alloc(), HEAD, &lookups).expect(&rt, "memory");
     let mut limit = 100;
@@ -723,5 +742,123 @@ fn definitions(rt: HostRuntime) {
     let new = table(rt.alloc(), &new, &[]).expect(&rt, "memory");
     let mut limit = 1000;
     let written = glyph_definitions(rt.alloc(), &old, &[5, 6], &mut limit).expect(&rt, "a table");
+    assert_eq!(rt; written.as_slice(), new.as_slice());
+}
+
+/// The number of glyphs of the large lookup.
+const MANY: usize = 130;
+
+/// Appends pairs of all glyphs by classes (format 2). Each glyph has a class of its own, and each pair has another advance.
+fn put_classes(bytes: &mut Vec<u8>) -> Result<(), AllocError> {
+    put(bytes, &[2, 33_816, 4, 0, 33_826, 33_826, 130, 130])?;
+    for first in 0..MANY {
+        for second in 0..MANY {
+            put(bytes, &[(first * MANY + second + 1) as u16])?;
+        }
+    }
+    put(bytes, &[2, 1, 0, 129, 0, 1, 0, 130])?;
+    for class in 0..MANY {
+        put(bytes, &[class as u16])?;
+    }
+    Ok(())
+}
+
+/// Returns a table with two lookups: pairs of all glyphs, and the pair of 5 and 7 by 33.
+fn large_table(alloc: Global) -> Result<Vec<u8>, AllocError> {
+    let mut bytes = table(alloc, HEAD, &[2, 6, 34_106, 2, 0, 1, 8])?;
+    put_classes(&mut bytes)?;
+    put(&mut bytes, &[2, 0, 1, 8, 1, 12, 4, 0, 1, 18, 1, 1, 5, 1, 7, 33])?;
+    Ok(bytes)
+}
+
+/// Returns the number of two bytes at an offset, or 0 past the end.
+fn word(table: &[u8], offset: usize) -> usize
+    requires { offset < 2 ^ 40 }
+    ensures { result < 65536 }
+{
+    if offset + 1 < table.len() {
+        table[offset] as usize * 256 + table[offset + 1] as usize
+    } else {
+        0
+    }
+}
+
+/// Returns the advance of a pair with a second glyph in a set of pairs.
+fn advance_of(table: &[u8], set: usize, second: usize) -> Option<usize>
+    requires { set < 2 ^ 36 }
+{
+    for k in 0..word(table, set) {
+        if word(table, set + 2 + k * 4) == second {
+            return Some(word(table, set + 4 + k * 4));
+        }
+    }
+    None
+}
+
+/// Returns the advance of a pair in a subtable of format 1 with a list of first glyphs.
+fn advance_in(table: &[u8], subtable: usize, first: usize, second: usize) -> Option<usize>
+    requires { subtable < 2 ^ 35 }
+{
+    let coverage = subtable + word(table, subtable + 2);
+    for i in 0..word(table, coverage + 2) {
+        if word(table, coverage + 4 + i * 2) == first {
+            let set = subtable + word(table, subtable + 10 + i * 2);
+            return advance_of(table, set, second);
+        }
+    }
+    None
+}
+
+/// Returns the advance of a pair by the first subtable of a lookup that applies. Extensions are followed.
+fn advance(table: &[u8], lookup: usize, first: usize, second: usize) -> usize
+    requires { lookup < 65536 }
+{
+    let list = word(table, 8);
+    let at = list + word(table, list + 2 + lookup * 2);
+    for j in 0..word(table, at + 4) {
+        let part = at + word(table, at + 6 + j * 2);
+        let far = word(table, part + 4) * 65536 + word(table, part + 6);
+        let subtable = if word(table, at) == 9 { part + far } else { part };
+        if let Some(found) = advance_in(table, subtable, first, second) {
+            return found;
+        }
+    }
+    0
+}
+
+/// Pairs that take more than 64 kB are in extensions, and the lookup after them is as small as before.
+#[test]
+fn large(rt: HostRuntime) {
+    let old = large_table(rt.alloc()).expect(&rt, "memory");
+    let mut kept = Vec::new(rt.alloc());
+    for glyph in 0..MANY {
+        kept.push(glyph as u16).expect(&rt, "memory");
+    }
+    let mut limit = 100_000_000;
+    let new = kerning(rt.alloc(), &old, &kept, &mut limit).expect(&rt, "a table");
+    assert!(rt; new.len() > 67_600);
+    for first in 0..MANY {
+        for second in 0..MANY {
+            assert_eq!(rt; advance(&new, 0, first, second), first * MANY + second + 1);
+            let other = if first == 5 && second == 7 { 33 } else { 0 };
+            assert_eq!(rt; advance(&new, 1, first, second), other);
+        }
+    }
+    let mut limit = 100_000_000;
+    let same = positions(rt.alloc(), &old, &kept, &mut limit).expect(&rt, "a table");
+    assert!(rt; same == new);
+}
+
+/// A large lookup and a small one for few glyphs are as small as others.
+#[test]
+fn large_for_few(rt: HostRuntime) {
+    let old = large_table(rt.alloc()).expect(&rt, "memory");
+    let lookups = [
+        2, 6, 56, 2, 0, 1, 8, 1, 14, 4, 0, 2, 22, 32, 1, 2, 0, 1, 2, 0, 656, 1, 658, 2, 0, 916, 1,
+        918, 2, 0, 1, 8, 1, 12, 4, 0, 1, 18, 1, 1, 0, 1, 1, 33,
+    ];
+    let new = table(rt.alloc(), HEAD, &lookups).expect(&rt, "memory");
+    let mut limit = 100_000;
+    let written = kerning(rt.alloc(), &old, &[5, 7], &mut limit).expect(&rt, "a table");
     assert_eq!(rt; written.as_slice(), new.as_slice());
 }

@@ -7,16 +7,17 @@ use Rattle.std.proofs.lemmas.List.FromFn.{map-range_with_len_more}
 use Rattle.postscript_layout.specs.Numbers.{word}
 use Rattle.postscript_layout_write.specs.Contexts.{sets_at}
 use Rattle.postscript_layout_write.specs.Sequences.{Context, all_some, can_apply, covered_of, if_applies, is_some_glyph}
-use Rattle.postscript_layout_write.specs.Coverages.{AddsContexts, AddsSets, Fits, HasContext, HasCoverage, HaveContexts, HaveCoverages, IsMade, IsPart, PutsContext, base_of, context_text, no_context}
+use Rattle.postscript_layout_write.specs.Coverages.{AddsChained, AddsContexts, AddsSets, Fits, HasChained, HasContext, HasCoverage, HaveContexts, HaveCoverages, IsMade, IsPart, PutsChained, PutsContext, base_of, chained_text, context_text, no_context}
 use Rattle.postscript_layout_write.specs.Holds.{Holds}
 use Rattle.postscript_layout_write.specs.Labels.{having_at}
 use Rattle.postscript_layout_write.specs.RuleSets.{Begins}
 use Rattle.postscript_layout_write.specs.First.{all_below}
+use Rattle.postscript_layout_write.specs.Scopes.{mark_set_text}
 use Rattle.postscript_layout_write.specs.declared.contexts.Contexts.{Contexts}
 use Rattle.postscript_layout_write.specs.declared.contexts.Made.{Made}
 use Rattle.postscript_layout_write.specs.declared.contexts.Part.{Part}
 use Rattle.postscript_layout_write.proofs.Firsts.{nat_cases}
-use Rattle.postscript_layout_write.proofs.Holding.{holds-last, holds-on}
+use Rattle.postscript_layout_write.proofs.Holding.{holds-in, holds-last, holds-on}
 use Rattle.postscript_layout_write.proofs.Reading.{any-default}
 use Rattle.postscript_layout_write.proofs.RuleRows.{below-more}
 
@@ -223,3 +224,55 @@ puts-begins made count old new puts = record { more = _; is = puts.text }
 -- numbers of two bytes
 pub all-fit : (xs : List ℕ) → ((k : ℕ) → get_or xs k 0 < 65536) → All (λ n. n < 65536) xs
 all-fit xs fits k d less = subst (λ n. n < 65536) (any-default xs k 0 d less) (fits k)
+
+-- a lookup of contexts with more bytes after it, in other bytes, and as it is appended
+pub chained-on : (type flag set : ℕ) (contexts : List Context) (bytes more : List ℕ) (at : ℕ) → HasChained type flag set contexts bytes at →
+    HasChained type flag set contexts (bytes ++ more) at
+chained-on type flag set contexts bytes more at h = record {
+  offsets = h.offsets;
+  subtables = h.subtables;
+  have = h.have;
+  few = h.few;
+  fit = h.fit;
+  small = h.small;
+  set_small = h.set_small;
+  begins = h.begins;
+  type_small = h.type_small;
+  there = holds-on more h.there;
+}
+
+pub chained-in : (type flag set : ℕ) (contexts : List Context) (t bytes : List ℕ) (at offset : ℕ) → Holds bytes t at →
+    HasChained type flag set contexts bytes offset → HasChained type flag set contexts t (at + offset)
+chained-in type flag set contexts t bytes at offset held h = record {
+  offsets = h.offsets;
+  subtables = h.subtables;
+  have = h.have;
+  few = h.few;
+  fit = h.fit;
+  small = h.small;
+  set_small = h.set_small;
+  begins = h.begins;
+  type_small = h.type_small;
+  there = holds-in held h.there;
+}
+
+pub chained-added : (type flag set : ℕ) (contexts : List Context) (offsets subtables old new : List ℕ) → type < 65536 → set < 65536 →
+    HaveContexts contexts offsets subtables → Holds (mark_set_text flag set) subtables 0 → PutsChained type flag offsets subtables old new →
+    AddsChained type flag set contexts old new
+chained-added type flag set contexts offsets subtables old new type-small set-small have begins puts = record {
+  more = chained_text type flag offsets subtables;
+  bytes = puts.text;
+  has = record {
+    offsets = offsets;
+    subtables = subtables;
+    have = have;
+    few = puts.few;
+    fit = puts.fit;
+    small = puts.small;
+    set_small = set-small;
+    begins = begins;
+    type_small = type-small;
+    there = subst (λ (xs : List ℕ). Holds (chained_text type flag offsets subtables) xs (length old)) (sym puts.text)
+        (holds-last old (chained_text type flag offsets subtables));
+  };
+}

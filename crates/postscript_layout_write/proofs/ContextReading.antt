@@ -1,6 +1,6 @@
 -- Contexts that were written are read as they were.
 use Rattle.std.proofs.Common.{◌≡◌, refl, sym, ap, subst, ◌∙◌, inl, inr, ℕ, zero, suc, ◌+◌, ◌*◌, ◌≤◌, ◌<◌, ◌==◌, ◌&&◌, List, [], ◌∷◌, ◌++◌, length, length-append, get_or, take, arith, add-one, Bool, true, false}
-use Rattle.std.specs.Prelude.{Option, None, Some, filter, is_some, map, nat_lt, slice_index, slice_index_or, if◌then◌else◌}
+use Rattle.std.specs.Prelude.{Option, None, Some, filter, is_none, is_some, map, nat_lt, slice_index, slice_index_or, if◌then◌else◌}
 use Rattle.std.specs.List.{All, Contains, range_with_len}
 use Rattle.std.proofs.lemmas.Bool.{eq-eqb}
 use Rattle.std.proofs.lemmas.List.{ext_get_or, take_all, take_more}
@@ -20,6 +20,9 @@ use Rattle.postscript_layout_write.specs.Coverages.{HasChained, HasContext, HasC
 use Rattle.postscript_layout_write.specs.First.{all_below, first_some}
 use Rattle.postscript_layout_write.specs.Flags.{set_of, uses_set}
 use Rattle.postscript_layout_write.specs.Holds.{Holds}
+use Rattle.postscript_layout_write.specs.Marks.{type_at, typed_at}
+use Rattle.postscript_layout_write.specs.PositionContexts.{contexts_by, is_context}
+use Rattle.postscript_layout_write.specs.PositionContexts.{all_have_formats as position_formats, contexts_at as positions_at}
 use Rattle.postscript_layout_write.specs.Ranges.{coverage_index, index_in, range_of}
 use Rattle.postscript_layout_write.specs.Rules.{or_none, part_at, rules_covered, rules_in, rules_of_several, rules_of_type}
 use Rattle.postscript_layout_write.specs.Sets.{AreOffsets}
@@ -229,27 +232,27 @@ no-rules-in t s x three = by (coverage_index t (coverage_of t s) x)
     by None = refl
     by (Some i) = ap (λ m. rules_of_several t (if (m == 1) && nat_lt i (word t (s + 4)) then Some (rule_set t s i) else None)) three
 
--- lookups
-record IsHead (t : List ℕ) (l flag : ℕ) (offsets : List ℕ) : Type 0 where
-  type-is : word t l ≡ 6
+-- a lookup of chained contexts
+record IsHead (t : List ℕ) (l type flag : ℕ) (offsets : List ℕ) : Type 0 where
+  type-is : word t l ≡ type
   flag-is : word t (l + 2) ≡ flag
   count-is : word t (l + 4) ≡ length offsets
   offset-is : (k : ℕ) → k < length offsets → word t (l + 6 + k * 2) ≡ 6 + length offsets * 2 + get_or offsets k 0
 
-module _ (t : List ℕ) (l flag set : ℕ) (contexts : List Context) (has : HasChained flag set contexts t l) where
-  head : IsHead t l flag has.offsets
+module _ (t : List ℕ) (l type flag set : ℕ) (contexts : List Context) (has : HasChained type flag set contexts t l) where
+  head : IsHead t l type flag has.offsets
   unfolding chained_text
   head =
       let m = length has.offsets in
       let few = has.few in
-      let front = uint16 6 ++ (uint16 flag ++ uint16 m) in
+      let front = uint16 type ++ (uint16 flag ++ uint16 m) in
       let h = holds-first front _ has.there in
-      let h2 = holds-second (uint16 6) _ 2 (length-uint16 6) h in
+      let h2 = holds-second (uint16 type) _ 2 (length-uint16 type) h in
       let h4 = holds-second (uint16 flag) (uint16 m) 2 (length-uint16 flag) h2 in
-      let long : length front ≡ 6 = omega (arith, length-append (uint16 6) (uint16 flag ++ uint16 m), length-append (uint16 flag) (uint16 m), length-uint16 6, length-uint16 flag, length-uint16 m) in
+      let long : length front ≡ 6 = omega (arith, length-append (uint16 type) (uint16 flag ++ uint16 m), length-append (uint16 flag) (uint16 m), length-uint16 type, length-uint16 flag, length-uint16 m) in
       let h6 = holds-second front _ 6 long has.there in
       record {
-        type-is = holds-word 6 (omega arith) (holds-first (uint16 6) _ h);
+        type-is = holds-word type has.type_small (holds-first (uint16 type) _ h);
         flag-is = holds-word flag has.small (holds-first (uint16 flag) (uint16 m) h2);
         count-is = ap (word t) (omega arith) ∙ holds-word m (omega (arith, few)) h4;
         offset-is = λ k less. offsets-read t (l + 6) (6 + m * 2) has.offsets k less has.fit (holds-first (offsets_text (6 + m * 2) has.offsets) has.subtables h6);
@@ -259,23 +262,19 @@ module _ (t : List ℕ) (l flag set : ℕ) (contexts : List Context) (has : HasC
   unfolding chained_text
   subtables-held =
       let m = length has.offsets in
-      let front = uint16 6 ++ (uint16 flag ++ uint16 m) in
-      let long : length front ≡ 6 = omega (arith, length-append (uint16 6) (uint16 flag ++ uint16 m), length-append (uint16 flag) (uint16 m), length-uint16 6, length-uint16 flag, length-uint16 m) in
+      let front = uint16 type ++ (uint16 flag ++ uint16 m) in
+      let long : length front ≡ 6 = omega (arith, length-append (uint16 type) (uint16 flag ++ uint16 m), length-append (uint16 flag) (uint16 m), length-uint16 type, length-uint16 flag, length-uint16 m) in
       subst (Holds has.subtables t) (omega arith)
       (holds-second (offsets_text (6 + m * 2) has.offsets) has.subtables (m * 2) (length-offsets (6 + m * 2) has.offsets)
       (holds-second front _ 6 long has.there))
 
-  place : ℕ → ℕ
+  pub place : ℕ → ℕ
   place k = l + (6 + length has.offsets * 2) + get_or has.offsets k 0
 
-  part-read : (k : ℕ) → k < length has.offsets → part_at t l 6 k ≡ Some (place k)
+  -- the subtables are in the lookup itself
+  pub part-word : (k : ℕ) → k < length has.offsets → l + word t (l + 6 + k * 2) ≡ place k
   unfolding place
-  part-read k less =
-      let part = l + word t (l + 6 + k * 2) in
-      let at = head.offset-is k less in
-      ap (λ (b : Bool). if b then Some part else (if (word t l == 7) && (word t (part + 2) == 6) then Some (part + long t (part + 4)) else None))
-      (eq-eqb (word t l) 6 head.type-is)
-      ∙ ap (λ m. Some m) (omega (arith, at))
+  part-word k less = let at = head.offset-is k less in omega (arith, at)
 
   context-there : (k : ℕ) → k < length has.offsets → HasContext (get_or contexts k no_context) t (place k)
   unfolding place
@@ -298,11 +297,14 @@ module _ (t : List ℕ) (l flag set : ℕ) (contexts : List Context) (has : HasC
         there = holds-in h c.there;
       }
 
-  pub type-read : word t l ≡ 6
+  pub type-read : word t l ≡ type
   type-read = head.type-is
 
   pub flag-read : word t (l + 2) ≡ flag
   flag-read = head.flag-is
+
+  pub many-read : word t (l + 4) ≡ length has.offsets
+  many-read = head.count-is
 
   pub set-read : uses_set flag ≡ true → set_of t l ≡ set
   set-read uses =
@@ -310,50 +312,95 @@ module _ (t : List ℕ) (l flag set : ℕ) (contexts : List Context) (has : HasC
       let text : Holds (uint16 set) t (at + 0) = subst (λ (b : Bool). Holds (if b then uint16 set else []) t (at + 0)) uses (holds-in subtables-held has.begins) in
       ap (λ n. word t (l + 6 + n * 2)) head.count-is ∙ ap (word t) (omega arith) ∙ holds-word set has.set_small text
 
-  pub sets-all : (m : ℕ) → m ≤ length has.offsets → all_have_formats t l 6 m ≡ true
+  format-three : (k : ℕ) → k < length has.offsets → word t (place k) ≡ 3
+  format-three k less = format-read t (place k) 0 (get_or contexts k no_context) (context-there k less)
+
+  -- the subtables, as a reader of the type finds them
+  module _ (part : ℕ → Option ℕ) (found : (k : ℕ) → k < length has.offsets → part k ≡ Some (place k)) where
+    pub format-there : (k : ℕ) → k < length has.offsets → has_format t (part k) ≡ true
+    format-there k less = ap (has_format t) (found k less) ∙ ap (λ w. nat_lt 0 w && nat_lt w 4) (format-three k less)
+
+    module _ (n : ℕ) (kept : (k : ℕ) → k < length contexts → IsKeptContext n (get_or contexts k no_context))
+        (apply : (k : ℕ) → k < length contexts → can_apply (get_or contexts k no_context) ≡ true) where
+      one-read : (k : ℕ) → k < length contexts → contexts_in t (range_with_len 0 n) 6 (part k) ≡ get_or contexts k no_context ∷ []
+      one-read k less =
+          let same = has.have.same in
+          let within : k < length has.offsets = omega (arith, less, same) in
+          let context = get_or contexts k no_context in
+          ap (contexts_in t (range_with_len 0 n) 6) (found k within)
+          ∙ ap (λ (b : Bool). if b then if_applies (context_of t (range_with_len 0 n) 6 (place k)) else by_rules t (range_with_len 0 n) 6 (place k))
+          (eq-eqb (word t (place k)) 3 (format-three k within))
+          ∙ ap if_applies (context-read t (place k) n context (context-there k within) (kept k less))
+          ∙ ap (λ (b : Bool). if b then context ∷ [] else []) (apply k less)
+
+      take-read : (k : ℕ) → k ≤ length contexts → all_below (λ j. contexts_in t (range_with_len 0 n) 6 (part j)) k ≡ take k contexts
+      take-read zero less = refl
+      take-read (suc m) less =
+          let within : m < length contexts = omega (arith, less) in
+          ap (all_below (λ j. contexts_in t (range_with_len 0 n) 6 (part j))) (sym (add-one m)) ∙ below-more (λ j. contexts_in t (range_with_len 0 n) 6 (part j)) m
+          ∙ ap (λ xs. xs ++ contexts_in t (range_with_len 0 n) 6 (part m)) (take-read m (omega (arith, less)))
+          ∙ ap (λ xs. take m contexts ++ xs) (one-read m within)
+          ∙ sym (take_more contexts m no_context within) ∙ ap (λ k. take k contexts) (add-one m)
+
+      pub all-read : all_below (λ j. contexts_in t (range_with_len 0 n) 6 (part j)) (word t (l + 4)) ≡ contexts
+      all-read =
+          let same = has.have.same in
+          ap (all_below (λ j. contexts_in t (range_with_len 0 n) 6 (part j))) (head.count-is ∙ same) ∙ take-read (length contexts) (omega arith)
+          ∙ take_all (length contexts) contexts (omega arith)
+
+-- contexts of substitutions
+module _ (t : List ℕ) (l flag set : ℕ) (contexts : List Context) (has : HasChained 6 flag set contexts t l) where
+  part-read : (k : ℕ) → k < length has.offsets → part_at t l 6 k ≡ Some (place t l 6 flag set contexts has k)
+  part-read k less =
+      let part = l + word t (l + 6 + k * 2) in
+      ap (λ (b : Bool). if b then Some part else (if (word t l == 7) && (word t (part + 2) == 6) then Some (part + long t (part + 4)) else None))
+      (eq-eqb (word t l) 6 (type-read t l 6 flag set contexts has))
+      ∙ ap (λ m. Some m) (part-word t l 6 flag set contexts has k less)
+
+  sets-all : (m : ℕ) → m ≤ length has.offsets → all_have_formats t l 6 m ≡ true
   sets-all zero less = refl
   sets-all (suc m) less =
       ap (λ b. b && has_format t (part_at t l 6 m)) (sets-all m (omega (arith, less)))
-      ∙ ap (has_format t) (part-read m (omega (arith, less)))
-      ∙ ap (λ w. nat_lt 0 w && nat_lt w 4) (format-read t (place m) 0 (get_or contexts m no_context) (context-there m (omega (arith, less))))
+      ∙ format-there t l 6 flag set contexts has (part_at t l 6) part-read m (omega (arith, less))
 
   pub have-sets : all_have_formats t l 6 (word t (l + 4)) ≡ true
-  have-sets = ap (all_have_formats t l 6) head.count-is ∙ sets-all (length has.offsets) (omega arith)
+  have-sets = ap (all_have_formats t l 6) (many-read t l 6 flag set contexts has) ∙ sets-all (length has.offsets) (omega arith)
 
   pub no-rules : (x : ℕ) → rules_of_type t l 6 x ≡ []
   no-rules x = ap or_none (first-none (λ j. rules_in t 6 (part_at t l 6 j) x) (word t (l + 4))
-      (λ j less. (let count = head.count-is in
+      (λ j less. (let count = many-read t l 6 flag set contexts has in
       let within : j < length has.offsets = omega (arith, less, count) in
       ap (λ p. rules_in t 6 p x) (part-read j within)
-      ∙ no-rules-in t (place j) x (format-read t (place j) 0 (get_or contexts j no_context) (context-there j within)))))
+      ∙ no-rules-in t (place t l 6 flag set contexts has j) x (format-three t l 6 flag set contexts has j within))))
 
-  module _ (n : ℕ) (kept : (k : ℕ) → k < length contexts → IsKeptContext n (get_or contexts k no_context))
-      (apply : (k : ℕ) → k < length contexts → can_apply (get_or contexts k no_context) ≡ true) where
-    one-read : (k : ℕ) → k < length contexts → contexts_in t (range_with_len 0 n) 6 (part_at t l 6 k) ≡ get_or contexts k no_context ∷ []
-    one-read k less =
-        let same = has.have.same in
-        let within : k < length has.offsets = omega (arith, less, same) in
-        let context = get_or contexts k no_context in
-        ap (contexts_in t (range_with_len 0 n) 6) (part-read k within)
-        ∙ ap (λ (b : Bool). if b then if_applies (context_of t (range_with_len 0 n) 6 (place k)) else by_rules t (range_with_len 0 n) 6 (place k))
-        (eq-eqb (word t (place k)) 3 (format-read t (place k) n context (context-there k within)))
-        ∙ ap if_applies (context-read t (place k) n context (context-there k within) (kept k less))
-        ∙ ap (λ (b : Bool). if b then context ∷ [] else []) (apply k less)
+  pub contexts-read : (n : ℕ) → ((k : ℕ) → k < length contexts → IsKeptContext n (get_or contexts k no_context)) →
+      ((k : ℕ) → k < length contexts → can_apply (get_or contexts k no_context) ≡ true) → contexts_at t (range_with_len 0 n) l 6 ≡ contexts
+  contexts-read n kept apply = all-read t l 6 flag set contexts has (part_at t l 6) part-read n kept apply
 
-    take-read : (k : ℕ) → k ≤ length contexts → contexts_below t (range_with_len 0 n) l 6 k ≡ take k contexts
-    take-read zero less = refl
-    take-read (suc m) less =
-        let within : m < length contexts = omega (arith, less) in
-        ap (contexts_below t (range_with_len 0 n) l 6) (sym (add-one m)) ∙ below-more (λ j. contexts_in t (range_with_len 0 n) 6 (part_at t l 6 j)) m
-        ∙ ap (λ xs. xs ++ contexts_in t (range_with_len 0 n) 6 (part_at t l 6 m)) (take-read m (omega (arith, less)))
-        ∙ ap (λ xs. take m contexts ++ xs) (one-read m within)
-        ∙ sym (take_more contexts m no_context within) ∙ ap (λ k. take k contexts) (add-one m)
+-- contexts of positions
+module _ (t : List ℕ) (l flag set : ℕ) (contexts : List Context) (has : HasChained 8 flag set contexts t l) where
+  typed-read : (k : ℕ) → k < length has.offsets → typed_at t l 8 k ≡ Some (place t l 8 flag set contexts has k)
+  typed-read k less =
+      let part = l + word t (l + 6 + k * 2) in
+      ap (λ (b : Bool). if b then Some part else (if (word t l == 9) && (word t (part + 2) == 8) then Some (part + long t (part + 4)) else None))
+      (eq-eqb (word t l) 8 (type-read t l 8 flag set contexts has))
+      ∙ ap (λ m. Some m) (part-word t l 8 flag set contexts has k less)
 
-    pub contexts-read : contexts_at t (range_with_len 0 n) l 6 ≡ contexts
-    contexts-read =
-        let same = has.have.same in
-        ap (contexts_below t (range_with_len 0 n) l 6) (head.count-is ∙ same) ∙ take-read (length contexts) (omega arith)
-        ∙ take_all (length contexts) contexts (omega arith)
+  pub type-eight : type_at t l ≡ 8
+  type-eight = ap (λ k. if k == 9 then word t (l + word t (l + 6) + 2) else k) (type-read t l 8 flag set contexts has)
+
+  formats-read : position_formats t l 8 ≡ true
+  formats-read = ap is_none (first-none (λ j. if has_format t (typed_at t l 8 j) then None else Some j) (word t (l + 4))
+      (λ j less. (let many = many-read t l 8 flag set contexts has in
+      ap (λ (b : Bool). if b then None else Some j)
+      (format-there t l 8 flag set contexts has (typed_at t l 8) typed-read j (omega (arith, less, many))))))
+
+  pub positions-read : (n : ℕ) → ((k : ℕ) → k < length contexts → IsKeptContext n (get_or contexts k no_context)) →
+      ((k : ℕ) → k < length contexts → can_apply (get_or contexts k no_context) ≡ true) → positions_at t (range_with_len 0 n) l ≡ contexts
+  positions-read n kept apply =
+      ap (λ k. if is_context k && position_formats t l k then contexts_by t (range_with_len 0 n) l k else []) type-eight
+      ∙ ap (λ (b : Bool). if b then contexts_by t (range_with_len 0 n) l 8 else []) formats-read
+      ∙ all-read t l 8 flag set contexts has (typed_at t l 8) typed-read n kept apply
 
 -- the contexts of an old lookup
 kept-sets : (kept : List ℕ) (f : ℕ → ℕ → Bool) (count : ℕ) → AreKeptSets (length kept) (map (λ p. kept_by kept (f p)) (range_with_len 0 count))
@@ -390,8 +437,8 @@ kept-rule gsub kept type s i parts =
       after = kept-sets kept (λ p. f After (word gsub (parts.after_at + p * 2))) parts.after;
     }
 
--- what holds of each context of a lookup
-module _ (gsub kept : List ℕ) (lookup type : ℕ) where
+-- what holds of each context of a lookup, whose subtables are these
+module _ (gsub kept : List ℕ) (type : ℕ) (part : ℕ → Option ℕ) where
   IsGood : Context → Type 0
   IsGood context = IsKeptContext (length kept) context × (can_apply context ≡ true)
 
@@ -421,13 +468,12 @@ module _ (gsub kept : List ℕ) (lookup type : ℕ) where
       by false = good-all (λ i. context_rules gsub kept type s i (context_set gsub type s i)) (word gsub (sets_of gsub type s))
           (λ i. good-set s i (context_set gsub type s i))
 
-  good-below : (count : ℕ) → All IsGood (contexts_below gsub kept lookup type count)
-  good-below count = good-all (λ j. contexts_in gsub kept type (part_at gsub lookup type j)) count (λ j. good-in (part_at gsub lookup type j))
-
-  pub kept-context : (k : ℕ) → k < length (contexts_at gsub kept lookup type) → IsKeptContext (length kept) (get_or (contexts_at gsub kept lookup type) k no_context)
+  pub kept-context : (count k : ℕ) → k < length (all_below (λ j. contexts_in gsub kept type (part j)) count) →
+      IsKeptContext (length kept) (get_or (all_below (λ j. contexts_in gsub kept type (part j)) count) k no_context)
   unfolding IsGood
-  kept-context k less = (good-below (word gsub (lookup + 4)) k no_context less).0
+  kept-context count k less = (good-all (λ j. contexts_in gsub kept type (part j)) count (λ j. good-in (part j)) k no_context less).0
 
-  pub applying-context : (k : ℕ) → k < length (contexts_at gsub kept lookup type) → can_apply (get_or (contexts_at gsub kept lookup type) k no_context) ≡ true
+  pub applying-context : (count k : ℕ) → k < length (all_below (λ j. contexts_in gsub kept type (part j)) count) →
+      can_apply (get_or (all_below (λ j. contexts_in gsub kept type (part j)) count) k no_context) ≡ true
   unfolding IsGood
-  applying-context k less = (good-below (word gsub (lookup + 4)) k no_context less).1
+  applying-context count k less = (good-all (λ j. contexts_in gsub kept type (part j)) count (λ j. good-in (part j)) k no_context less).1

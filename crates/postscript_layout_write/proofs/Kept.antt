@@ -1,129 +1,17 @@
--- Lookups that were written are read as their pairs, and the whole table.
-use Rattle.std.proofs.Common.{◌≡◌, refl, sym, ap, subst, ◌∙◌, inl, inr, ℕ, ◌+◌, ◌-◌, ◌*◌, ◌≤◌, ◌<◌, ◌==◌, List, [], ◌++◌, length, length-append, length-drop, get_or, take, drop, arith, Bool, true}
-use Rattle.std.specs.Prelude.{Option, None, Some, slice_range, if◌then◌else◌}
-use Rattle.std.proofs.lemmas.Bool.{eq-eqb}
+-- The lists of a table that was written are read as before.
+use Rattle.std.proofs.Common.{◌≡◌, refl, sym, ap, subst, ◌∙◌, ℕ, ◌+◌, ◌-◌, ◌*◌, ◌≤◌, ◌<◌, List, [], ◌++◌, length, length-append, length-drop, get_or, take, drop, arith}
+use Rattle.std.specs.Prelude.{slice_range}
 use Rattle.std.proofs.lemmas.List.{length-take-le}
 use Rattle.std.proofs.Math.Seq.{drop-append_seam, take-append_seam}
-use Rattle.postscript_layout.specs.Numbers.{word, long}
-use Rattle.postscript_layout_write.specs.Entries.{form_of}
-use Rattle.postscript_layout_write.specs.Flags.{set_of, uses_set}
+use Rattle.postscript_layout.specs.Numbers.{word}
 use Rattle.postscript_layout_write.specs.Holds.{Holds}
 use Rattle.postscript_layout_write.specs.Kerning.{KeepsLists}
-use Rattle.postscript_layout_write.specs.Lookups.{HasLookup}
-use Rattle.postscript_layout_write.specs.Pairs.{by_lookup, by_part, found_in, lookup_at, lookups_of, or_nothing, pairs_at}
+use Rattle.postscript_layout_write.specs.Pairs.{lookup_at, lookups_of}
 use Rattle.postscript_layout_write.specs.ScriptLists.{ListsEnd}
-use Rattle.postscript_layout_write.specs.Sets.{AreOffsets, HasSubtable}
-use Rattle.postscript_layout_write.specs.Text.{front_text, list_text, lookup_text, offsets_text, uint16}
-use Rattle.postscript_layout_write.specs.declared.entries.Form.{Form}
-use Rattle.postscript_layout_write.specs.declared.values.Adjustment.{Adjustment}
-use Rattle.postscript_layout_write.proofs.Firsts.{Found, first-cases, none_found, option_cases, some_found}
-use Rattle.postscript_layout_write.proofs.Holding.{holds-first, holds-in, holds-last, holds-second, holds-word, length-uint16}
-use Rattle.postscript_layout_write.proofs.Reading.{SubtableRead, is-nothing, length-offsets, not_there, offsets-read, subtable-read, there}
-
-subtable-in : (form : Form) (f : (x y : ℕ) → Adjustment) (t bytes : List ℕ) (at offset : ℕ) → Holds bytes t at → HasSubtable form f bytes offset →
-    HasSubtable form f t (at + offset)
-subtable-in form f t bytes at offset h s = record {
-  firsts = s.firsts;
-  offsets = s.offsets;
-  sets = s.sets;
-  count = s.count;
-  are = s.are;
-  bounded = s.bounded;
-  fit = s.fit;
-  few = s.few;
-  there = holds-in h s.there;
-}
-
-pub lookup-in : (flag set : ℕ) (f : (x y : ℕ) → Adjustment) (t bytes : List ℕ) (at offset : ℕ) → Holds bytes t at → HasLookup flag set f bytes offset →
-    HasLookup flag set f t (at + offset)
-lookup-in flag set f t bytes at offset h l = record {
-  offsets = l.offsets;
-  subtables = l.subtables;
-  each = l.each;
-  all = l.all;
-  few = l.few;
-  fit = l.fit;
-  small = l.small;
-  set_small = l.set_small;
-  begins = l.begins;
-  there = holds-in h l.there;
-}
-
-length-lookup-head : (flag count : ℕ) → length (uint16 2 ++ (uint16 flag ++ uint16 count)) ≡ 6
-unfolding uint16
-length-lookup-head flag count = refl
-
-module _ (flag set : ℕ) (f : (x y : ℕ) → Adjustment) (t : List ℕ) (l : ℕ) (has : HasLookup flag set f t l) where
-  head : Holds (uint16 2 ++ (uint16 flag ++ uint16 (length has.offsets))) t l
-  unfolding lookup_text
-  head = holds-first _ _ has.there
-
-  pub type-read : word t l ≡ 2
-  type-read = holds-word 2 (omega arith) (holds-first (uint16 2) _ head)
-
-  rest : Holds (uint16 flag ++ uint16 (length has.offsets)) t (l + 2)
-  rest = holds-second (uint16 2) _ 2 (length-uint16 2) head
-
-  pub flag-read : word t (l + 2) ≡ flag
-  flag-read = holds-word flag has.small (holds-first (uint16 flag) _ rest)
-
-  count-read : word t (l + 4) ≡ length has.offsets
-  count-read = (let few = has.few in
-      ap (word t) (omega arith) ∙ holds-word (length has.offsets) (omega (arith, few)) (holds-second (uint16 flag) _ 2 (length-uint16 flag) rest))
-
-  tail : Holds (offsets_text (6 + length has.offsets * 2) has.offsets ++ has.subtables) t (l + 6)
-  unfolding lookup_text
-  tail = holds-second (uint16 2 ++ (uint16 flag ++ uint16 (length has.offsets))) _ 6 (length-lookup-head flag (length has.offsets)) has.there
-
-  behind : Holds has.subtables t (l + 6 + length has.offsets * 2)
-  behind = holds-second (offsets_text (6 + length has.offsets * 2) has.offsets) has.subtables (length has.offsets * 2)
-      (length-offsets (6 + length has.offsets * 2) has.offsets) tail
-
-  pub set-read : uses_set flag ≡ true → set_of t l ≡ set
-  set-read uses =
-      let text : Holds (uint16 set) t (l + 6 + length has.offsets * 2 + 0) =
-      subst (λ (b : Bool). Holds (if b then uint16 set else []) t (l + 6 + length has.offsets * 2 + 0)) uses (holds-in behind has.begins) in
-      ap (λ n. word t (l + 6 + n * 2)) count-read ∙ ap (word t) (omega arith) ∙ holds-word set has.set_small text
-
-  part-read : (j : ℕ) → j < length has.offsets → pairs_at t l j ≡ Some (l + 6 + length has.offsets * 2 + get_or has.offsets j 0)
-  part-read j less =
-      let part = l + word t (l + 6 + j * 2) in
-      let at = offsets-read t (l + 6) (6 + length has.offsets * 2) has.offsets j less has.fit (holds-first (offsets_text (6 + length has.offsets * 2) has.offsets) has.subtables tail) in
-      ap (λ (b : Bool). if b then Some part
-      else (if word t l == 9 then (if word t (part + 2) == 2 then Some (part + long t (part + 4)) else None) else None)) (eq-eqb (word t l) 2 type-read)
-      ∙ ap (λ n. Some n) (omega (arith, at))
-
-  pair-of : (j x y : ℕ) (form : Form) → j < length has.offsets → HasSubtable form f has.subtables (get_or has.offsets j 0) →
-      SubtableRead form (f x y) (by_part t (pairs_at t l j) x y)
-  pair-of j x y form less s = subst (λ (p : Option ℕ). SubtableRead form (f x y) (by_part t p x y)) (sym (part-read j less))
-      (subtable-read t (l + 6 + length has.offsets * 2 + get_or has.offsets j 0) form f
-      (subtable-in form f t has.subtables (l + 6 + length has.offsets * 2) (get_or has.offsets j 0) behind s) x y)
-
-  -- a subtable that applies gives the adjustment
-  sound : (form : Form) (a b : Adjustment) (read : Option Adjustment) → SubtableRead form a read → read ≡ Some b → or_nothing (Some b) ≡ a
-  sound form a b _ (not_there never) is = absurd (cc)
-  sound form a b _ there is = cc
-
-  -- the subtable with the form of the pair applies
-  found : (form : Form) (a : Adjustment) (read : Option Adjustment) → SubtableRead form a read → form_of a ≡ Some form → read ≡ None → ⊥
-  found form a _ (not_there never) is none = never is
-  found form a _ there is none = absurd (cc)
-
-  pub lookup-read : (x y : ℕ) → by_lookup t l x y ≡ f x y
-  lookup-read x y = by (found_in t l x y) (first-cases (λ j. by_part t (pairs_at t l j) x y) (word t (l + 4)))
-    where
-      by : (a : Option Adjustment) → Found (λ j. by_part t (pairs_at t l j) x y) (word t (l + 4)) a → or_nothing a ≡ f x y
-      by _ (none_found none) = elim (option_cases (form_of (f x y))) [
-        | inl is ↦ sym (is-nothing (f x y) is)
-        | inr is ↦ (let s = has.all is.0 x y is.1 in
-            let count = count-read in
-            let within = s.1 in
-            absurd (found is.0 (f x y) _ (pair-of s.0 x y is.0 s.1 s.2) is.1 (none s.0 (omega (arith, within, count)))))
-      ]
-      by _ (some_found j a less is) = (let count = count-read in
-          let within : j < length has.offsets = omega (arith, less, count) in
-          let s = has.each j within in
-          sound s.0 (f x y) a _ (pair-of j x y s.0 within s.1) is)
+use Rattle.postscript_layout_write.specs.Sets.{AreOffsets}
+use Rattle.postscript_layout_write.specs.Text.{front_text, list_text, offsets_text, uint16}
+use Rattle.postscript_layout_write.proofs.Holding.{holds-first, holds-last, holds-second, holds-word, length-uint16}
+use Rattle.postscript_layout_write.proofs.Reading.{length-offsets, offsets-read}
 
 -- a text is the bytes from its offset on
 slice-held : (text bytes : List ℕ) (at : ℕ) → Holds text bytes at → take (length text) (drop at bytes) ≡ text

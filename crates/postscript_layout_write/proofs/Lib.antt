@@ -7,6 +7,8 @@ pub mod Holding
 pub mod Reading
 pub mod Collecting
 pub mod Kept
+pub mod PieceReading
+pub mod Placing
 pub mod Classed
 pub mod Ends
 pub mod Renumbered
@@ -26,7 +28,6 @@ pub mod MarkWriting
 pub mod MarkReading
 pub mod MarkKept
 pub mod RowKept
-pub mod PositionContexts
 pub mod TypedWriting
 pub mod TypedKept
 pub mod PositionKept

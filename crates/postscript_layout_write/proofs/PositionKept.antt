@@ -4,40 +4,33 @@ use Rattle.std.specs.Prelude.{Option, None, Some, is_none, nat_eq, nat_lt, if◌
 use Rattle.std.specs.List.{range_with_len}
 use Rattle.postscript_layout.specs.Numbers.{word, long}
 use Rattle.postscript_layout_write.specs.First.{first_some}
-use Rattle.postscript_layout_write.specs.Holds.{Holds}
 use Rattle.postscript_layout_write.specs.Flags.{set_of, uses_set}
-use Rattle.postscript_layout_write.specs.Lookups.{HasLookup, HasLookups, HasPosition, Keeps, has_contexts, has_pairs, has_typed}
+use Rattle.postscript_layout_write.specs.Lookups.{HasLookups, HasPosition, Keeps, has_contexts, has_pairs, has_typed}
+use Rattle.postscript_layout_write.specs.Pieces.{HasLookup}
 use Rattle.postscript_layout_write.specs.Sequences.{Context}
 use Rattle.postscript_layout_write.specs.Cursive.{by_lookup as connection_by_lookup, by_subtables as connections_by}
 use Rattle.postscript_layout_write.specs.Ligatures.{by_lookup as ligature_by_lookup, by_subtables as ligatures_by}
-use Rattle.postscript_layout_write.specs.Marks.{attaches, by_subtables, type_at}
+use Rattle.postscript_layout_write.specs.Coverages.{HasChained}
+use Rattle.postscript_layout_write.specs.Marks.{attaches, by_subtables, type_at, typed_at}
 use Rattle.postscript_layout_write.specs.Marks.{by_lookup as attached_by}
 use Rattle.postscript_layout_write.specs.Pairs.{by_lookup, by_part, lookup_at, lookups_of, or_nothing, pairs_at}
-use Rattle.postscript_layout_write.specs.PositionContexts.{all_have_sets, contexts_at, contexts_by, is_context, is_contextual}
+use Rattle.postscript_layout_write.specs.PositionContexts.{all_have_formats, contexts_at, contexts_by, is_context, is_contextual, same_type}
 use Rattle.postscript_layout_write.specs.Positions.{has_no_pairs, is_kept_type}
 use Rattle.postscript_layout_write.specs.Scopes.{leaves_out, new_flag, new_pair, takes_contexts, takes_type}
 use Rattle.postscript_layout_write.specs.ScriptLists.{ListsEnd}
 use Rattle.postscript_layout_write.specs.Singles.{by_lookup as single_by_lookup, by_subtables as singles_by}
 use Rattle.postscript_layout_write.specs.Sets.{AreOffsets}
 use Rattle.postscript_layout_write.specs.Text.{front_text, list_text}
-use Rattle.postscript_layout_write.specs.Typed.{HasTyped}
 use Rattle.postscript_layout_write.specs.Values.{nothing}
 use Rattle.postscript_layout_write.specs.declared.scope.Scope.{Scope}
 use Rattle.postscript_layout_write.specs.declared.scope.Scope.TheVariants.{Flags, Marks, Pairs}
 use Rattle.postscript_layout_write.specs.declared.values.Adjustment.{Adjustment}
+use Rattle.postscript_layout_write.proofs.ContextReading.{applying-context, flag-read as chained-flag, kept-context, positions-read, set-read as chained-set, type-eight, type-read as chained-type}
 use Rattle.postscript_layout_write.proofs.Firsts.{Found, first-cases, first-none, none_found, some_found}
-use Rattle.postscript_layout_write.proofs.Kept.{count-held, flag-read, keeps-lists, lookup-in, lookup-read, lookups-held, place-read, set-read, type-read}
-use Rattle.postscript_layout_write.proofs.TypedKept.{components-attached, connections-kept, contexts-kept, kept-alone, marks-attached, singles-kept, type-eight, type-not, typed-flag, typed-set, typed-type, word-eight, word-type}
-use Rattle.postscript_layout_write.proofs.TypedWriting.{typed-in}
-
-position-in : (scope : Scope) (gpos kept : List ℕ) (lookup : ℕ) (t bytes : List ℕ) (at offset : ℕ) → Holds bytes t at → HasPosition scope gpos kept lookup bytes offset →
-    HasPosition scope gpos kept lookup t (at + offset)
-position-in scope gpos kept lookup t bytes at offset h (has_pairs never none p) =
-    has_pairs never none (lookup-in (new_flag scope (word gpos (lookup + 2))) (set_of gpos lookup) (new_pair scope gpos kept lookup) t bytes at offset h p)
-position-in scope gpos kept lookup t bytes at offset h (has_typed takes m) =
-    has_typed takes (typed-in gpos kept lookup (new_flag scope (word gpos (lookup + 2))) t bytes at offset h m)
-position-in scope gpos kept lookup t bytes at offset h (has_contexts takes m) =
-    has_contexts takes (typed-in gpos kept lookup (new_flag scope (word gpos (lookup + 2))) t bytes at offset h m)
+use Rattle.postscript_layout_write.proofs.Kept.{count-held, keeps-lists, lookups-held, place-read}
+use Rattle.postscript_layout_write.proofs.PieceReading.{flag-read, lookup-read, set-read, type-read}
+use Rattle.postscript_layout_write.proofs.Placing.{position-in}
+use Rattle.postscript_layout_write.proofs.TypedKept.{components-attached, connections-kept, kept-alone, marks-attached, singles-kept, type-not, typed-flag, typed-set, typed-type, word-type}
 
 and-left : (a b : Bool) → (a && b) ≡ true → a ≡ true
 and-left true b is = refl
@@ -67,7 +60,7 @@ is-contextual Marks gpos lookup takes = and-left (is_contextual gpos lookup) (na
 is-contextual Flags gpos lookup takes = and-left (is_contextual gpos lookup) (has_no_pairs gpos lookup) takes
 
 is-context : (scope : Scope) (gpos : List ℕ) (lookup : ℕ) → takes_contexts scope gpos lookup ≡ true → is_context (type_at gpos lookup) ≡ true
-is-context scope gpos lookup takes = and-left (is_context (type_at gpos lookup)) (all_have_sets gpos lookup (type_at gpos lookup))
+is-context scope gpos lookup takes = and-left (is_context (type_at gpos lookup)) (all_have_formats gpos lookup (type_at gpos lookup))
     (is-contextual scope gpos lookup takes)
 
 contexts-alone : (scope : Scope) (gpos : List ℕ) (lookup : ℕ) → takes_contexts scope gpos lookup ≡ true → has_no_pairs gpos lookup ≡ true
@@ -125,31 +118,30 @@ module _ (scope : Scope) (gpos kept : List ℕ) (lookup : ℕ) (t : List ℕ) (l
       (ap (λ k. nat_eq k 9) type ∙ type-not (type_at gpos lookup) 9 is refl))
       ∙ sym (old-nothing scope gpos kept lookup x y (without-pairs scope gpos lookup takes))
   pairs-said (has_contexts takes m) x y =
-      let type = word-eight gpos kept lookup (new_flag scope (word gpos (lookup + 2))) t l m (is-context scope gpos lookup takes) in
+      let type = chained-type t l 8 (new_flag scope (word gpos (lookup + 2))) (set_of gpos lookup) (contexts_by gpos kept lookup (type_at gpos lookup)) m in
       no-pairs t l x y (λ j less. other-type t l j (ap (λ k. nat_eq k 2) type) (ap (λ k. nat_eq k 9) type))
       ∙ sym (old-nothing scope gpos kept lookup x y (contexts-alone scope gpos lookup takes))
 
   flag-said : HasPosition scope gpos kept lookup t l → word t (l + 2) ≡ new_flag scope (word gpos (lookup + 2))
   flag-said (has_pairs never none p) = flag-read (new_flag scope (word gpos (lookup + 2))) (set_of gpos lookup) (new_pair scope gpos kept lookup) t l p
   flag-said (has_typed takes m) = typed-flag gpos kept lookup (new_flag scope (word gpos (lookup + 2))) t l m
-  flag-said (has_contexts takes m) = typed-flag gpos kept lookup (new_flag scope (word gpos (lookup + 2))) t l m
+  flag-said (has_contexts takes m) = chained-flag t l 8 (new_flag scope (word gpos (lookup + 2))) (set_of gpos lookup) (contexts_by gpos kept lookup (type_at gpos lookup)) m
 
   set-said : HasPosition scope gpos kept lookup t l → uses_set (new_flag scope (word gpos (lookup + 2))) ≡ true → set_of t l ≡ set_of gpos lookup
   set-said (has_pairs never none p) = set-read (new_flag scope (word gpos (lookup + 2))) (set_of gpos lookup) (new_pair scope gpos kept lookup) t l p
   set-said (has_typed takes m) = typed-set gpos kept lookup (new_flag scope (word gpos (lookup + 2))) t l m
-  set-said (has_contexts takes m) = typed-set gpos kept lookup (new_flag scope (word gpos (lookup + 2))) t l m
+  set-said (has_contexts takes m) = chained-set t l 8 (new_flag scope (word gpos (lookup + 2))) (set_of gpos lookup) (contexts_by gpos kept lookup (type_at gpos lookup)) m
 
   type-said : HasPosition scope gpos kept lookup t l → takes_type scope gpos lookup ≡ true → type_at t l ≡ type_at gpos lookup
   type-said (has_pairs never none p) takes = (let wrong : true ≡ false = sym takes ∙ never in absurd (cc))
   type-said (has_typed takes m) _ = typed-type gpos kept lookup (new_flag scope (word gpos (lookup + 2))) t l m (is-kept scope gpos lookup takes)
   type-said (has_contexts takes m) own = (let wrong : true ≡ false = sym own ∙ not-typed scope gpos lookup takes in absurd (cc))
 
-  eight : takes_contexts scope gpos lookup ≡ true → HasTyped gpos kept lookup (new_flag scope (word gpos (lookup + 2))) t l → type_at t l ≡ 8
-  eight takes m = type-eight gpos kept lookup (new_flag scope (word gpos (lookup + 2))) t l m (is-context scope gpos lookup takes)
+  eight : HasChained 8 (new_flag scope (word gpos (lookup + 2))) (set_of gpos lookup) (contexts_by gpos kept lookup (type_at gpos lookup)) t l → type_at t l ≡ 8
+  eight m = type-eight t l (new_flag scope (word gpos (lookup + 2))) (set_of gpos lookup) (contexts_by gpos kept lookup (type_at gpos lookup)) m
 
   two : HasLookup (new_flag scope (word gpos (lookup + 2))) (set_of gpos lookup) (new_pair scope gpos kept lookup) t l → type_at t l ≡ 2
-  two p = ap (λ k. if k == 9 then word t (l + word t (l + 6) + 2) else k)
-      (type-read (new_flag scope (word gpos (lookup + 2))) (set_of gpos lookup) (new_pair scope gpos kept lookup) t l p)
+  two p = type-read (new_flag scope (word gpos (lookup + 2))) (set_of gpos lookup) (new_pair scope gpos kept lookup) t l p
 
   -- a lookup that does not keep its type has no subtables but of pairs
   untyped : {X : Type 0} (b : Bool) (old : Option X) → takes_type scope gpos lookup ≡ false → None ≡ (if takes_type scope gpos lookup && b then old else None)
@@ -165,7 +157,7 @@ module _ (scope : Scope) (gpos kept : List ℕ) (lookup : ℕ) (t : List ℕ) (l
       ∙ untyped (nat_lt x (length kept)) (single_by_lookup gpos lookup (get_or kept x 0)) never
   singles-said (has_typed takes m) x = singles-kept gpos kept lookup (new_flag scope (word gpos (lookup + 2))) t l m (is-kept scope gpos lookup takes) x
       ∙ typed (nat_lt x (length kept)) (single_by_lookup gpos lookup (get_or kept x 0)) takes
-  singles-said (has_contexts takes m) x = ap (λ k. if k == 1 then singles_by t l x else None) (eight takes m)
+  singles-said (has_contexts takes m) x = ap (λ k. if k == 1 then singles_by t l x else None) (eight m)
       ∙ untyped (nat_lt x (length kept)) (single_by_lookup gpos lookup (get_or kept x 0)) (not-typed scope gpos lookup takes)
 
   connections-said : HasPosition scope gpos kept lookup t l → (x y : ℕ) → connection_by_lookup t l x y
@@ -175,7 +167,7 @@ module _ (scope : Scope) (gpos kept : List ℕ) (lookup : ℕ) (t : List ℕ) (l
   connections-said (has_typed takes m) x y =
       connections-kept gpos kept lookup (new_flag scope (word gpos (lookup + 2))) t l m (is-kept scope gpos lookup takes) x y
       ∙ typed (nat_lt x (length kept) && nat_lt y (length kept)) (connection_by_lookup gpos lookup (get_or kept x 0) (get_or kept y 0)) takes
-  connections-said (has_contexts takes m) x y = ap (λ k. if k == 3 then connections_by t l x y else None) (eight takes m)
+  connections-said (has_contexts takes m) x y = ap (λ k. if k == 3 then connections_by t l x y else None) (eight m)
       ∙ untyped (nat_lt x (length kept) && nat_lt y (length kept)) (connection_by_lookup gpos lookup (get_or kept x 0) (get_or kept y 0)) (not-typed scope gpos lookup takes)
 
   marks-said : HasPosition scope gpos kept lookup t l → (x y : ℕ) → attached_by t l x y
@@ -184,7 +176,7 @@ module _ (scope : Scope) (gpos kept : List ℕ) (lookup : ℕ) (t : List ℕ) (l
       ∙ untyped (nat_lt x (length kept) && nat_lt y (length kept)) (attached_by gpos lookup (get_or kept x 0) (get_or kept y 0)) never
   marks-said (has_typed takes m) x y = marks-attached gpos kept lookup (new_flag scope (word gpos (lookup + 2))) t l m (is-kept scope gpos lookup takes) x y
       ∙ typed (nat_lt x (length kept) && nat_lt y (length kept)) (attached_by gpos lookup (get_or kept x 0) (get_or kept y 0)) takes
-  marks-said (has_contexts takes m) x y = ap (λ k. if attaches k then by_subtables t l k x y else None) (eight takes m)
+  marks-said (has_contexts takes m) x y = ap (λ k. if attaches k then by_subtables t l k x y else None) (eight m)
       ∙ untyped (nat_lt x (length kept) && nat_lt y (length kept)) (attached_by gpos lookup (get_or kept x 0) (get_or kept y 0)) (not-typed scope gpos lookup takes)
 
   components-said : HasPosition scope gpos kept lookup t l → (x y component : ℕ) → ligature_by_lookup t l x y component
@@ -195,14 +187,14 @@ module _ (scope : Scope) (gpos kept : List ℕ) (lookup : ℕ) (t : List ℕ) (l
   components-said (has_typed takes m) x y component =
       components-attached gpos kept lookup (new_flag scope (word gpos (lookup + 2))) t l m (is-kept scope gpos lookup takes) x y component
       ∙ typed (nat_lt x (length kept) && nat_lt y (length kept)) (ligature_by_lookup gpos lookup (get_or kept x 0) (get_or kept y 0) component) takes
-  components-said (has_contexts takes m) x y component = ap (λ k. if k == 5 then ligatures_by t l x y component else None) (eight takes m)
+  components-said (has_contexts takes m) x y component = ap (λ k. if k == 5 then ligatures_by t l x y component else None) (eight m)
       ∙ untyped (nat_lt x (length kept) && nat_lt y (length kept)) (ligature_by_lookup gpos lookup (get_or kept x 0) (get_or kept y 0) component)
       (not-typed scope gpos lookup takes)
 
   -- a lookup of another type has no contexts
   no-contexts : (s glyphs : List ℕ) (at type : ℕ) → type_at s at ≡ type → is_context type ≡ false → contexts_at s glyphs at ≡ []
-  no-contexts s glyphs at type is never = ap (λ k. if is_context k && all_have_sets s at k then contexts_by s glyphs at k else []) is
-      ∙ ap (λ (b : Bool). if b && all_have_sets s at type then contexts_by s glyphs at type else []) never
+  no-contexts s glyphs at type is never = ap (λ k. if is_context k && all_have_formats s at k then contexts_by s glyphs at k else []) is
+      ∙ ap (λ (b : Bool). if b && all_have_formats s at type then contexts_by s glyphs at type else []) never
 
   if-empty : (b : Bool) (xs : List Context) → xs ≡ [] → [] ≡ (if b then xs else [])
   if-empty true xs none = sym none
@@ -218,7 +210,10 @@ module _ (scope : Scope) (gpos kept : List ℕ) (lookup : ℕ) (t : List ℕ) (l
       (typed-type gpos kept lookup (new_flag scope (word gpos (lookup + 2))) t l m is) (kept-alone (type_at gpos lookup) is)
       ∙ if-empty (takes_contexts scope gpos lookup) (contexts_at gpos kept lookup)
       (no-contexts gpos kept lookup (type_at gpos lookup) refl (kept-alone (type_at gpos lookup) is))
-  contexts-said (has_contexts takes m) = contexts-kept gpos kept lookup (new_flag scope (word gpos (lookup + 2))) t l m (is-context scope gpos lookup takes)
+  contexts-said (has_contexts takes m) =
+      positions-read t l (new_flag scope (word gpos (lookup + 2))) (set_of gpos lookup) (contexts_by gpos kept lookup (type_at gpos lookup)) m (length kept)
+      (kept-context gpos kept (same_type (type_at gpos lookup)) (typed_at gpos lookup (type_at gpos lookup)) (word gpos (lookup + 4)))
+      (applying-context gpos kept (same_type (type_at gpos lookup)) (typed_at gpos lookup (type_at gpos lookup)) (word gpos (lookup + 4)))
       ∙ sym (ap (λ (b : Bool). if b then contexts_by gpos kept lookup (type_at gpos lookup) else []) (is-contextual scope gpos lookup takes))
       ∙ sym (ap (λ (b : Bool). if b then contexts_at gpos kept lookup else []) takes)
 

@@ -1,6 +1,7 @@
 -- Subtables that were written are read as their pairs.
 use Rattle.std.proofs.Common.{◌≡◌, refl, sym, ap, subst, ◌∙◌, inl, inr, ℕ, zero, suc, ◌+◌, ◌*◌, ◌≤◌, ◌<◌, ◌==◌, ◌&&◌, List, [], ◌∷◌, ◌++◌, length, length-append, get_or, arith, Bool, true, false}
 use Rattle.std.specs.Prelude.{Option, None, Some, map, nat_eq, nat_lt, if◌then◌else◌}
+use Rattle.std.specs.List.{Contains}
 use Rattle.std.proofs.lemmas.Bool.{eq-eqb, eqb-true, lt-ltb}
 use Rattle.std.proofs.lemmas.List.{get_or-map, length-map}
 use Rattle.postscript_layout.specs.Numbers.{word}
@@ -253,10 +254,10 @@ module _ (t : List ℕ) (form : Form) (g : ℕ → Adjustment) (set : ℕ) (has 
           (holds-second (uint16 e.second) (adjustment_text form e.adjustment) 2 (length-uint16 e.second) (held r within)) in
           a_pair _ (read ∙ right.1 ∙ ap g (sym (second-at es r within) ∙ is)))
 
--- what a subtable says of a pair
-pub data SubtableRead (form : Form) (a : Adjustment) : Option Adjustment → Type 0 where
-  not_there : (form_of a ≡ Some form → ⊥) → SubtableRead form a None
-  there : SubtableRead form a (Some a)
+-- what a subtable with some first glyphs says of a pair
+pub data SubtableRead (form : Form) (firsts : List ℕ) (x : ℕ) (a : Adjustment) : Option Adjustment → Type 0 where
+  not_there : (form_of a ≡ Some form → Contains firsts x → ⊥) → SubtableRead form firsts x a None
+  there : SubtableRead form firsts x a (Some a)
 
 -- the numbers of a subtable
 pub record IsRead (t : List ℕ) (s : ℕ) (form : Form) (firsts offsets sets : List ℕ) : Type 0 where
@@ -353,43 +354,37 @@ subtable-numbers t s form firsts offsets sets same few glyphs fit h =
     }
 
 -- a pair in a subtable
-module _ (t : List ℕ) (s : ℕ) (form : Form) (f : (x y : ℕ) → Adjustment) (has : HasSubtable form f t s) where
-  firsts : List ℕ
-  firsts = has.firsts
+module _ (t : List ℕ) (s : ℕ) (form : Form) (f : (x y : ℕ) → Adjustment) (firsts : List ℕ) (has : HasSubtable form f firsts t s) where
+  read : IsRead t s form firsts has.offsets has.sets
+  read = subtable-numbers t s form firsts has.offsets has.sets has.are.same has.few has.are.fit has.fit has.there
 
-  offsets : List ℕ
-  offsets = has.offsets
-
-  read : IsRead t s form has.firsts has.offsets has.sets
-  read = subtable-numbers t s form has.firsts has.offsets has.sets has.are.same has.few has.are.fit has.fit has.there
-
-  index-read : (x : ℕ) → Searched has.firsts x (λ i. i) (index_of t s x)
+  index-read : (x : ℕ) → Searched firsts x (λ i. i) (index_of t s x)
   index-read x =
-      let c = s + (10 + length has.firsts * 2) in
+      let c = s + (10 + length firsts * 2) in
       let is : index_of t s x ≡ first_some (λ i. if word t (c + 4 + i * 2) == x then Some i else None) (word t (c + 2)) =
       ap (λ n. coverage_index t (s + n) x) read.coverage
       ∙ ap (λ (b : Bool). if b then first_some (λ i. if word t (c + 4 + i * 2) == x then Some i else None) (word t (c + 2))
       else (if word t c == 2 then index_in t x (range_of t c x) else None)) (eq-eqb (word t c) 1 read.list) in
-      subst (Searched has.firsts x (λ i. i)) (sym is) (searched (λ i. word t (c + 4 + i * 2)) has.firsts x (λ i. i) (word t (c + 2)) read.many read.glyph)
+      subst (Searched firsts x (λ i. i)) (sym is) (searched (λ i. word t (c + 4 + i * 2)) firsts x (λ i. i) (word t (c + 2)) read.many read.glyph)
 
   sizes-read : 2 + sizes_of t s ≡ 2 + form_size form
   sizes-read = ap (λ n. 2 + (size_of n + size_of (word t (s + 6)))) read.first ∙ ap (λ n. 2 + (size_of (format1 form) + size_of n)) read.second
       ∙ ap (λ n. 2 + n) (form-sizes form)
 
-  record-read : (k y : ℕ) → k < length has.firsts →
-      record_of t s k (get_or has.firsts k 0) y ≡ listed_pair t (s + (14 + length has.firsts * 4) + get_or has.offsets k 0) (2 + form_size form) y
+  record-read : (k y : ℕ) → k < length firsts →
+      record_of t s k (get_or firsts k 0) y ≡ listed_pair t (s + (14 + length firsts * 4) + get_or has.offsets k 0) (2 + form_size form) y
   record-read k y less =
       let here = s + word t (s + 10 + k * 2) in
-      let place : here ≡ s + (14 + length has.firsts * 4) + get_or has.offsets k 0 = (let set = read.set k less in omega (arith, set)) in
+      let place : here ≡ s + (14 + length firsts * 4) + get_or has.offsets k 0 = (let set = read.set k less in omega (arith, set)) in
       let within : nat_lt k (word t (s + 8)) ≡ true = lt-ltb k (word t (s + 8)) (let count = read.count in omega (arith, count, less)) in
       ap (λ (b : Bool). if b then (if nat_lt k (word t (s + 8)) then listed_pair t here (2 + sizes_of t s) y else None)
       else (if word t s == 2 then class_pair t s (sizes_of t s)
-      (class_of t (s + word t (s + 8)) (get_or has.firsts k 0)) (class_of t (s + word t (s + 10)) y) else None)) (eq-eqb (word t s) 1 read.format)
+      (class_of t (s + word t (s + 8)) (get_or firsts k 0)) (class_of t (s + word t (s + 10)) y) else None)) (eq-eqb (word t s) 1 read.format)
       ∙ ap (λ (b : Bool). if b then listed_pair t here (2 + sizes_of t s) y else None) within
       ∙ ap (λ n. listed_pair t n (2 + sizes_of t s) y) place
-      ∙ ap (λ n. listed_pair t (s + (14 + length has.firsts * 4) + get_or has.offsets k 0) n y) sizes-read
+      ∙ ap (λ n. listed_pair t (s + (14 + length firsts * 4) + get_or has.offsets k 0) n y) sizes-read
 
-  set-held : (k : ℕ) → k < length has.firsts → HasSet form (f (get_or has.firsts k 0)) t (s + (14 + length has.firsts * 4) + get_or has.offsets k 0)
+  set-held : (k : ℕ) → k < length firsts → HasSet form (f (get_or firsts k 0)) t (s + (14 + length firsts * 4) + get_or has.offsets k 0)
   set-held k less = (let set = has.are.each k less in record {
     entries = set.entries;
     right = set.right;
@@ -399,22 +394,18 @@ module _ (t : List ℕ) (s : ℕ) (form : Form) (f : (x y : ℕ) → Adjustment)
     there = holds-in read.behind set.there;
   })
 
-  by-records : (found : Option ℕ) (a : Adjustment) → PairRead t form a found → SubtableRead form a (adjustment_by t s found)
-  by-records _ a (no_pair never) = not_there never
-  by-records _ a (a_pair at is) = subst (λ (b : Adjustment). SubtableRead form a (Some b))
+  by-records : (found : Option ℕ) (x : ℕ) (a : Adjustment) → PairRead t form a found → SubtableRead form firsts x a (adjustment_by t s found)
+  by-records _ x a (no_pair never) = not_there (λ is listed. never is)
+  by-records _ x a (a_pair at is) = subst (λ (b : Adjustment). SubtableRead form firsts x a (Some b))
       (sym (ap (λ n. adjustment_at t at n (word t (s + 6))) read.first ∙ ap (λ n. adjustment_at t at (format1 form) n) read.second ∙ is)) there
 
-  pub subtable-read : (x y : ℕ) → SubtableRead form (f x y) (by_subtable t s x y)
+  pub subtable-read : (x y : ℕ) → SubtableRead form firsts x (f x y) (by_subtable t s x y)
   subtable-read x y = by (index_of t s x) (index-read x)
     where
-      by : (index : Option ℕ) → Searched has.firsts x (λ i. i) index → SubtableRead form (f x y) (adjustment_of t s index x y)
-      by _ (missing none) = not_there (λ is. elim (nat_cases x has.count) [
-        | inl less ↦ (let c = has.are.all x y less is in
-            none c.0 c.1 (any-default has.firsts c.0 0 x c.1 ∙ c.2))
-        | inr far ↦ (let no = has.bounded x y far in absurd (cc))
-      ])
+      by : (index : Option ℕ) → Searched firsts x (λ i. i) index → SubtableRead form firsts x (f x y) (adjustment_of t s index x y)
+      by _ (missing none) = not_there (λ is listed. none listed.0 listed.1 (any-default firsts listed.0 0 x listed.1 ∙ listed.2))
       by _ (present k less is) =
-          subst (λ z. SubtableRead form (f z y) (adjustment_by t s (record_of t s k z y))) is
-          (subst (λ (r : Option ℕ). SubtableRead form (f (get_or has.firsts k 0) y) (adjustment_by t s r)) (sym (record-read k y less))
-          (by-records _ (f (get_or has.firsts k 0) y)
-          (pair-read t form (f (get_or has.firsts k 0)) (s + (14 + length has.firsts * 4) + get_or has.offsets k 0) (set-held k less) y)))
+          subst (λ z. SubtableRead form firsts z (f z y) (adjustment_by t s (record_of t s k z y))) is
+          (subst (λ (r : Option ℕ). SubtableRead form firsts (get_or firsts k 0) (f (get_or firsts k 0) y) (adjustment_by t s r)) (sym (record-read k y less))
+          (by-records _ (get_or firsts k 0) (f (get_or firsts k 0) y)
+          (pair-read t form (f (get_or firsts k 0)) (s + (14 + length firsts * 4) + get_or has.offsets k 0) (set-held k less) y)))

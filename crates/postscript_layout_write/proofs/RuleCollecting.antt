@@ -7,7 +7,7 @@ use Rattle.std.proofs.lemmas.List.{get_or_append_left, get_or_push}
 use Rattle.std.proofs.lemmas.List.Elements.{Contains-append_left, Contains-push}
 use Rattle.postscript_layout_write.specs.Contexts.{contexts_at}
 use Rattle.postscript_layout_write.specs.Sequences.{Context}
-use Rattle.postscript_layout_write.specs.Coverages.{HasChained, chained_text}
+use Rattle.postscript_layout_write.specs.Coverages.{chained_text}
 use Rattle.postscript_layout_write.specs.Flags.{set_of, uses_set}
 use Rattle.postscript_layout_write.specs.Holds.{Holds}
 use Rattle.postscript_layout_write.specs.Pairs.{flag_of, lookup_at}
@@ -18,6 +18,7 @@ use Rattle.postscript_layout_write.specs.Rules.{rules_of_type, type_at}
 use Rattle.postscript_layout_write.specs.Substituting.{is_kept, is_taken, keeps, new_flag, new_rules, rules_at}
 use Rattle.postscript_layout_write.specs.Text.{uint16}
 use Rattle.postscript_layout_write.proofs.Firsts.{nat_cases}
+use Rattle.postscript_layout_write.proofs.ContextCollecting.{chained-added, chained-in, chained-on}
 use Rattle.postscript_layout_write.proofs.Holding.{holds-first, holds-in, holds-last, holds-on, holds-second}
 
 -- rules with more bytes after them
@@ -168,51 +169,28 @@ lookup-made type flag set f n firsts numbers sets old new far (puts_one small fi
     whole = subst (λ (xs : List ℕ). Holds (rule_front_text type flag set ++ rules_text type firsts numbers sets) xs (length old)) (sym is)
         (holds-last old (rule_front_text type flag set ++ rules_text type firsts numbers sets))
 
-chained-on : (flag set : ℕ) (contexts : List Context) (bytes more : List ℕ) (at : ℕ) → HasChained flag set contexts bytes at →
-    HasChained flag set contexts (bytes ++ more) at
-chained-on flag set contexts bytes more at h = record {
-  offsets = h.offsets;
-  subtables = h.subtables;
-  have = h.have;
-  few = h.few;
-  fit = h.fit;
-  small = h.small;
-  set_small = h.set_small;
-  begins = h.begins;
-  there = holds-on more h.there;
-}
-
 new-on : (whole : Bool) (gsub chosen kept : List ℕ) (i : ℕ) (bytes more : List ℕ) (at : ℕ) → HasNewLookup whole gsub chosen kept i bytes at →
     HasNewLookup whole gsub chosen kept i (bytes ++ more) at
 new-on whole gsub chosen kept i bytes more at (has_rules is h) =
     has_rules is (lookup-on (new_type gsub (lookup_at gsub i)) (new_flag whole (flag_of gsub i)) (set_of gsub (lookup_at gsub i)) (new_rules whole gsub chosen kept i) bytes more at h)
 new-on whole gsub chosen kept i bytes more at (has_contexts is h) = has_contexts is
-    (chained-on (new_flag whole (flag_of gsub i)) (set_of gsub (lookup_at gsub i)) (contexts_at gsub kept (lookup_at gsub i) (type_at gsub (lookup_at gsub i))) bytes more at h)
+    (chained-on 6 (new_flag whole (flag_of gsub i)) (set_of gsub (lookup_at gsub i)) (contexts_at gsub kept (lookup_at gsub i) (type_at gsub (lookup_at gsub i))) bytes more at h)
 
 -- lookup i is appended
 next-more : (whole : Bool) (gsub chosen kept : List ℕ) (i : ℕ) (old new : List ℕ) → PutsNext whole gsub chosen kept (lookup_at gsub i) i old new →
     (more : List ℕ) × (new ≡ old ++ more)
 next-more whole gsub chosen kept i old new (puts_rules is p) =
     more-of (new_type gsub (lookup_at gsub i)) (new_flag whole (flag_of gsub i)) (set_of gsub (lookup_at gsub i)) p.firsts p.numbers p.sets old new p.puts
-next-more whole gsub chosen kept i old new (puts_contexts is p) = (chained_text (new_flag whole (flag_of gsub i)) p.offsets p.subtables, p.puts.text)
+next-more whole gsub chosen kept i old new (puts_contexts is p) = (chained_text 6 (new_flag whole (flag_of gsub i)) p.offsets p.subtables, p.puts.text)
 
 next-made : (whole : Bool) (gsub chosen kept : List ℕ) (i : ℕ) (old new : List ℕ) → PutsNext whole gsub chosen kept (lookup_at gsub i) i old new →
     HasNewLookup whole gsub chosen kept i new (length old)
 next-made whole gsub chosen kept i old new (puts_rules is p) = has_rules is
     (lookup-made (new_type gsub (lookup_at gsub i)) (new_flag whole (flag_of gsub i)) (set_of gsub (lookup_at gsub i)) (new_rules whole gsub chosen kept i) (length kept)
     p.firsts p.numbers p.sets old new (λ x far. new-far whole gsub chosen kept i x far) p.puts p.are)
-next-made whole gsub chosen kept i old new (puts_contexts is p) = has_contexts is (record {
-  offsets = p.offsets;
-  subtables = p.subtables;
-  have = p.have;
-  few = p.puts.few;
-  fit = p.puts.fit;
-  small = p.puts.small;
-  set_small = p.set_small;
-  begins = p.begins;
-  there = subst (λ (xs : List ℕ). Holds (chained_text (new_flag whole (flag_of gsub i)) p.offsets p.subtables) xs (length old)) (sym p.puts.text)
-      (holds-last old (chained_text (new_flag whole (flag_of gsub i)) p.offsets p.subtables));
-})
+next-made whole gsub chosen kept i old new (puts_contexts is p) = has_contexts is
+    (chained-added 6 (new_flag whole (flag_of gsub i)) (set_of gsub (lookup_at gsub i)) (contexts_at gsub kept (lookup_at gsub i) (type_at gsub (lookup_at gsub i)))
+    p.offsets p.subtables old new (omega arith) p.set_small p.have p.begins p.puts).has
 
 pub rule-lookups-more : (whole : Bool) (gsub chosen kept : List ℕ) (i : ℕ) (offsets bytes newoffsets newbytes : List ℕ) →
     HasRuleLookups whole gsub chosen kept i offsets bytes → PutsNext whole gsub chosen kept (lookup_at gsub i) i bytes newbytes → newoffsets ≡ offsets ++ length bytes ∷ [] →
@@ -257,17 +235,9 @@ pub new-in : (whole : Bool) (gsub chosen kept : List ℕ) (i : ℕ) (t bytes : L
     HasNewLookup whole gsub chosen kept i bytes offset → HasNewLookup whole gsub chosen kept i t (at + offset)
 new-in whole gsub chosen kept i t bytes at offset h (has_rules is k) = has_rules is
     (lookup-in (new_type gsub (lookup_at gsub i)) (new_flag whole (flag_of gsub i)) (set_of gsub (lookup_at gsub i)) (new_rules whole gsub chosen kept i) t bytes at offset h k)
-new-in whole gsub chosen kept i t bytes at offset h (has_contexts is k) = has_contexts is (record {
-  offsets = k.offsets;
-  subtables = k.subtables;
-  have = k.have;
-  few = k.few;
-  fit = k.fit;
-  small = k.small;
-  set_small = k.set_small;
-  begins = k.begins;
-  there = holds-in h k.there;
-})
+new-in whole gsub chosen kept i t bytes at offset h (has_contexts is k) = has_contexts is
+    (chained-in 6 (new_flag whole (flag_of gsub i)) (set_of gsub (lookup_at gsub i)) (contexts_at gsub kept (lookup_at gsub i) (type_at gsub (lookup_at gsub i)))
+    t bytes at offset h k)
 
 -- the rules of a lookup that keeps them, or none
 and-first : (a b : Bool) → (a && b) ≡ true → a ≡ true

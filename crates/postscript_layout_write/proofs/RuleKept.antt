@@ -191,17 +191,17 @@ rules-new-read whole old chosen kept new i none r =
     }
 
 contexts-new-read : (whole : Bool) (old chosen kept new : List ℕ) (i : ℕ) → keeps_contexts whole old chosen i (lookup_at old i) ≡ true →
-    HasChained (new_flag whole (flag_of old i)) (set_of old (lookup_at old i)) (contexts_at old kept (lookup_at old i) (type_at old (lookup_at old i))) new (lookup_at new i) → IsNewRead whole old chosen kept new i
+    HasChained 6 (new_flag whole (flag_of old i)) (set_of old (lookup_at old i)) (contexts_at old kept (lookup_at old i) (type_at old (lookup_at old i))) new (lookup_at new i) → IsNewRead whole old chosen kept new i
 contexts-new-read whole old chosen kept new i keeps-them has =
     let l = lookup_at new i in
     let contexts = contexts_at old kept (lookup_at old i) (type_of old i) in
-    let six : word new l ≡ 6 = type-read new l (new_flag whole (flag_of old i)) (set_of old (lookup_at old i)) contexts has in
+    let six : word new l ≡ 6 = type-read new l 6 (new_flag whole (flag_of old i)) (set_of old (lookup_at old i)) contexts has in
     let type : type_of new i ≡ 6 = ap (λ n. if nat_eq n 7 then word new (l + word new (l + 6) + 2) else n) six in
     let sets : all_have_formats new l (type_at new l) (word new (l + 4)) ≡ true =
     ap (λ n. all_have_formats new l n (word new (l + 4))) type ∙ have-sets new l (new_flag whole (flag_of old i)) (set_of old (lookup_at old i)) contexts has in
     record {
-      flag-is = flag-read new l (new_flag whole (flag_of old i)) (set_of old (lookup_at old i)) contexts has;
-      set-is = chained-set new l (new_flag whole (flag_of old i)) (set_of old (lookup_at old i)) contexts has;
+      flag-is = flag-read new l 6 (new_flag whole (flag_of old i)) (set_of old (lookup_at old i)) contexts has;
+      set-is = chained-set new l 6 (new_flag whole (flag_of old i)) (set_of old (lookup_at old i)) contexts has;
       type-is = λ k. absurd (let no = sym k ∙ not-kept whole old chosen i (lookup_at old i) keeps-them in cc);
       rules-are = λ x. ap (λ n. rules_of_type new l n x) type ∙ no-rules-six new l (new_flag whole (flag_of old i)) (set_of old (lookup_at old i)) contexts has x
           ∙ sym (ap (λ (b : Bool). if b then rules_at old kept (lookup_at old i) x else []) (keeps-none whole old chosen i (lookup_at old i) keeps-them));
@@ -209,7 +209,8 @@ contexts-new-read whole old chosen kept new i keeps-them has =
           contexts_at new (range_with_len 0 (length kept)) l n else []) type
           ∙ ap (λ (b : Bool). if b then contexts_at new (range_with_len 0 (length kept)) l 6 else []) (have-sets new l (new_flag whole (flag_of old i)) (set_of old (lookup_at old i)) contexts has)
           ∙ contexts-read new l (new_flag whole (flag_of old i)) (set_of old (lookup_at old i)) contexts has (length kept)
-          (λ k less. kept-context old kept (lookup_at old i) (type_of old i) k less) (λ k less. applying-context old kept (lookup_at old i) (type_of old i) k less)
+          (kept-context old kept (type_of old i) (part_at old (lookup_at old i) (type_of old i)) (word old (lookup_at old i + 4)))
+          (applying-context old kept (type_of old i) (part_at old (lookup_at old i) (type_of old i)) (word old (lookup_at old i + 4)))
           ∙ sym (ap (λ (b : Bool). if b then contexts else []) keeps-them);
     }
 

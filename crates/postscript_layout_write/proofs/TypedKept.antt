@@ -5,24 +5,22 @@ use Rattle.std.specs.List.{range_with_len}
 use Rattle.std.proofs.lemmas.Bool.{eq-eqb, eqb-true}
 use Rattle.postscript_layout.specs.Numbers.{word, long}
 use Rattle.postscript_layout_write.specs.Attaching.{HasAttaching}
-use Rattle.postscript_layout_write.specs.PositionContexts.{context_in, has_sets}
 use Rattle.postscript_layout_write.specs.Cursive.{by_lookup as connection_by_lookup, by_subtable as connected_by, by_subtables as connections_by}
 use Rattle.postscript_layout_write.specs.First.{all_below, first_some}
 use Rattle.postscript_layout_write.specs.Flags.{set_of, uses_set}
 use Rattle.postscript_layout_write.specs.Holds.{Holds}
 use Rattle.postscript_layout_write.specs.Ligatures.{by_lookup as ligature_by_lookup, by_subtable as ligature_by, by_subtables as ligatures_by}
 use Rattle.postscript_layout_write.specs.Marks.{Attachment, attaches, attaching_at, by_lookup, by_subtable, by_subtables, of_format1, type_at, typed_at}
-use Rattle.postscript_layout_write.specs.PositionContexts.{all_have_sets, contexts_at, contexts_by, is_context, same_type}
+use Rattle.postscript_layout_write.specs.PositionContexts.{is_context}
 use Rattle.postscript_layout_write.specs.Positions.{is_kept_type}
 use Rattle.postscript_layout_write.specs.RuleSets.{rule_head_text}
 use Rattle.postscript_layout_write.specs.Singles.{by_lookup as single_by_lookup, by_subtable as single_by, by_subtables as singles_by}
 use Rattle.postscript_layout_write.specs.Text.{offsets_text, uint16}
-use Rattle.postscript_layout_write.specs.Typed.{HasContextPart, HasPart, HasRows, HasTyped, has_context, has_ends, has_marks, has_singles, new_type, parts_text}
+use Rattle.postscript_layout_write.specs.Typed.{HasPart, HasRows, HasTyped, has_ends, has_marks, has_singles, parts_text}
 use Rattle.postscript_layout_write.specs.declared.anchors.Side.TheVariants.{Cursive, Singles}
 use Rattle.postscript_layout_write.proofs.Firsts.{first-none, first-same}
 use Rattle.postscript_layout_write.proofs.Holding.{holds-first, holds-in, holds-second, holds-word}
 use Rattle.postscript_layout_write.proofs.MarkKept.{format-read, subtable-attached, subtable-component}
-use Rattle.postscript_layout_write.proofs.PositionContexts.{below-same, context-format, context-kept}
 use Rattle.postscript_layout_write.proofs.Reading.{length-offsets, offsets-read}
 use Rattle.postscript_layout_write.proofs.RowKept.{connection-kept, ends-format, single-kept}
 use Rattle.postscript_layout_write.proofs.RuleKept.{IsHead, head-read, length-rule-head}
@@ -69,41 +67,24 @@ attached-part : (type : ℕ) (gpos : List ℕ) (part : Option ℕ) (kept t : Lis
     HasPart type gpos part kept t s → HasAttaching type gpos (of_format1 gpos part) kept t s
 attached-part type gpos part kept t s is a b (has_singles one h) = absurd (a one)
 attached-part type gpos part kept t s is a b (has_ends three h) = absurd (b three)
-attached-part type gpos part kept t s is a b (has_context context h) = (let wrong : true ≡ false = sym context ∙ kept-alone type is in absurd (cc))
-attached-part type gpos part kept t s is a b (has_marks c d e h) = h
+attached-part type gpos part kept t s is a b (has_marks c d h) = h
 
 single-part : (gpos : List ℕ) (part : Option ℕ) (kept t : List ℕ) (s type : ℕ) → type ≡ 1 → HasPart type gpos part kept t s → HasRows Singles gpos part kept t s
 single-part gpos part kept t s type is (has_singles one h) = h
 single-part gpos part kept t s type is (has_ends three h) = absurd (omega (arith, is, three))
-single-part gpos part kept t s type is (has_context context h) = (let wrong : true ≡ false = sym context ∙ ap is_context is in absurd (cc))
-single-part gpos part kept t s type is (has_marks c d e h) = absurd (c is)
+single-part gpos part kept t s type is (has_marks c d h) = absurd (c is)
 
 ends-part : (gpos : List ℕ) (part : Option ℕ) (kept t : List ℕ) (s type : ℕ) → type ≡ 3 → HasPart type gpos part kept t s →
     HasRows Cursive gpos (of_format1 gpos part) kept t s
 ends-part gpos part kept t s type is (has_singles one h) = absurd (omega (arith, is, one))
 ends-part gpos part kept t s type is (has_ends three h) = h
-ends-part gpos part kept t s type is (has_context context h) = (let wrong : true ≡ false = sym context ∙ ap is_context is in absurd (cc))
-ends-part gpos part kept t s type is (has_marks c d e h) = absurd (d is)
-
-context-part : (type : ℕ) (gpos : List ℕ) (part : Option ℕ) (kept t : List ℕ) (s : ℕ) → is_context type ≡ true → HasPart type gpos part kept t s →
-    HasContextPart (same_type type) gpos part kept t s
-context-part type gpos part kept t s is (has_singles one h) = (let wrong : true ≡ false = sym is ∙ ap is_context one in absurd (cc))
-context-part type gpos part kept t s is (has_ends three h) = (let wrong : true ≡ false = sym is ∙ ap is_context three in absurd (cc))
-context-part type gpos part kept t s is (has_context context h) = h
-context-part type gpos part kept t s is (has_marks c d e h) = (let wrong : true ≡ false = sym is ∙ e in absurd (cc))
-
-new-small : (type : ℕ) → type < 65536 → new_type type < 65536
-new-small type small = by (is_context type)
-  where
-    by : (b : Bool) → (if b then 8 else type) < 65536
-    by true = omega arith
-    by false = small
+ends-part gpos part kept t s type is (has_marks c d h) = absurd (d is)
 
 -- a lookup
 module _ (gpos kept : List ℕ) (lookup flag : ℕ) (t : List ℕ) (l : ℕ) (has : HasTyped gpos kept lookup flag t l) where
-  head : IsHead t l (new_type (type_at gpos lookup)) flag (length has.offsets)
+  head : IsHead t l (type_at gpos lookup) flag (length has.offsets)
   unfolding parts_text
-  head = (let few = has.few in head-read t l (new_type (type_at gpos lookup)) flag (length has.offsets) (new-small (type_at gpos lookup) has.type) has.small
+  head = (let few = has.few in head-read t l (type_at gpos lookup) flag (length has.offsets) has.type has.small
       (omega (arith, few)) (holds-first _ _ has.there))
 
   pub typed-flag : word t (l + 2) ≡ flag
@@ -111,8 +92,8 @@ module _ (gpos kept : List ℕ) (lookup flag : ℕ) (t : List ℕ) (l : ℕ) (ha
 
   tail : Holds (offsets_text (6 + length has.offsets * 2) has.offsets ++ has.subtables) t (l + 6)
   unfolding parts_text
-  tail = holds-second (rule_head_text (new_type (type_at gpos lookup)) flag (length has.offsets)) _ 6
-      (length-rule-head (new_type (type_at gpos lookup)) flag (length has.offsets)) has.there
+  tail = holds-second (rule_head_text (type_at gpos lookup) flag (length has.offsets)) _ 6
+      (length-rule-head (type_at gpos lookup) flag (length has.offsets)) has.there
 
   behind : Holds has.subtables t (l + 6 + length has.offsets * 2)
   behind = holds-second (offsets_text (6 + length has.offsets * 2) has.offsets) has.subtables (length has.offsets * 2)
@@ -155,7 +136,7 @@ module _ (gpos kept : List ℕ) (lookup flag : ℕ) (t : List ℕ) (l : ℕ) (ha
 
   module _ (keeps : is_kept_type (type_at gpos lookup) ≡ true) where
     pub word-type : word t l ≡ type_at gpos lookup
-    word-type = head.type-is ∙ ap (λ (b : Bool). if b then 8 else type_at gpos lookup) (kept-alone (type_at gpos lookup) keeps)
+    word-type = head.type-is
 
     pub typed-type : type_at t l ≡ type_at gpos lookup
     typed-type = ap (λ (b : Bool). if b then word t (l + word t (l + 6) + 2) else word t l)
@@ -250,33 +231,3 @@ module _ (gpos kept : List ℕ) (lookup flag : ℕ) (t : List ℕ) (l : ℕ) (ha
     connections-kept x y = ap (λ k. if k == 3 then connections_by t l x y else None) typed-type
         ∙ at-type (type_at gpos lookup) 3 (nat_lt x (length kept) && nat_lt y (length kept)) (connections_by t l x y)
         (connections_by gpos lookup (get_or kept x 0) (get_or kept y 0)) (λ three. connections-read three x y)
-
-  -- contexts
-  module _ (is : is_context (type_at gpos lookup) ≡ true) where
-    pub word-eight : word t l ≡ 8
-    word-eight = head.type-is ∙ ap (λ (b : Bool). if b then 8 else type_at gpos lookup) is
-
-    pub type-eight : type_at t l ≡ 8
-    type-eight = ap (λ k. if k == 9 then word t (l + word t (l + 6) + 2) else k) word-eight
-
-    context-has : (j : ℕ) → j < word gpos (lookup + 4) →
-        HasContextPart (same_type (type_at gpos lookup)) gpos (typed_at gpos lookup (type_at gpos lookup) j) kept t (place j)
-    context-has j less = context-part (type_at gpos lookup) gpos (typed_at gpos lookup (type_at gpos lookup) j) kept t (place j) is (part-has j less)
-
-    sets-read : all_have_sets t l 8 ≡ true
-    sets-read = ap is_none (first-none (λ j. if has_sets t (typed_at t l 8 j) then None else Some j) (word t (l + 4)) (λ j less. (let many = many-read in
-        let within : j < word gpos (lookup + 4) = omega (arith, less, many) in
-        ap (λ (p : Option ℕ). if has_sets t p then None else Some j) (part-at 8 j word-eight within)
-        ∙ ap (λ (b : Bool). if b then None else Some j) (eq-eqb (word t (place j)) 3
-        (context-format (same_type (type_at gpos lookup)) gpos (typed_at gpos lookup (type_at gpos lookup) j) kept t (place j) (context-has j within))))))
-
-    each-read : contexts_by t (range_with_len 0 (length kept)) l 8 ≡ contexts_by gpos kept lookup (type_at gpos lookup)
-    each-read = ap (all_below (λ j. context_in t (range_with_len 0 (length kept)) 6 (typed_at t l 8 j))) many-read
-        ∙ below-same (λ j. context_in t (range_with_len 0 (length kept)) 6 (typed_at t l 8 j))
-        (λ j. context_in gpos kept (same_type (type_at gpos lookup)) (typed_at gpos lookup (type_at gpos lookup) j)) (word gpos (lookup + 4))
-        (λ j less. ap (context_in t (range_with_len 0 (length kept)) 6) (part-at 8 j word-eight less)
-        ∙ context-kept (same_type (type_at gpos lookup)) gpos (typed_at gpos lookup (type_at gpos lookup) j) kept t (place j) (context-has j less))
-
-    pub contexts-kept : contexts_at t (range_with_len 0 (length kept)) l ≡ contexts_by gpos kept lookup (type_at gpos lookup)
-    contexts-kept = ap (λ k. if is_context k && all_have_sets t l k then contexts_by t (range_with_len 0 (length kept)) l k else []) type-eight
-        ∙ ap (λ (b : Bool). if b then contexts_by t (range_with_len 0 (length kept)) l 8 else []) sets-read ∙ each-read

@@ -1,5 +1,5 @@
 -- Lookups that are written with a subtable for each old one, as they are appended.
-use Rattle.std.proofs.Common.{◌≡◌, sym, ap, subst, ℕ, ◌+◌, ◌*◌, ◌≤◌, ◌<◌, List, [], ◌∷◌, ◌++◌, length, length-append, get_or, arith, true, false}
+use Rattle.std.proofs.Common.{◌≡◌, sym, ap, subst, ℕ, ◌+◌, ◌*◌, ◌≤◌, ◌<◌, List, [], ◌∷◌, ◌++◌, length, length-append, get_or, arith}
 use Rattle.std.specs.Prelude.{Option}
 use Rattle.std.proofs.lemmas.List.{append_assoc}
 use Rattle.postscript_layout.specs.Numbers.{word}
@@ -7,18 +7,16 @@ use Rattle.postscript_layout_write.specs.Attaching.{AddsAttaching, IsArray, lead
 use Rattle.postscript_layout_write.specs.Flags.{set_of}
 use Rattle.postscript_layout_write.specs.Holds.{Holds}
 use Rattle.postscript_layout_write.specs.Marks.{of_format1, type_at, typed_at}
-use Rattle.postscript_layout_write.specs.PositionContexts.{is_context, same_type}
 use Rattle.postscript_layout_write.specs.RuleSets.{rule_head_text}
 use Rattle.postscript_layout_write.specs.Scopes.{mark_set_text}
 use Rattle.postscript_layout_write.specs.Sets.{AreOffsets}
 use Rattle.postscript_layout_write.specs.Text.{array_text, coverage_text, offsets_text}
-use Rattle.postscript_layout_write.specs.Typed.{AddsContextPart, AddsPart, AddsRows, AddsTyped, HasPart, HasParts, HasRows, HasTyped, PutsRows, has_context, has_ends, has_marks, has_singles, new_type, parts_text, rows_text}
+use Rattle.postscript_layout_write.specs.Typed.{AddsPart, AddsRows, AddsTyped, HasPart, HasParts, HasRows, HasTyped, PutsRows, has_ends, has_marks, has_singles, parts_text, rows_text}
 use Rattle.postscript_layout_write.specs.declared.anchors.Side.{Side}
 use Rattle.postscript_layout_write.specs.declared.anchors.Side.TheVariants.{Cursive, Singles}
 use Rattle.postscript_layout_write.proofs.Lists.{push-each}
 use Rattle.postscript_layout_write.proofs.Holding.{holds-in, holds-last, holds-on, holds-whole}
 use Rattle.postscript_layout_write.proofs.MarkWriting.{attaching-in, attaching-on}
-use Rattle.postscript_layout_write.proofs.PositionContexts.{context-part-in, context-part-on}
 
 -- a subtable with more bytes after it, and in other bytes
 has-rows-on : (side : Side) (gpos : List ℕ) (subtable : Option ℕ) (kept bytes more : List ℕ) (at : ℕ) → HasRows side gpos subtable kept bytes at →
@@ -49,15 +47,13 @@ part-on : (type : ℕ) (gpos : List ℕ) (part : Option ℕ) (kept bytes more : 
     HasPart type gpos part kept (bytes ++ more) at
 part-on type gpos part kept bytes more at (has_singles one s) = has_singles one (has-rows-on Singles gpos part kept bytes more at s)
 part-on type gpos part kept bytes more at (has_ends three s) = has_ends three (has-rows-on Cursive gpos (of_format1 gpos part) kept bytes more at s)
-part-on type gpos part kept bytes more at (has_context is s) = has_context is (context-part-on (same_type type) gpos part kept bytes more at s)
-part-on type gpos part kept bytes more at (has_marks a b other s) = has_marks a b other (attaching-on type gpos (of_format1 gpos part) kept bytes more at s)
+part-on type gpos part kept bytes more at (has_marks a b s) = has_marks a b (attaching-on type gpos (of_format1 gpos part) kept bytes more at s)
 
 pub part-in : (type : ℕ) (gpos : List ℕ) (part : Option ℕ) (kept t bytes : List ℕ) (at offset : ℕ) → Holds bytes t at →
     HasPart type gpos part kept bytes offset → HasPart type gpos part kept t (at + offset)
 part-in type gpos part kept t bytes at offset h (has_singles one s) = has_singles one (has-rows-in Singles gpos part kept t bytes at offset h s)
 part-in type gpos part kept t bytes at offset h (has_ends three s) = has_ends three (has-rows-in Cursive gpos (of_format1 gpos part) kept t bytes at offset h s)
-part-in type gpos part kept t bytes at offset h (has_context is s) = has_context is (context-part-in (same_type type) gpos part kept t bytes at offset h s)
-part-in type gpos part kept t bytes at offset h (has_marks a b other s) = has_marks a b other (attaching-in type gpos (of_format1 gpos part) kept t bytes at offset h s)
+part-in type gpos part kept t bytes at offset h (has_marks a b s) = has_marks a b (attaching-in type gpos (of_format1 gpos part) kept t bytes at offset h s)
 
 -- a subtable that is appended
 pub adds-rows : (side : Side) (gpos : List ℕ) (subtable : Option ℕ) (kept glyphs array old new : List ℕ) → length kept < 65536 →
@@ -84,13 +80,9 @@ pub ends-added : (type : ℕ) (gpos : List ℕ) (part : Option ℕ) (kept old ne
     AddsPart type gpos part kept old new
 ends-added type gpos part kept old new three adds = record { more = adds.more; bytes = adds.bytes; has = has_ends three adds.has }
 
-pub part-of-context : (type : ℕ) (gpos : List ℕ) (part : Option ℕ) (kept old new : List ℕ) → is_context type ≡ true →
-    AddsContextPart (same_type type) gpos part kept old new → AddsPart type gpos part kept old new
-part-of-context type gpos part kept old new is adds = record { more = adds.more; bytes = adds.bytes; has = has_context is adds.has }
-
-pub attaching-added : (type : ℕ) (gpos : List ℕ) (part : Option ℕ) (kept old new : List ℕ) → (type ≡ 1 → ⊥) → (type ≡ 3 → ⊥) → is_context type ≡ false →
+pub attaching-added : (type : ℕ) (gpos : List ℕ) (part : Option ℕ) (kept old new : List ℕ) → (type ≡ 1 → ⊥) → (type ≡ 3 → ⊥) →
     AddsAttaching type gpos (of_format1 gpos part) kept old new → AddsPart type gpos part kept old new
-attaching-added type gpos part kept old new a b other adds = record { more = adds.more; bytes = adds.bytes; has = has_marks a b other adds.has }
+attaching-added type gpos part kept old new a b adds = record { more = adds.more; bytes = adds.bytes; has = has_marks a b adds.has }
 
 pub rows-joined : (side : Side) (glyphs array out : List ℕ) →
     ((out ++ array_text (numbers_of side (lead_of side + length array))) ++ array) ++ coverage_text glyphs ≡ out ++ rows_text side glyphs array
@@ -125,9 +117,9 @@ parts-more gpos lookup type flag kept j offsets bytes newoffsets newbytes has ad
 pub adds-typed : (gpos kept : List ℕ) (lookup flag : ℕ) (offsets subtables old new : List ℕ) →
     HasParts gpos lookup (type_at gpos lookup) flag kept (word gpos (lookup + 4)) offsets subtables → length offsets ≤ 32000 →
     AreOffsets (6 + length offsets * 2) offsets → type_at gpos lookup < 65536 → flag < 65536 →
-    new ≡ old ++ parts_text (new_type (type_at gpos lookup)) flag offsets subtables → AddsTyped gpos kept lookup flag old new
+    new ≡ old ++ parts_text (type_at gpos lookup) flag offsets subtables → AddsTyped gpos kept lookup flag old new
 adds-typed gpos kept lookup flag offsets subtables old new parts few fit type small is = record {
-  more = parts_text (new_type (type_at gpos lookup)) flag offsets subtables;
+  more = parts_text (type_at gpos lookup) flag offsets subtables;
   bytes = is;
   has = record {
     offsets = offsets;
@@ -137,8 +129,8 @@ adds-typed gpos kept lookup flag offsets subtables old new parts few fit type sm
     fit = fit;
     type = type;
     small = small;
-    there = subst (λ (xs : List ℕ). Holds (parts_text (new_type (type_at gpos lookup)) flag offsets subtables) xs (length old)) (sym is)
-        (holds-last old (parts_text (new_type (type_at gpos lookup)) flag offsets subtables));
+    there = subst (λ (xs : List ℕ). Holds (parts_text (type_at gpos lookup) flag offsets subtables) xs (length old)) (sym is)
+        (holds-last old (parts_text (type_at gpos lookup) flag offsets subtables));
   };
 }
 

@@ -1,10 +1,11 @@
 -- Arrays that are written one number after the other.
-use Rattle.std.proofs.Common.{◌≡◌, sym, subst, ℕ, ◌+◌, ◌<◌, ◌≤◌, List, [], ◌∷◌, ◌++◌, length, length-append, get_or, take, drop, arith, inl, inr}
+use Rattle.std.proofs.Common.{◌≡◌, ◌∙◌, ap, sym, subst, ℕ, ◌+◌, ◌-◌, ◌*◌, ◌<◌, ◌≤◌, List, [], ◌∷◌, ◌++◌, length, length-append, length-drop, get_or, take, drop, arith, inl, inr}
 use Rattle.std.specs.Prelude.{Some}
 use Rattle.std.specs.List.{All, Contains}
 use Rattle.std.proofs.lemmas.List.{at_drop_more, at_drop_all, take_more}
 use Rattle.std.proofs.lemmas.List.Elements.{All-append, All-cons, All-nil, All-weaker, Contains-append_left, Contains-push, Contains-push_cases}
 use Rattle.postscript_layout_write.specs.Entries.{form_of}
+use Rattle.postscript_layout_write.specs.Pieces.{extension_text, extensions_text}
 use Rattle.postscript_layout_write.specs.Text.{AreOfForm, array_text, entries_text, entry_text, offsets_text, uint16}
 use Rattle.postscript_layout_write.specs.declared.entries.Entry.{Entry}
 use Rattle.postscript_layout_write.specs.declared.entries.Form.{Form}
@@ -34,6 +35,17 @@ entries-text-more form es i d less = at_drop_more (entries_text form) es i d les
 pub entries-text-done : (form : Form) (es : List Entry) (i : ℕ) → length es ≤ i → entries_text form (drop i es) ≡ []
 unfolding entries_text
 entries-text-done form es i past = at_drop_all (entries_text form) es i past
+
+pub extensions-more : (distance : ℕ) (ns : List ℕ) (i d : ℕ) → i < length ns → d ≡ (length ns - i) * 8 + distance + get_or ns i 0 →
+    extensions_text distance (drop i ns) ≡ extension_text d ++ extensions_text distance (drop (i + 1) ns)
+unfolding extensions_text
+extensions-more distance ns i d less is = at_drop_more (extensions_text distance) ns i 0 less
+    ∙ ap (λ n. extension_text n ++ extensions_text distance (drop (i + 1) ns)) {x = 8 + length (drop (i + 1) ns) * 8 + distance + get_or ns i 0} {y = d}
+    (let rest = length-drop (i + 1) ns in omega (arith, rest, less, is))
+
+pub extensions-done : (distance : ℕ) (ns : List ℕ) (i : ℕ) → length ns ≤ i → extensions_text distance (drop i ns) ≡ []
+unfolding extensions_text
+extensions-done distance ns i past = at_drop_all (extensions_text distance) ns i past
 
 pub all-more : {X : Type 0} (P : X → Type 0) (xs : List X) (i : ℕ) (d : X) → i < length xs → All P (take i xs) → P (get_or xs i d) → All P (take (i + 1) xs)
 all-more P xs i d less all here = subst (All P) (sym (take_more xs i d less))

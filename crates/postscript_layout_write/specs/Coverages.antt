@@ -128,10 +128,10 @@ pub record HaveContexts (contexts : List Context) (offsets bytes : List ℕ) : T
   pub same : length offsets ≡ length contexts
   pub each : (k : ℕ) → k < length contexts → HasContext (slice_index_or contexts k no_context) bytes (slice_index offsets k)
 
--- a lookup of chained contexts
-unfoldable pub chained_text : (flag : ℕ) → (offsets subtables : List ℕ) → List ℕ
-chained_text flag offsets subtables =
-    (uint16 6 ++ (uint16 flag ++ uint16 (length offsets))) ++ (offsets_text (6 + length offsets * 2) offsets ++ subtables)
+-- a lookup of chained contexts: of substitutions (type 6) or of positions (type 8)
+unfoldable pub chained_text : (type flag : ℕ) → (offsets subtables : List ℕ) → List ℕ
+chained_text type flag offsets subtables =
+    (uint16 type ++ (uint16 flag ++ uint16 (length offsets))) ++ (offsets_text (6 + length offsets * 2) offsets ++ subtables)
 
 -- contexts are added
 pub record AddsContexts (added : List Context) (old new : Contexts) : Type 0 where
@@ -140,14 +140,14 @@ pub record AddsContexts (added : List Context) (old new : Contexts) : Type 0 whe
   pub more : Begins old.bytes.items new.bytes.items
 
 -- a lookup of chained contexts is appended
-pub record PutsChained (flag : ℕ) (offsets subtables old new : List ℕ) : Type 0 where
+pub record PutsChained (type flag : ℕ) (offsets subtables old new : List ℕ) : Type 0 where
   pub few : length offsets ≤ 32764
   pub fit : AreOffsets (6 + length offsets * 2) offsets
   pub small : flag < 65536
-  pub text : new ≡ old ++ chained_text flag offsets subtables
+  pub text : new ≡ old ++ chained_text type flag offsets subtables
 
 -- a lookup of chained contexts is at an offset, with its set of marks before the subtables, if its flag uses one
-pub record HasChained (flag set : ℕ) (contexts : List Context) (bytes : List ℕ) (offset : ℕ) : Type 0 where
+pub record HasChained (type flag set : ℕ) (contexts : List Context) (bytes : List ℕ) (offset : ℕ) : Type 0 where
   pub offsets : List ℕ
   pub subtables : List ℕ
   pub have : HaveContexts contexts offsets subtables
@@ -156,4 +156,11 @@ pub record HasChained (flag set : ℕ) (contexts : List Context) (bytes : List �
   pub small : flag < 65536
   pub set_small : set < 65536
   pub begins : Holds (mark_set_text flag set) subtables 0
-  pub there : Holds (chained_text flag offsets subtables) bytes offset
+  pub type_small : type < 65536
+  pub there : Holds (chained_text type flag offsets subtables) bytes offset
+
+-- such a lookup is appended
+pub record AddsChained (type flag set : ℕ) (contexts : List Context) (old new : List ℕ) : Type 0 where
+  pub more : List ℕ
+  pub bytes : new ≡ old ++ more
+  pub has : HasChained type flag set contexts new (length old)

@@ -30,7 +30,7 @@ set_of gpos lookup = word gpos (lookup + 6 + word gpos (lookup + 4) * 2)
 abbrev pub has_kept_type : List ℕ → (lookup : ℕ) → Bool
 has_kept_type gpos lookup = is_kept_type (type_at gpos lookup) && has_no_pairs gpos lookup
 
--- whether a lookup has contexts of sets of glyphs only, and no pairs
+-- whether a lookup has contexts only, and no pairs
 abbrev pub has_contexts : List ℕ → (lookup : ℕ) → Bool
 has_contexts gpos lookup = is_contextual gpos lookup && has_no_pairs gpos lookup
 

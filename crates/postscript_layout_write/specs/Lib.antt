@@ -10,6 +10,8 @@ pub mod Entries
 pub mod Sets
 pub mod Holds
 pub mod Kerning
+pub mod Forms
+pub mod Pieces
 pub mod Lookups
 pub mod ScriptLists
 pub mod Rules

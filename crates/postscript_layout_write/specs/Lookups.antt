@@ -1,64 +1,20 @@
 -- Lookups as they are written. Only contracts of private functions and proofs name this.
-use Rattle.std.specs.Prelude.{◌≡◌, ℕ, true, false, ◌+◌, ◌*◌, ◌<◌, ◌≤◌, List, [], ◌++◌, Some, length, slice_index}
+use Rattle.std.specs.Prelude.{◌≡◌, ℕ, true, false, ◌+◌, ◌-◌, ◌*◌, ◌<◌, ◌≤◌, List, ◌++◌, length, slice_index}
 use Rattle.postscript_layout.specs.Numbers.{word}
-use Rattle.postscript_layout_write.specs.Entries.{form_of}
-use Rattle.postscript_layout_write.specs.Holds.{Holds}
+use Rattle.postscript_layout_write.specs.Coverages.{HasChained}
 use Rattle.postscript_layout_write.specs.Flags.{KeepsFlaggedPositions, set_of}
 use Rattle.postscript_layout_write.specs.Kerning.{KeepsKerning}
+use Rattle.postscript_layout_write.specs.Marks.{type_at}
 use Rattle.postscript_layout_write.specs.Pairs.{lookup_at, lookups_of}
+use Rattle.postscript_layout_write.specs.Pieces.{HasLookup}
+use Rattle.postscript_layout_write.specs.PositionContexts.{contexts_by}
 use Rattle.postscript_layout_write.specs.Positions.{KeepsPositions}
-use Rattle.postscript_layout_write.specs.Scopes.{new_flag, mark_set_text, new_pair, takes_contexts, takes_type}
-use Rattle.postscript_layout_write.specs.Sets.{Adds, AddsSubtable, AreOffsets, AreSets, HasSubtable}
-use Rattle.postscript_layout_write.specs.Text.{list_text, lookup_text}
+use Rattle.postscript_layout_write.specs.Scopes.{new_flag, new_pair, takes_contexts, takes_type}
+use Rattle.postscript_layout_write.specs.Sets.{AreOffsets}
+use Rattle.postscript_layout_write.specs.Text.{list_text}
 use Rattle.postscript_layout_write.specs.Typed.{HasTyped}
-use Rattle.postscript_layout_write.specs.declared.entries.Entry.{Entry}
-use Rattle.postscript_layout_write.specs.declared.entries.Form.{Form}
-use Rattle.postscript_layout_write.specs.declared.entries.Form.TheVariants.{Advance, First, Both}
-use Rattle.postscript_layout_write.specs.declared.positioning.Forms.{Forms}
 use Rattle.postscript_layout_write.specs.declared.scope.Scope.{Scope}
 use Rattle.postscript_layout_write.specs.declared.scope.Scope.TheVariants.{Flags, Marks, Pairs}
-use Rattle.postscript_layout_write.specs.declared.values.Adjustment.{Adjustment}
-
--- the pairs of a first glyph are added to each form
-pub record AddsForms (glyph : ℕ) (entries : List Entry) (old new : Forms) : Type 0 where
-  pub advance : Adds Advance glyph entries old.advance new.advance
-  pub first : Adds First glyph entries old.first new.first
-  pub both : Adds Both glyph entries old.both new.both
-
--- the pairs for first glyphs below a number are there in each form
-pub record AreForms (f : (x y : ℕ) → Adjustment) (count : ℕ) (forms : Forms) : Type 0 where
-  pub advance : AreSets Advance f count forms.advance.firsts.items forms.advance.offsets.items forms.advance.bytes.items
-  pub first : AreSets First f count forms.first.firsts.items forms.first.offsets.items forms.first.bytes.items
-  pub both : AreSets Both f count forms.both.firsts.items forms.both.offsets.items forms.both.bytes.items
-
--- a lookup with the subtables of three forms is appended
-pub record PutsLookup (flag set : ℕ) (forms : Forms) (old new : List ℕ) : Type 0 where
-  pub bytes1 : List ℕ
-  pub offsets1 : List ℕ
-  pub bytes2 : List ℕ
-  pub offsets2 : List ℕ
-  pub bytes : List ℕ
-  pub offsets : List ℕ
-  pub advance : AddsSubtable Advance forms.advance (mark_set_text flag set) bytes1 [] offsets1
-  pub first : AddsSubtable First forms.first bytes1 bytes2 offsets1 offsets2
-  pub both : AddsSubtable Both forms.both bytes2 bytes offsets2 offsets
-  pub fit : AreOffsets (6 + length offsets * 2) offsets
-  pub small : flag < 65536
-  pub set_small : set < 65536
-  pub text : new ≡ old ++ lookup_text flag offsets bytes
-
--- a lookup at an offset has a flag, a set of marks, if it uses one, and the pairs
-pub record HasLookup (flag set : ℕ) (f : (x y : ℕ) → Adjustment) (bytes : List ℕ) (offset : ℕ) : Type 0 where
-  pub offsets : List ℕ
-  pub subtables : List ℕ
-  pub each : (j : ℕ) → j < length offsets → (form : Form) × HasSubtable form f subtables (slice_index offsets j)
-  pub all : (form : Form) (x y : ℕ) → form_of (f x y) ≡ Some form → (j : ℕ) × (j < length offsets) × HasSubtable form f subtables (slice_index offsets j)
-  pub few : length offsets ≤ 3
-  pub fit : AreOffsets (6 + length offsets * 2) offsets
-  pub small : flag < 65536
-  pub set_small : set < 65536
-  pub begins : Holds (mark_set_text flag set) subtables 0
-  pub there : Holds (lookup_text flag offsets subtables) bytes offset
 
 -- the lookup at an offset has the pairs of a lookup of the old table, its type and all of its subtables, or its contexts
 pub data HasPosition (scope : Scope) (gpos kept : List ℕ) (lookup : ℕ) (bytes : List ℕ) (offset : ℕ) : Type 0 where
@@ -67,13 +23,26 @@ pub data HasPosition (scope : Scope) (gpos kept : List ℕ) (lookup : ℕ) (byte
       HasPosition scope gpos kept lookup bytes offset
   has_typed : takes_type scope gpos lookup ≡ true → HasTyped gpos kept lookup (new_flag scope (word gpos (lookup + 2))) bytes offset →
       HasPosition scope gpos kept lookup bytes offset
-  has_contexts : takes_contexts scope gpos lookup ≡ true → HasTyped gpos kept lookup (new_flag scope (word gpos (lookup + 2))) bytes offset →
+  has_contexts : takes_contexts scope gpos lookup ≡ true →
+      HasChained 8 (new_flag scope (word gpos (lookup + 2))) (set_of gpos lookup) (contexts_by gpos kept lookup (type_at gpos lookup)) bytes offset →
       HasPosition scope gpos kept lookup bytes offset
 
-pub record AddsPosition (scope : Scope) (gpos kept : List ℕ) (lookup : ℕ) (old new : List ℕ) : Type 0 where
-  pub more : List ℕ
-  pub bytes : new ≡ old ++ more
-  pub has : HasPosition scope gpos kept lookup new (length old)
+-- The bytes of a lookup, and those of its subtables that follow all lookups. The end of all lookups and subtables is at a distance after it.
+abbrev pub MakesPosition : (scope : Scope) → (gpos kept : List ℕ) → (lookup distance : ℕ) → (front behind : List ℕ) → Type 0
+MakesPosition scope gpos kept lookup distance front behind =
+    (between : List ℕ) → length between ≡ distance → HasPosition scope gpos kept lookup (front ++ (between ++ behind)) 0
+
+-- The last lookups are there, and the subtables that follow all lookups. A distance for each lookup, the last one first, says how far its beginning is
+-- from the end of the lookups.
+pub record HasLast (scope : Scope) (gpos kept : List ℕ) (count : ℕ) (distances lookups subtables : List ℕ) : Type 0 where
+  pub many : length distances ≡ count
+  pub each : (i k : ℕ) → k < count → i + k + 1 ≡ lookups_of gpos →
+      (offset : ℕ) × (offset + slice_index distances k ≡ length lookups) × HasPosition scope gpos kept (lookup_at gpos i) (lookups ++ subtables) offset
+
+-- the offsets of lookups, by these distances
+pub record AreStarts (size : ℕ) (distances offsets : List ℕ) : Type 0 where
+  pub many : length offsets ≡ length distances
+  pub each : (i k : ℕ) → i + k + 1 ≡ length distances → slice_index offsets i ≡ size - slice_index distances k
 
 -- the first lookups are there
 pub record HasLookups (scope : Scope) (gpos kept : List ℕ) (count : ℕ) (offsets bytes : List ℕ) : Type 0 where

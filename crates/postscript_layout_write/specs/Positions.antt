@@ -28,7 +28,7 @@ has_no_pairs gpos lookup = is_none (first_some (λ j. pairs_at gpos lookup j) (w
 abbrev pub keeps_type : List ℕ → (lookup : ℕ) → Bool
 keeps_type gpos lookup = (is_kept_type (type_at gpos lookup) && nat_lt (word gpos (lookup + 2)) 16) && has_no_pairs gpos lookup
 
--- A lookup keeps its contexts if they are contexts of sets of glyphs, if its flag has no bit above bit 3, and if it has no pairs.
+-- A lookup keeps its contexts if all of its subtables have contexts, if its flag has no bit above bit 3, and if it has no pairs.
 abbrev pub keeps_contexts : List ℕ → (lookup : ℕ) → Bool
 keeps_contexts gpos lookup = (is_contextual gpos lookup && nat_lt (word gpos (lookup + 2)) 16) && has_no_pairs gpos lookup
 

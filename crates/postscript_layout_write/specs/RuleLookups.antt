@@ -23,7 +23,7 @@ pub data HasNewLookup (whole : Bool) (gsub chosen kept : List ℕ) (i : ℕ) (by
       HasRuleLookup (new_type gsub (lookup_at gsub i)) (new_flag whole (flag_of gsub i)) (set_of gsub (lookup_at gsub i)) (new_rules whole gsub chosen kept i) bytes offset →
       HasNewLookup whole gsub chosen kept i bytes offset
   has_contexts : keeps_contexts whole gsub chosen i (lookup_at gsub i) ≡ true →
-      HasChained (new_flag whole (flag_of gsub i)) (set_of gsub (lookup_at gsub i)) (contexts_at gsub kept (lookup_at gsub i) (type_at gsub (lookup_at gsub i))) bytes offset →
+      HasChained 6 (new_flag whole (flag_of gsub i)) (set_of gsub (lookup_at gsub i)) (contexts_at gsub kept (lookup_at gsub i) (type_at gsub (lookup_at gsub i))) bytes offset →
       HasNewLookup whole gsub chosen kept i bytes offset
 
 -- the first lookups are there
@@ -38,7 +38,7 @@ pub record PutsContexts (whole : Bool) (gsub kept : List ℕ) (lookup : ℕ) (ol
   pub have : HaveContexts (contexts_at gsub kept lookup (type_at gsub lookup)) offsets subtables
   pub set_small : set_of gsub lookup < 65536
   pub begins : Holds (mark_set_text (new_flag whole (word gsub (lookup + 2))) (set_of gsub lookup)) subtables 0
-  pub puts : PutsChained (new_flag whole (word gsub (lookup + 2))) offsets subtables old new
+  pub puts : PutsChained 6 (new_flag whole (word gsub (lookup + 2))) offsets subtables old new
 
 -- the rules of a lookup at an offset are appended as a lookup
 pub record PutsOwnRules (whole : Bool) (gsub chosen kept : List ℕ) (lookup i : ℕ) (old new : List ℕ) : Type 0 where

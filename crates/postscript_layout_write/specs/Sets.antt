@@ -37,28 +37,17 @@ pub record HasSet (form : Form) (g : ℕ → Adjustment) (bytes : List ℕ) (off
   pub few : length entries < 65536
   pub there : Holds (set_text form entries) bytes offset
 
--- the sets of a form have its pairs, for first glyphs below a number
-pub record AreSets (form : Form) (f : (x y : ℕ) → Adjustment) (count : ℕ) (firsts offsets bytes : List ℕ) : Type 0 where
+-- the sets of a form have the pairs of their first glyphs
+pub record AreSets (form : Form) (f : (x y : ℕ) → Adjustment) (firsts offsets bytes : List ℕ) : Type 0 where
   pub same : length offsets ≡ length firsts
   pub fit : (k : ℕ) → k < length firsts → slice_index firsts k < 65536
   pub each : (k : ℕ) → k < length firsts → HasSet form (f (slice_index firsts k)) bytes (slice_index offsets k)
-  pub all : (x y : ℕ) → x < count → form_of (f x y) ≡ Some form → Contains firsts x
 
--- a subtable at an offset has all pairs of a form
-pub record HasSubtable (form : Form) (f : (x y : ℕ) → Adjustment) (bytes : List ℕ) (offset : ℕ) : Type 0 where
-  pub firsts : List ℕ
+-- a subtable at an offset has the pairs of a form with some first glyphs
+pub record HasSubtable (form : Form) (f : (x y : ℕ) → Adjustment) (firsts bytes : List ℕ) (offset : ℕ) : Type 0 where
   pub offsets : List ℕ
   pub sets : List ℕ
-  pub count : ℕ
-  pub are : AreSets form f count firsts offsets sets
-  pub bounded : (x y : ℕ) → count ≤ x → form_of (f x y) ≡ None
+  pub are : AreSets form f firsts offsets sets
   pub fit : AreOffsets (14 + length firsts * 4) offsets
   pub few : length firsts ≤ 16380
   pub there : Holds (subtable_text form firsts offsets sets) bytes offset
-
--- a subtable is appended, if there are pairs of its form
-pub data AddsSubtable (form : Form) (sets : Sets) (old new oldoffsets newoffsets : List ℕ) : Type 0 where
-  no_subtable : sets.firsts.items ≡ [] → new ≡ old → newoffsets ≡ oldoffsets → AddsSubtable form sets old new oldoffsets newoffsets
-  one_subtable : AreOffsets (14 + length sets.firsts.items * 4) sets.offsets.items → length sets.firsts.items ≤ 16380 →
-      new ≡ old ++ subtable_text form sets.firsts.items sets.offsets.items sets.bytes.items → newoffsets ≡ oldoffsets ++ length old ∷ [] →
-      AddsSubtable form sets old new oldoffsets newoffsets

@@ -97,11 +97,6 @@ pub record AreOfForm (form : Form) (entries found : List Entry) : Type 0 where
   pub all : (e : Entry) → Contains entries e → form_of e.adjustment ≡ Some form → Contains found e
   pub few : length found ≤ length entries
 
--- a lookup of type 2 with subtables
-unfoldable pub lookup_text : (flag : ℕ) → (offsets subtables : List ℕ) → List ℕ
-lookup_text flag offsets subtables =
-    (uint16 2 ++ (uint16 flag ++ uint16 (length offsets))) ++ (offsets_text (6 + length offsets * 2) offsets ++ subtables)
-
 -- a lookup list
 unfoldable pub list_text : (offsets lookups : List ℕ) → List ℕ
 list_text offsets lookups = uint16 (length offsets) ++ (offsets_text (2 + length offsets * 2) offsets ++ lookups)

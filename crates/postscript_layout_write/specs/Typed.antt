@@ -1,15 +1,10 @@
 -- Lookups that are written with a subtable for each old one. Only contracts of private functions and proofs name this.
-use Rattle.std.specs.Prelude.{◌≡◌, ℕ, ◌+◌, ◌*◌, ◌<◌, ◌≤◌, List, [], ◌∷◌, ◌++◌, Option, Some, true, false, length, slice_index, if◌then◌else◌}
+use Rattle.std.specs.Prelude.{◌≡◌, ℕ, ◌+◌, ◌*◌, ◌<◌, ◌≤◌, List, ◌++◌, Option, length, slice_index}
 use Rattle.postscript_layout.specs.Numbers.{word}
 use Rattle.postscript_layout_write.specs.Attaching.{HasAttaching, IsArray, lead_of, numbers_of}
-use Rattle.postscript_layout_write.specs.Contexts.{context_of}
-use Rattle.postscript_layout_write.specs.PositionContexts.{context_in}
-use Rattle.postscript_layout_write.specs.Sequences.{Context}
-use Rattle.postscript_layout_write.specs.Coverages.{HasContext}
 use Rattle.postscript_layout_write.specs.Flags.{set_of}
 use Rattle.postscript_layout_write.specs.Holds.{Holds}
 use Rattle.postscript_layout_write.specs.Marks.{of_format1, type_at, typed_at}
-use Rattle.postscript_layout_write.specs.PositionContexts.{is_context, same_type}
 use Rattle.postscript_layout_write.specs.RuleSets.{rule_head_text}
 use Rattle.postscript_layout_write.specs.Scopes.{mark_set_text}
 use Rattle.postscript_layout_write.specs.Sets.{AreOffsets}
@@ -42,30 +37,11 @@ pub record AddsRows (side : Side) (gpos : List ℕ) (subtable : Option ℕ) (kep
   pub bytes : new ≡ old ++ more
   pub has : HasRows side gpos subtable kept new (length old)
 
--- a context that never applies, since a set of its input is empty
-abbrev pub never_applies : Context
-never_applies = record { before = []; input = [] ∷ []; after = []; actions = [] }
-
--- the table of this context: its input has one coverage table, which has no glyphs
-unfoldable pub never_text : List ℕ
-never_text = array_text (3 ∷ 0 ∷ 1 ∷ 12 ∷ 0 ∷ 0 ∷ 1 ∷ 0 ∷ [])
-
--- a chained context at an offset is that of a subtable of a type of substitutions, if that can apply
-pub data HasContextPart (type : ℕ) (gpos : List ℕ) (part : Option ℕ) (kept bytes : List ℕ) (offset : ℕ) : Type 0 where
-  applies : (subtable : ℕ) → part ≡ Some subtable → HasContext (context_of gpos kept type subtable) bytes offset → HasContextPart type gpos part kept bytes offset
-  never : context_in gpos kept type part ≡ [] → HasContext never_applies bytes offset → HasContextPart type gpos part kept bytes offset
-
-pub record AddsContextPart (type : ℕ) (gpos : List ℕ) (part : Option ℕ) (kept old new : List ℕ) : Type 0 where
-  pub more : List ℕ
-  pub bytes : new ≡ old ++ more
-  pub has : HasContextPart type gpos part kept new (length old)
-
--- a subtable at an offset has the adjustments, the ends or the marks of the kept glyphs, or a context, by its type
+-- a subtable at an offset has the adjustments, the ends or the marks of the kept glyphs, by its type
 pub data HasPart (type : ℕ) (gpos : List ℕ) (part : Option ℕ) (kept bytes : List ℕ) (offset : ℕ) : Type 0 where
   has_singles : type ≡ 1 → HasRows Singles gpos part kept bytes offset → HasPart type gpos part kept bytes offset
   has_ends : type ≡ 3 → HasRows Cursive gpos (of_format1 gpos part) kept bytes offset → HasPart type gpos part kept bytes offset
-  has_context : is_context type ≡ true → HasContextPart (same_type type) gpos part kept bytes offset → HasPart type gpos part kept bytes offset
-  has_marks : (type ≡ 1 → ⊥) → (type ≡ 3 → ⊥) → is_context type ≡ false → HasAttaching type gpos (of_format1 gpos part) kept bytes offset → HasPart type gpos part kept bytes offset
+  has_marks : (type ≡ 1 → ⊥) → (type ≡ 3 → ⊥) → HasAttaching type gpos (of_format1 gpos part) kept bytes offset → HasPart type gpos part kept bytes offset
 
 pub record AddsPart (type : ℕ) (gpos : List ℕ) (part : Option ℕ) (kept old new : List ℕ) : Type 0 where
   pub more : List ℕ
@@ -84,10 +60,6 @@ unfoldable pub parts_text : (type flag : ℕ) → (offsets subtables : List ℕ)
 parts_text type flag offsets subtables =
     rule_head_text type flag (length offsets) ++ (offsets_text (6 + length offsets * 2) offsets ++ subtables)
 
--- the type that is written: all contexts are written as chained contexts
-abbrev pub new_type : (type : ℕ) → ℕ
-new_type type = if is_context type then 8 else type
-
 -- a lookup at an offset has the type of an old one, a flag, and a subtable for each old one
 pub record HasTyped (gpos kept : List ℕ) (lookup flag : ℕ) (bytes : List ℕ) (offset : ℕ) : Type 0 where
   pub offsets : List ℕ
@@ -97,7 +69,7 @@ pub record HasTyped (gpos kept : List ℕ) (lookup flag : ℕ) (bytes : List ℕ
   pub fit : AreOffsets (6 + length offsets * 2) offsets
   pub type : type_at gpos lookup < 65536
   pub small : flag < 65536
-  pub there : Holds (parts_text (new_type (type_at gpos lookup)) flag offsets subtables) bytes offset
+  pub there : Holds (parts_text (type_at gpos lookup) flag offsets subtables) bytes offset
 
 pub record AddsTyped (gpos kept : List ℕ) (lookup flag : ℕ) (old new : List ℕ) : Type 0 where
   pub more : List ℕ

@@ -1,4 +1,5 @@
-//! Contexts of substitutions (types 5 and 6), which are written as chained contexts of sets of glyphs (format 3).
+//! Contexts of substitutions (types 5 and 6) and of positions (types 7 and 8), which are written as chained contexts of sets
+//! of glyphs (format 3).
 ghost use Rattle.std.specs.Prelude.{◌≡◌, ◌⊎◌, ◌+◌, ◌*◌, ◌^◌, ◌<◌, ◌≤◌, ◌++◌, ◌&&◌, [], ◌∷◌, ℕ, Some, true, length, IfErr, IfOk, IfSome, OnOk};
 ghost use Rattle.std.specs.List.{All};
 ghost use Rattle.postscript_layout.specs.Numbers.{word as the_word, words as the_words};
@@ -92,7 +93,7 @@ pub(crate) fn parts_of(gsub: &[u8], kind: usize, subtable: usize) -> Parts
 }
 
 /// Whether a subtable has a format from 1 to 3.
-fn has_format(gsub: &[u8], subtable: Option<usize>) -> bool
+pub(crate) fn has_format(gsub: &[u8], subtable: Option<usize>) -> bool
     requires near { IfSome subtable (λ at. at < 2 ^ 33) }
     ensures { result ≡ the_format gsub.now subtable }
 {
@@ -421,7 +422,7 @@ impl Contexts {
     }
 
     /// Adds the contexts of a subtable that can apply to kept glyphs.
-    fn add(
+    pub(crate) fn add(
         &mut self,
         alloc: Global,
         source: &Source<'_>,
@@ -476,17 +477,22 @@ pub(crate) fn contexts_of(
     Ok(contexts)
 }
 
-/// Appends a lookup of chained contexts.
+/// Appends a lookup of chained contexts, of a type.
 #[tactic(auto, unfolding(crate::specs::Coverages::chained_text))]
-pub(crate) fn put_chained(out: &mut Vec<u8>, flag: u16, contexts: &Contexts) -> Result<()>
-    ensures done { OnOk result (PutsChained flag contexts.now.offsets.items contexts.now.bytes.items out.old.items out.new.items) }
+pub(crate) fn put_chained(
+    out: &mut Vec<u8>,
+    kind: u16,
+    flag: u16,
+    contexts: &Contexts,
+) -> Result<()>
+    ensures done { OnOk result (PutsChained kind flag contexts.now.offsets.items contexts.now.bytes.items out.old.items out.new.items) }
     ensures why { IfErr result (λ e. (e ≡ errors.Memory) ⊎ (e ≡ errors.TooLarge)) }
 {
     let count = contexts.offsets.len();
     if count > 32764 {
         return Err(Error::TooLarge);
     }
-    put_uint16(out, 6)?;
+    put_uint16(out, kind)?;
     put_uint16(out, flag)?;
     put_uint16(out, count as u16)?;
     put_offsets(out, 6 + count * 2, &contexts.offsets)?;

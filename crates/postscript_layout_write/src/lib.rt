@@ -4,16 +4,17 @@
 //!
 //! It is proved that each lookup of the new `GPOS` table adjusts each pair of kept glyphs exactly as the lookup of the
 //! same index of the old table, and no other pair (`KeepsKerning` in specs/Kerning.antt). The first subtable that applies
-//! to a pair counts, in both formats, and extensions are followed (specs/Pairs.antt). The script list and the feature list
-//! have the same bytes at the same offsets, with all tables that they name (specs/ScriptLists.antt). Each kept glyph has
-//! its class (specs/Classes.antt).
+//! to a pair counts, in both formats, and extensions are followed (specs/Pairs.antt). The number of pairs has no bound:
+//! many pairs are in several subtables, which follow all lookups, and the lookup has extensions. The script list and the
+//! feature list have the same bytes at the same offsets, with all tables that they name (specs/ScriptLists.antt). Each kept
+//! glyph has its class (specs/Classes.antt).
 //!
 //! With `positions`, each lookup also adjusts each kept single glyph as before, and attaches each kept mark to each kept
 //! base, mark or component of a ligature at the same anchors as before, and nothing else (`KeepsPositions` in
 //! specs/Positions.antt). It also connects each kept glyph to each kept next glyph, by the same exit and entry anchors. The
 //! first subtable that covers the single glyph counts (specs/Singles.antt). For a connection it is the first subtable with
 //! both anchors (specs/Cursive.antt), and for a mark the first one with an anchor for its class (specs/Marks.antt,
-//! specs/Ligatures.antt). A lookup has the contexts by sets of glyphs whose sets all have kept glyphs, with the same actions
+//! specs/Ligatures.antt). A lookup has the contexts whose sets of glyphs all have kept glyphs, with the same actions
 //! (specs/PositionContexts.antt). With `flagged_positions`, lookups that use classes or sets of marks are kept too
 //! (`KeepsFlaggedPositions` in specs/Flags.antt). They need a `GDEF` table by `glyph_definitions`, in which each kept glyph
 //! has the same classes and is in the same sets (specs/Definitions.antt).
@@ -25,17 +26,17 @@
 //! With `flagged_substitutions`, lookups that use classes or sets of marks are kept too, as by `flagged_positions`.
 //!
 //! It also has the contexts of the old one whose sets of glyphs all have kept glyphs, with the same actions and in the same
-//! order (specs/Contexts.antt). Each rule of a context by glyphs or by classes (formats 1 and 2 of types 5 and 6) is a
-//! context of its own (specs/ContextRules.antt). All are written as chained contexts by sets of glyphs (format 3). A lookup
-//! keeps them only if all of its subtables have one of the three formats. `with_called` returns the lookups that contexts
+//! order (specs/Contexts.antt). In both tables each rule of a context by glyphs or by classes (formats 1 and 2) is a context
+//! of its own (specs/ContextRules.antt). All are written as chained contexts by sets of glyphs (format 3). A lookup keeps
+//! them only if all of its subtables have one of the three formats. `with_called` returns the lookups that contexts
 //! apply, which have to be chosen too (specs/Calls.antt).
 //!
 //! What is left out:
 //!
 //! - Of `GPOS`, `kerning` keeps only pair adjustments (type 2). `positions` and `flagged_positions` also keep single
-//!   adjustments (type 1), cursive attachment (type 3), marks (types 4 to 6), and contexts by sets of glyphs (format 3 of
-//!   types 7 and 8). Other lookups have no subtables, so the lookup indices of features stay valid. `positions_left_out`
-//!   and `flagged_positions_left_out` list them.
+//!   adjustments (type 1), cursive attachment (type 3), marks (types 4 to 6), and contexts (types 7 and 8). Other lookups
+//!   have no subtables, so the lookup indices of features stay valid. `positions_left_out` and
+//!   `flagged_positions_left_out` list them.
 //! - Of `GSUB`, single, multiple, alternate and ligature substitutions are kept, and contexts, also in extensions. Reverse
 //!   chaining (type 8) is not, and lookups that are not chosen have no subtables.
 //! - A lookup with a flag above bit 3, which uses a set or a class of marks, keeps its positions only by
@@ -46,7 +47,8 @@
 //! - Contour points, device tables, variation indexes and feature variations are dropped: the new table has version 1.0.
 //! - Numbers past the end of the old table are 0. If a coverage table, a class definition or a set of pairs is not in
 //!   order, its first entry counts. Readers that search by halves may find another entry there.
-//! - No clause says when `TooLarge` comes, how small the new table is, or which limit suffices.
+//! - Lookups of `GPOS` other than pair adjustments, and all lookups of `GSUB`, have no extensions: more than 64 kB of them
+//!   are too large. No clause says when `TooLarge` comes, how small the new table is, or which limit suffices.
 #![tactic(auto)]
 
 mod anchors;
@@ -59,6 +61,7 @@ mod coverages;
 mod definitions;
 mod entries;
 mod error;
+mod forms;
 mod labels;
 mod leaving;
 mod left_positions;
@@ -68,6 +71,7 @@ mod lookups;
 mod marks;
 mod numbers;
 mod pairs;
+mod pieces;
 mod position_contexts;
 mod positioning;
 mod ranges;

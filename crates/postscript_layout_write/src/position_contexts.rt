@@ -1,19 +1,21 @@
-//! Contexts of positions by sets of glyphs (format 3 of types 7 and 8), which are written as chained contexts.
-ghost use Rattle.std.specs.Prelude.{◌≡◌, ◌⊎◌, ◌^◌, ◌<◌, ◌≤◌, ◌++◌, Some, length, IfErr, IfOk, IfSome, OnOk};
-ghost use Rattle.postscript_layout_write.specs.Flags.{has_contexts as the_having};
-ghost use Rattle.postscript_layout_write.specs.PositionContexts.{all_have_sets as the_sets, is_context as the_context, has_sets as the_has_sets, is_contextual as the_contextual, same_type as the_same};
+//! Contexts of positions (types 7 and 8), which are written as chained contexts by sets of glyphs (format 3).
+ghost use Rattle.std.specs.Prelude.{◌≡◌, ◌^◌, ◌<◌, ◌≤◌, length, IfErr, IfOk, OnOk};
+ghost use Rattle.postscript_layout_write.specs.Coverages.{AddsChained, HaveContexts};
+ghost use Rattle.postscript_layout_write.specs.Flags.{has_contexts as the_having, set_of};
+ghost use Rattle.postscript_layout_write.specs.Holds.{Holds};
+ghost use Rattle.postscript_layout_write.specs.Marks.{type_at};
+ghost use Rattle.postscript_layout_write.specs.PositionContexts.{all_have_formats as the_formats, contexts_by, is_context as the_context, is_contextual as the_contextual, same_type as the_same};
 ghost use Rattle.postscript_layout_write.specs.Positions.{keeps_contexts as the_keeps};
 ghost use Rattle.postscript_layout_write.specs.Refusals.{Fails, IsUsedUp};
-ghost use Rattle.postscript_layout_write.specs.Typed.{AddsContextPart, never_text};
-ghost use Rattle.postscript_layout_write.specs.declared.error.Error.TheVariants as errors;
+ghost use Rattle.postscript_layout_write.specs.Scopes.{mark_set_text};
 
-use crate::contexts::{Source, can_apply, made_of, parts_of, put_context};
+use crate::contexts::{Contexts, Source, has_format, put_chained};
 use crate::error::Result;
 use crate::limit::pay;
 use crate::numbers::word;
-use crate::subtables::put_glyphs;
+use crate::scope::put_set;
 use crate::typed::{has_no_pairs, subtable_at, type_of};
-use std::alloc::{AllocError, Global};
+use std::alloc::Global;
 
 /// Whether lookups of a type have contexts.
 pub(crate) fn is_context(kind: usize) -> bool
@@ -29,35 +31,24 @@ pub(crate) fn same_type(kind: usize) -> usize
     if kind == 7 { 5 } else { 6 }
 }
 
-/// Whether a subtable has format 3.
-fn has_sets(gpos: &[u8], subtable: Option<usize>) -> bool
-    requires near { IfSome subtable (λ at. at < 2 ^ 33) }
-    ensures { result ≡ the_has_sets gpos.now subtable }
-{
-    match subtable {
-        Some(subtable) => word(gpos, subtable) == 3,
-        None => false,
-    }
-}
-
-/// Whether all subtables of a lookup of a type have format 3.
-fn all_have_sets(gpos: &[u8], lookup: usize, kind: usize, limit: &mut u64) -> Result<bool>
+/// Whether all subtables of a lookup of a type have a format from 1 to 3.
+fn all_have_formats(gpos: &[u8], lookup: usize, kind: usize, limit: &mut u64) -> Result<bool>
     requires near { lookup < 2 ^ 31 }
-    ensures exact { IfOk result (λ all. all ≡ the_sets gpos.now lookup kind) }
+    ensures exact { IfOk result (λ all. all ≡ the_formats gpos.now lookup kind) }
     ensures spends { limit.new ≤ limit.old }
     ensures why { IfErr result (λ e. IsUsedUp limit.new e) }
 {
     let count = word(gpos, lookup + 4);
     for j in 0..count {
         pay(limit)?;
-        if !has_sets(gpos, subtable_at(gpos, lookup, kind, j)) {
+        if !has_format(gpos, subtable_at(gpos, lookup, kind, j)) {
             return Ok(false);
         }
     }
     Ok(true)
 }
 
-/// Whether a lookup has contexts of sets of glyphs only.
+/// Whether a lookup has contexts, all of them of formats from 1 to 3.
 pub(crate) fn is_contextual(gpos: &[u8], lookup: usize, limit: &mut u64) -> Result<bool>
     requires near { lookup < 2 ^ 31 }
     ensures exact { IfOk result (λ is. is ≡ the_contextual gpos.now lookup) }
@@ -66,14 +57,14 @@ pub(crate) fn is_contextual(gpos: &[u8], lookup: usize, limit: &mut u64) -> Resu
 {
     let kind = type_of(gpos, lookup);
     if is_context(kind) {
-        let all = all_have_sets(gpos, lookup, kind, limit)?;
+        let all = all_have_formats(gpos, lookup, kind, limit)?;
         Ok(all)
     } else {
         Ok(false)
     }
 }
 
-/// Whether a lookup keeps its contexts: they are contexts of sets of glyphs, it uses no classes or sets of marks, and it has
+/// Whether a lookup keeps its contexts: all of its subtables have contexts, it uses no classes or sets of marks, and it has
 /// no pairs.
 pub(crate) fn keeps_contexts(gpos: &[u8], lookup: usize, limit: &mut u64) -> Result<bool>
     requires near { lookup < 2 ^ 31 }
@@ -90,7 +81,7 @@ pub(crate) fn keeps_contexts(gpos: &[u8], lookup: usize, limit: &mut u64) -> Res
     }
 }
 
-/// Whether a lookup has contexts of sets of glyphs only, and no pairs.
+/// Whether a lookup has contexts only, and no pairs.
 pub(crate) fn has_contexts(gpos: &[u8], lookup: usize, limit: &mut u64) -> Result<bool>
     requires near { lookup < 2 ^ 31 }
     ensures exact { IfOk result (λ has. has ≡ the_having gpos.now lookup) }
@@ -106,63 +97,57 @@ pub(crate) fn has_contexts(gpos: &[u8], lookup: usize, limit: &mut u64) -> Resul
     }
 }
 
-/// Appends a context that never applies, since a set of its input is empty.
-#[tactic(auto, unfolding(crate::specs::Typed::never_text))]
-fn put_never(out: &mut Vec<u8>) -> std::result::Result<(), AllocError>
-    ensures { OnOk result (out.new.items ≡ out.old.items ++ never_text) }
-{
-    put_glyphs(out, &[3, 0, 1, 12, 0, 0, 1, 0])
-}
-
-/// Appends the context of a subtable, or one that never applies, if it cannot apply to kept glyphs.
-fn add_context_of(
+/// Collects the contexts of a lookup that can apply to kept glyphs, after its set of marks, if its new flag uses one.
+fn contexts_of(
     alloc: Global,
-    out: &mut Vec<u8>,
     source: &Source<'_>,
+    lookup: usize,
     kind: usize,
-    subtable: usize,
+    flag: usize,
     limit: &mut u64,
-) -> Result<()>
-    requires near { subtable < 2 ^ 33 }
+) -> Result<Contexts>
+    requires near { lookup < 2 ^ 31 }
     requires few { length source.now.kept.now < 65536 }
-    ensures done { OnOk result (AddsContextPart kind source.now.gsub.now (Some subtable) source.now.kept.now out.old.items out.new.items) }
+    ensures exact { IfOk result (λ contexts. HaveContexts (contexts_by source.now.gsub.now source.now.kept.now lookup kind) contexts.offsets.items contexts.bytes.items) }
+    ensures begins { IfOk result (λ contexts. Holds (mark_set_text flag (set_of source.now.gsub.now lookup)) contexts.bytes.items 0) }
+    ensures set { OnOk result (set_of source.now.gsub.now lookup < 65536) }
     ensures spends { limit.new ≤ limit.old }
     ensures why { IfErr result (λ e. Fails limit.new e) }
 {
-    let parts = parts_of(source.gsub, kind, subtable);
-    let made = made_of(alloc, source, subtable, parts, limit)?;
-    if can_apply(&made) {
-        put_context(out, &made, parts.actions)?;
-    } else {
-        put_never(out)?;
+    let mut contexts = Contexts {
+        offsets: Vec::new(alloc),
+        bytes: Vec::new(alloc),
+    };
+    put_set(&mut contexts.bytes, source.gsub, lookup, flag)?;
+    let count = word(source.gsub, lookup + 4);
+    for j in 0..count {
+        pay(limit)?;
+        if let Some(subtable) = subtable_at(source.gsub, lookup, kind, j) {
+            contexts.add(alloc, source, same_type(kind), subtable, limit)?;
+        }
     }
-    Ok(())
+    Ok(contexts)
 }
 
-/// Appends the context of a part of a type of substitutions, or one that never applies.
-pub(crate) fn add_context(
+/// Appends a lookup with its contexts, as chained contexts by sets of glyphs.
+pub(crate) fn put_contexts(
     alloc: Global,
     out: &mut Vec<u8>,
     gpos: &[u8],
-    kind: usize,
-    part: Option<usize>,
+    lookup: usize,
+    flag: usize,
     kept: &[u16],
     limit: &mut u64,
 ) -> Result<()>
-    requires near { IfSome part (λ at. at < 2 ^ 33) }
+    requires near { lookup < 2 ^ 31 }
     requires few { length kept.now < 65536 }
-    ensures done { OnOk result (AddsContextPart kind gpos.now part kept.now out.old.items out.new.items) }
+    requires small { flag < 65536 }
+    ensures done { OnOk result (AddsChained 8 flag (set_of gpos.now lookup) (contexts_by gpos.now kept.now lookup (type_at gpos.now lookup)) out.old.items out.new.items) }
     ensures spends { limit.new ≤ limit.old }
     ensures why { IfErr result (λ e. Fails limit.new e) }
 {
-    match part {
-        Some(subtable) => {
-            let source = Source { gsub: gpos, kept };
-            add_context_of(alloc, out, &source, kind, subtable, limit)
-        }
-        None => {
-            put_never(out)?;
-            Ok(())
-        }
-    }
+    let source = Source { gsub: gpos, kept };
+    let contexts = contexts_of(alloc, &source, lookup, type_of(gpos, lookup), flag, limit)?;
+    put_chained(out, 8, flag as u16, &contexts)?;
+    Ok(())
 }

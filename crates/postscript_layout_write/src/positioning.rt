@@ -1,128 +1,69 @@
 //! Writes a `GPOS` table with adjustments of pairs and of single glyphs, cursive attachment, marks, and contexts.
-ghost use Rattle.std.specs.Prelude.{◌≡◌, ◌⊎◌, true, false, ◌%◌, ◌^◌, ◌<◌, ◌≤◌, ◌&&◌, ◌++◌, length, slice_range, IfErr, IfOk, OnOk};
+ghost use Rattle.std.specs.Prelude.{◌≡◌, ◌⊎◌, ◌%◌, ◌^◌, ◌+◌, ◌<◌, ◌≤◌, ◌&&◌, ◌++◌, ◌∷◌, [], true, false, length, slice_range, IfErr, IfOk, OnOk};
+ghost use Rattle.postscript_layout_write.specs.Coverages.{AddsChained};
 ghost use Rattle.postscript_layout_write.specs.Flags.{KeepsFlaggedPositions, set_of};
 ghost use Rattle.postscript_layout_write.specs.Kerning.{KeepsKerning};
-ghost use Rattle.postscript_layout_write.specs.Lookups.{AddsForms, AddsPosition, AreForms, HasLookups, Keeps, PutsList, PutsLookup};
+ghost use Rattle.postscript_layout_write.specs.Lookups.{AreStarts, HasLast, Keeps, MakesPosition, PutsList};
+ghost use Rattle.postscript_layout_write.specs.Marks.{type_at};
 ghost use Rattle.postscript_layout_write.specs.Pairs.{lookups_of};
+ghost use Rattle.postscript_layout_write.specs.PositionContexts.{contexts_by};
 ghost use Rattle.postscript_layout_write.specs.Positions.{KeepsPositions};
 ghost use Rattle.postscript_layout_write.specs.Refusals.{Fails, IsUsedUp, Refuses};
-ghost use Rattle.postscript_layout_write.specs.Scopes.{new_pair, takes_contexts as the_contexts, takes_type as the_taking};
-ghost use Rattle.postscript_layout_write.specs.Sets.{AddsSubtable};
-ghost use Rattle.postscript_layout_write.specs.Text.{front_text, uint16 as the_uint16};
+ghost use Rattle.postscript_layout_write.specs.Scopes.{takes_contexts as the_contexts, takes_type as the_taking};
+ghost use Rattle.postscript_layout_write.specs.Text.{front_text};
+ghost use Rattle.postscript_layout_write.specs.Typed.{AddsTyped};
 ghost use Rattle.postscript_layout_write.specs.declared.error.Error.TheVariants as errors;
 
-use crate::entries::{Entry, Form, entries_of};
 use crate::error::{Error, Result};
+use crate::forms::forms_of;
 use crate::limit::pay;
 use crate::numbers::{put_uint16, word};
-use crate::position_contexts::{has_contexts, keeps_contexts};
-use crate::scope::{Scope, new_flag, put_set};
+use crate::pieces::{Piece, pairs_piece};
+use crate::position_contexts::{has_contexts, keeps_contexts, put_contexts};
+use crate::scope::{Scope, new_flag};
 use crate::script_lists::lists_end;
-use crate::subtables::{Sets, put_offsets, put_subtable};
+use crate::subtables::put_offsets;
 use crate::typed::{has_kept_type, keeps_type, put_typed};
 use std::alloc::{AllocError, Global};
 
-/// The pairs of a lookup in each form.
+/// The last lookups of a table, and the subtables that follow all lookups. The distances are those from the beginning of
+/// each lookup to the end of the lookups, the last lookup first.
 #[derive(Drop)]
-pub(crate) struct Forms {
-    pub(crate) advance: Sets,
-    pub(crate) first: Sets,
-    pub(crate) both: Sets,
+pub(crate) struct Last {
+    distances: Vec<usize>,
+    lookups: Vec<u8>,
+    subtables: Vec<u8>,
 }
 
-impl Forms {
-    /// Adds the pairs of a first glyph.
-    fn add(&mut self, alloc: Global, first: u16, entries: &[Entry]) -> Result<()>
-        requires few { length entries.now < 65536 }
-        ensures done { OnOk result (AddsForms first entries.now self.old self.new) }
-        ensures why { IfErr result (λ e. (e ≡ errors.Memory) ⊎ (e ≡ errors.TooLarge)) }
+impl Last {
+    /// Returns the number of bytes.
+    fn size(&self) -> Result<usize>
+        ensures exact { IfOk result (λ size. size ≡ length self.now.lookups.items + length self.now.subtables.items) }
+        ensures small { IfOk result (λ size. size < 2 ^ 33) }
+        ensures why { IfErr result (λ e. e ≡ errors.TooLarge) }
     {
-        self.advance.add(alloc, Form::Advance, first, entries)?;
-        self.first.add(alloc, Form::First, first, entries)?;
-        self.both.add(alloc, Form::Both, first, entries)?;
+        let size = self.lookups.len();
+        if size > 65535 || self.subtables.len() > 4294967295 {
+            return Err(Error::TooLarge);
+        }
+        Ok(size + self.subtables.len())
+    }
+
+    /// Puts a lookup before the others.
+    fn add(&mut self, alloc: Global, piece: &Piece) -> Result<()>
+        ensures lookups { OnOk result (self.new.lookups.items ≡ piece.now.lookup.items ++ self.old.lookups.items) }
+        ensures subtables { OnOk result (self.new.subtables.items ≡ self.old.subtables.items ++ piece.now.subtables.items) }
+        ensures distances { OnOk result (self.new.distances.items ≡ self.old.distances.items ++ length self.new.lookups.items ∷ []) }
+        ensures memory { IfErr result (λ e. e ≡ errors.Memory) }
+    {
+        let mut lookups = Vec::new(alloc);
+        lookups.extend_from_slice(&piece.lookup)?;
+        lookups.extend_from_slice(&self.lookups)?;
+        self.distances.push(lookups.len())?;
+        self.lookups = lookups;
+        self.subtables.extend_from_slice(&piece.subtables)?;
         Ok(())
     }
-}
-
-/// Collects the pairs of a lookup.
-fn forms_of(
-    alloc: Global,
-    gpos: &[u8],
-    lookup: usize,
-    scope: Scope,
-    kept: &[u16],
-    limit: &mut u64,
-) -> Result<Forms>
-    requires near { lookup < 2 ^ 31 }
-    requires few { length kept.now < 65536 }
-    ensures exact { IfOk result (λ forms. AreForms (new_pair scope gpos.now kept.now lookup) (length kept.now) forms) }
-    ensures spends { limit.new ≤ limit.old }
-    ensures why { IfErr result (λ e. Fails limit.new e) }
-{
-    let mut forms = Forms {
-        advance: Sets::new(alloc),
-        first: Sets::new(alloc),
-        both: Sets::new(alloc),
-    };
-    for k in 0..kept.len() {
-        pay(limit)?;
-        let entries = entries_of(alloc, gpos, lookup, scope, kept[k] as usize, kept, limit)?;
-        forms.add(alloc, k as u16, &entries)?;
-    }
-    Ok(forms)
-}
-
-/// Appends a subtable and its offset, if it has pairs.
-fn add_subtable(out: &mut Vec<u8>, offsets: &mut Vec<usize>, form: Form, sets: &Sets) -> Result<()>
-    ensures done { OnOk result (AddsSubtable form sets.now out.old.items out.new.items offsets.old.items offsets.new.items) }
-    ensures why { IfErr result (λ e. (e ≡ errors.Memory) ⊎ (e ≡ errors.TooLarge)) }
-{
-    if sets.firsts.is_empty() {
-        return Ok(());
-    }
-    offsets.push(out.len())?;
-    put_subtable(out, form, sets)?;
-    Ok(())
-}
-
-/// Appends the header of a lookup of pair adjustments.
-fn put_lookup_head(out: &mut Vec<u8>, flag: u16, count: u16) -> std::result::Result<(), AllocError>
-    ensures text { OnOk result (out.new.items ≡ out.old.items ++ (the_uint16 2 ++ (the_uint16 flag ++ the_uint16 count))) }
-    ensures small { OnOk result (flag < 65536) }
-{
-    put_uint16(out, 2)?;
-    put_uint16(out, flag)?;
-    put_uint16(out, count)
-}
-
-/// Appends a lookup of pair adjustments.
-#[tactic(auto, unfolding(crate::specs::Text::lookup_text))]
-fn put_lookup(
-    alloc: Global,
-    out: &mut Vec<u8>,
-    gpos: &[u8],
-    lookup: usize,
-    flag: u16,
-    forms: &Forms,
-) -> Result<()>
-    requires near { lookup < 2 ^ 31 }
-    ensures done { OnOk result (PutsLookup flag (set_of gpos.now lookup) forms.now out.old.items out.new.items) }
-    ensures why { IfErr result (λ e. (e ≡ errors.Memory) ⊎ (e ≡ errors.TooLarge)) }
-{
-    let mut bytes = Vec::new(alloc);
-    put_set(&mut bytes, gpos, lookup, flag as usize)?;
-    let mut offsets = Vec::new(alloc);
-    add_subtable(&mut bytes, &mut offsets, Form::Advance, &forms.advance)?;
-    add_subtable(&mut bytes, &mut offsets, Form::First, &forms.first)?;
-    add_subtable(&mut bytes, &mut offsets, Form::Both, &forms.both)?;
-    let count = offsets.len();
-    if count > 3 {
-        return Err(Error::TooLarge);
-    }
-    put_lookup_head(out, flag, count as u16)?;
-    put_offsets(out, 6 + count * 2, &offsets)?;
-    out.extend_from_slice(&bytes)?;
-    Ok(())
 }
 
 /// Whether a lookup is written with its type and a subtable for each old one.
@@ -165,63 +106,123 @@ fn takes_contexts(gpos: &[u8], lookup: usize, scope: Scope, limit: &mut u64) -> 
     }
 }
 
-/// Appends a lookup: one with its contexts, or one with its type, if all of its subtables are kept, or else one of pair adjustments.
-fn put_any(
+/// Returns a lookup with its type.
+fn typed_piece(
     alloc: Global,
-    out: &mut Vec<u8>,
+    gpos: &[u8],
+    lookup: usize,
+    flag: usize,
+    kept: &[u16],
+    limit: &mut u64,
+) -> Result<Piece>
+    requires near { lookup < 2 ^ 31 }
+    requires few { length kept.now < 65536 }
+    requires small { flag < 65536 }
+    ensures done { IfOk result (λ piece. AddsTyped gpos.now kept.now lookup flag [] piece.lookup.items) }
+    ensures spends { limit.new ≤ limit.old }
+    ensures why { IfErr result (λ e. Fails limit.new e) }
+{
+    let mut bytes = Vec::new(alloc);
+    put_typed(alloc, &mut bytes, gpos, lookup, flag, kept, limit)?;
+    Ok(Piece {
+        lookup: bytes,
+        subtables: Vec::new(alloc),
+    })
+}
+
+/// Returns a lookup with its contexts.
+fn contexts_piece(
+    alloc: Global,
+    gpos: &[u8],
+    lookup: usize,
+    flag: usize,
+    kept: &[u16],
+    limit: &mut u64,
+) -> Result<Piece>
+    requires near { lookup < 2 ^ 31 }
+    requires few { length kept.now < 65536 }
+    requires small { flag < 65536 }
+    ensures done { IfOk result (λ piece. AddsChained 8 flag (set_of gpos.now lookup) (contexts_by gpos.now kept.now lookup (type_at gpos.now lookup)) [] piece.lookup.items) }
+    ensures spends { limit.new ≤ limit.old }
+    ensures why { IfErr result (λ e. Fails limit.new e) }
+{
+    let mut bytes = Vec::new(alloc);
+    put_contexts(alloc, &mut bytes, gpos, lookup, flag, kept, limit)?;
+    Ok(Piece {
+        lookup: bytes,
+        subtables: Vec::new(alloc),
+    })
+}
+
+/// Returns a lookup: one with its contexts, or one with its type, if all of its subtables are kept, or else one of pair
+/// adjustments. Subtables that follow all lookups begin at a distance after it.
+fn piece_of(
+    alloc: Global,
     gpos: &[u8],
     lookup: usize,
     scope: Scope,
     kept: &[u16],
+    distance: usize,
     limit: &mut u64,
-) -> Result<()>
+) -> Result<Piece>
     requires near { lookup < 2 ^ 31 }
     requires few { length kept.now < 65536 }
-    ensures done { OnOk result (AddsPosition scope gpos.now kept.now lookup out.old.items out.new.items) }
+    requires distance { distance < 2 ^ 33 }
+    ensures done { IfOk result (λ piece. MakesPosition scope gpos.now kept.now lookup distance piece.lookup.items piece.subtables.items) }
     ensures spends { limit.new ≤ limit.old }
     ensures why { IfErr result (λ e. Fails limit.new e) }
 {
     let typed = takes_type(gpos, lookup, scope, limit)?;
     let contextual = takes_contexts(gpos, lookup, scope, limit)?;
     let flag = new_flag(scope, word(gpos, lookup + 2));
-    if typed || contextual {
-        put_typed(alloc, out, gpos, lookup, flag, kept, limit)?;
-        return Ok(());
+    if typed {
+        let piece = typed_piece(alloc, gpos, lookup, flag, kept, limit)?;
+        return Ok(piece);
+    }
+    if contextual {
+        let piece = contexts_piece(alloc, gpos, lookup, flag, kept, limit)?;
+        return Ok(piece);
     }
     let forms = forms_of(alloc, gpos, lookup, scope, kept, limit)?;
-    put_lookup(alloc, out, gpos, lookup, flag as u16, &forms)?;
-    Ok(())
+    let piece = pairs_piece(alloc, gpos, lookup, flag as u16, &forms.subtables, distance)?;
+    Ok(piece)
 }
 
-/// Appends the lookups of a table one after the other, and collects their offsets.
-fn put_each(
-    alloc: Global,
-    bytes: &mut Vec<u8>,
-    offsets: &mut Vec<usize>,
-    gpos: &[u8],
-    scope: Scope,
-    kept: &[u16],
-    limit: &mut u64,
-) -> Result<()>
+/// Collects the lookups of a table, from the last one to the first.
+fn last_of(alloc: Global, gpos: &[u8], scope: Scope, kept: &[u16], limit: &mut u64) -> Result<Last>
     requires few { length kept.now < 65536 }
-    requires bytes { length bytes.old.items ≡ 0 }
-    requires offsets { length offsets.old.items ≡ 0 }
-    ensures done { OnOk result (HasLookups scope gpos.now kept.now (lookups_of gpos.now) offsets.new.items bytes.new.items) }
+    ensures exact { IfOk result (λ last. HasLast scope gpos.now kept.now (lookups_of gpos.now) last.distances.items last.lookups.items last.subtables.items) }
     ensures spends { limit.new ≤ limit.old }
     ensures why { IfErr result (λ e. Fails limit.new e) }
 {
+    let mut last = Last {
+        distances: Vec::new(alloc),
+        lookups: Vec::new(alloc),
+        subtables: Vec::new(alloc),
+    };
     let list = word(gpos, 8);
     let count = word(gpos, list);
-    for i in 0..count {
+    for k in 0..count {
         pay(limit)?;
-        let lookup = list + word(gpos, list + 2 + i * 2);
-        if bytes.len() > 65535 {
-            return Err(Error::TooLarge);
-        }
-        offsets.push(bytes.len())?;
-        put_any(alloc, bytes, gpos, lookup, scope, kept, limit)?;
+        let lookup = list + word(gpos, list + 2 + (count - 1 - k) * 2);
+        let size = last.size()?;
+        let piece = piece_of(alloc, gpos, lookup, scope, kept, size, limit)?;
+        last.add(alloc, &piece)?;
     }
-    Ok(())
+    Ok(last)
+}
+
+/// Returns the offsets of lookups, by their distances to the end, the last lookup first.
+fn starts_of(alloc: Global, size: usize, distances: &[usize]) -> Result<Vec<usize>>
+    ensures exact { IfOk result (λ offsets. AreStarts size distances.now offsets.items) }
+    ensures memory { IfErr result (λ e. e ≡ errors.Memory) }
+{
+    let mut offsets = Vec::new(alloc);
+    let count = distances.len();
+    for i in 0..count {
+        offsets.push(size.saturating_sub(distances[count - 1 - i]))?;
+    }
+    Ok(offsets)
 }
 
 /// Appends a lookup list.
@@ -239,16 +240,16 @@ fn put_list(
     ensures spends { limit.new ≤ limit.old }
     ensures why { IfErr result (λ e. Fails limit.new e) }
 {
-    let mut bytes = Vec::new(alloc);
-    let mut offsets = Vec::new(alloc);
-    put_each(alloc, &mut bytes, &mut offsets, gpos, scope, kept, limit)?;
+    let last = last_of(alloc, gpos, scope, kept, limit)?;
+    let offsets = starts_of(alloc, last.lookups.len(), &last.distances)?;
     let count = offsets.len();
     if count > 32766 {
         return Err(Error::TooLarge);
     }
     put_uint16(out, count as u16)?;
     put_offsets(out, 2 + count * 2, &offsets)?;
-    out.extend_from_slice(&bytes)?;
+    out.extend_from_slice(&last.lookups)?;
+    out.extend_from_slice(&last.subtables)?;
     Ok(())
 }
 
@@ -300,7 +301,8 @@ fn written(
 ///
 /// `kept` has the old numbers of the glyphs. The new number of a glyph is its index there. The new table has version 1.0,
 /// the script list and the feature list of the old one, and as many lookups in the same order. Lookups of pair
-/// adjustments, also by extensions, keep the pairs of kept glyphs, listed one by one. All other lookups have no subtables.
+/// adjustments, also by extensions, keep the pairs of kept glyphs, listed one by one. If they take more than 8 kB, or if
+/// 32 kB follow, the lookup has extensions, and its subtables follow all lookups. All other lookups have no subtables.
 ///
 /// One unit of the limit is paid for each language system, script, feature and lookup, and for each kept glyph in each
 /// lookup. One more is paid for each subtable, covered glyph, range, pair and second glyph that is looked at.
@@ -309,7 +311,7 @@ fn written(
 ///
 /// - `ListsTooLong`: the script list and the feature list, with the tables that they name, do not end within the table,
 ///   or within its first 65,535 bytes.
-/// - `TooLarge`: an offset or a count would exceed 16 bits.
+/// - `TooLarge`: an offset or a count would exceed 16 bits, or the distance of an extension 32 bits.
 /// - `TooLong`: the table costs more than the limit.
 /// - `Memory`: out of memory.
 pub fn kerning(alloc: Global, gpos: &[u8], kept: &[u16], limit: &mut u64) -> Result<Vec<u8>>
@@ -330,8 +332,8 @@ pub fn kerning(alloc: Global, gpos: &[u8], kept: &[u16], limit: &mut u64) -> Res
 /// the script list and the feature list of the old one, and as many lookups in the same order. Lookups of pair
 /// adjustments are kept as by `kerning`. A lookup of single adjustments (type 1), of cursive attachment (type 3), or of
 /// marks on bases, on ligatures or on other marks (types 4 to 6) keeps its type, also by extensions. It has a subtable for
-/// each old one. A lookup of contexts (types 7 and 8) whose subtables all have format 3 keeps the contexts
-/// whose sets of glyphs all have kept glyphs, as a lookup of type 8. All other lookups have no subtables, and neither has a
+/// each old one. A lookup of contexts (types 7 and 8) whose subtables all have format 1, 2 or 3 keeps the contexts
+/// whose sets of glyphs all have kept glyphs, as a lookup of type 8 with contexts by sets of glyphs (format 3). All other lookups have no subtables, and neither has a
 /// lookup with a flag above bit 3.
 ///
 /// Units of the limit are paid as by `kerning`. One unit is paid for each kept glyph in a subtable of single adjustments or
@@ -342,7 +344,7 @@ pub fn kerning(alloc: Global, gpos: &[u8], kept: &[u16], limit: &mut u64) -> Res
 ///
 /// - `ListsTooLong`: the script list and the feature list, with the tables that they name, do not end within the table,
 ///   or within its first 65,535 bytes.
-/// - `TooLarge`: an offset or a count would exceed 16 bits.
+/// - `TooLarge`: an offset or a count would exceed 16 bits, or the distance of an extension 32 bits.
 /// - `TooLong`: the table costs more than the limit.
 /// - `Memory`: out of memory.
 pub fn positions(alloc: Global, gpos: &[u8], kept: &[u16], limit: &mut u64) -> Result<Vec<u8>>
@@ -369,7 +371,7 @@ pub fn positions(alloc: Global, gpos: &[u8], kept: &[u16], limit: &mut u64) -> R
 ///
 /// - `ListsTooLong`: the script list and the feature list, with the tables that they name, do not end within the table,
 ///   or within its first 65,535 bytes.
-/// - `TooLarge`: an offset or a count would exceed 16 bits.
+/// - `TooLarge`: an offset or a count would exceed 16 bits, or the distance of an extension 32 bits.
 /// - `TooLong`: the table costs more than the limit.
 /// - `Memory`: out of memory.
 pub fn flagged_positions(

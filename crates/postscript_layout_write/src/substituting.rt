@@ -256,7 +256,7 @@ fn put_contexts(
     let source = Source { gsub, kept };
     let flag = new_flag(whole, word(gsub, lookup + 2));
     let contexts = contexts_of(alloc, &source, lookup, type_of(gsub, lookup), flag, limit)?;
-    put_chained(bytes, flag as u16, &contexts)?;
+    put_chained(bytes, 6, flag as u16, &contexts)?;
     Ok(())
 }
 

@@ -176,6 +176,15 @@ impl Sets {
         Ok(offset)
     }
 
+    /// Whether the offset of another set fits into two bytes.
+    pub(crate) fn has_room(&self) -> bool
+        ensures { result ≡ true → 18 + length self.now.firsts.items * 4 + length self.now.bytes.items < 65536 }
+    {
+        let count = self.firsts.len();
+        let size = self.bytes.len();
+        count < 16380 && size < 65536 && 18 + count * 4 + size < 65536
+    }
+
     /// Adds the set of a first glyph, if some pairs have the form.
     pub(crate) fn add(
         &mut self,

@@ -1,12 +1,11 @@
 //! Lookups that are written with a subtable for each old one: single adjustments, cursive attachment, and marks.
-ghost use Rattle.std.specs.Prelude.{◌≡◌, ◌⊎◌, ◌%◌, ◌+◌, ◌*◌, ◌^◌, ◌<◌, ◌≤◌, ◌++◌, false, length, IfErr, IfOk, IfSome, OnOk};
+ghost use Rattle.std.specs.Prelude.{◌≡◌, ◌⊎◌, ◌%◌, ◌+◌, ◌*◌, ◌^◌, ◌<◌, ◌≤◌, ◌++◌, length, IfErr, IfOk, IfSome, OnOk};
 ghost use Rattle.postscript_layout.specs.Numbers.{word as the_word};
 ghost use Rattle.postscript_layout_write.specs.Flags.{has_kept_type as the_having};
 ghost use Rattle.postscript_layout_write.specs.Marks.{of_format1 as the_format1, type_at, typed_at as the_subtable};
-ghost use Rattle.postscript_layout_write.specs.PositionContexts.{is_context as the_context};
 ghost use Rattle.postscript_layout_write.specs.Positions.{has_no_pairs as the_no_pairs, is_kept_type as the_kept, keeps_type as the_keeps};
 ghost use Rattle.postscript_layout_write.specs.Refusals.{Fails, IsUsedUp};
-ghost use Rattle.postscript_layout_write.specs.Typed.{AddsPart, AddsTyped, HasParts, new_type as the_new};
+ghost use Rattle.postscript_layout_write.specs.Typed.{AddsPart, AddsTyped, HasParts};
 ghost use Rattle.postscript_layout_write.specs.declared.error.Error.TheVariants as errors;
 
 use crate::anchors::Side;
@@ -15,7 +14,6 @@ use crate::limit::pay;
 use crate::lookups::pairs_at;
 use crate::marks::add_attaching;
 use crate::numbers::{long, word};
-use crate::position_contexts::{add_context, is_context, same_type};
 use crate::row_subtables::add_rows;
 use crate::scope::put_set;
 use crate::substituting::put_head;
@@ -120,17 +118,8 @@ pub(crate) fn has_kept_type(gpos: &[u8], lookup: usize, limit: &mut u64) -> Resu
     }
 }
 
-/// Returns the type that is written.
-fn new_type(kind: usize) -> usize
-    requires { kind < 65536 }
-    ensures exact { result ≡ the_new kind }
-    ensures small { result < 65536 }
-{
-    if is_context(kind) { 8 } else { kind }
-}
-
-/// Appends a subtable of a type that has no contexts for the kept glyphs.
-fn add_positions(
+/// Appends a subtable of a type for the kept glyphs.
+fn add_part(
     alloc: Global,
     out: &mut Vec<u8>,
     gpos: &[u8],
@@ -139,7 +128,6 @@ fn add_positions(
     kept: &[u16],
     limit: &mut u64,
 ) -> Result<()>
-    requires kind { the_context kind ≡ false }
     requires near { IfSome part (λ at. at < 2 ^ 33) }
     requires few { length kept.now < 65536 }
     ensures done { OnOk result (AddsPart kind gpos.now part kept.now out.old.items out.new.items) }
@@ -158,30 +146,6 @@ fn add_positions(
             limit,
         ),
         _ => add_attaching(alloc, out, gpos, kind, of_format1(gpos, part), kept, limit),
-    }
-}
-
-/// Appends a subtable of a type for the kept glyphs.
-fn add_part(
-    alloc: Global,
-    out: &mut Vec<u8>,
-    gpos: &[u8],
-    kind: usize,
-    part: Option<usize>,
-    kept: &[u16],
-    limit: &mut u64,
-) -> Result<()>
-    requires near { IfSome part (λ at. at < 2 ^ 33) }
-    requires few { length kept.now < 65536 }
-    ensures done { OnOk result (AddsPart kind gpos.now part kept.now out.old.items out.new.items) }
-    ensures spends { limit.new ≤ limit.old }
-    ensures why { IfErr result (λ e. Fails limit.new e) }
-{
-    if is_context(kind) {
-        add_context(alloc, out, gpos, same_type(kind), part, kept, limit)?;
-        Ok(())
-    } else {
-        add_positions(alloc, out, gpos, kind, part, kept, limit)
     }
 }
 
@@ -248,7 +212,7 @@ pub(crate) fn put_typed(
     if count > 32000 {
         return Err(Error::TooLarge);
     }
-    put_head(out, new_type(kind) as u16, flag as u16, count as u16)?;
+    put_head(out, kind as u16, flag as u16, count as u16)?;
     put_offsets(out, 6 + count * 2, &parts.offsets)?;
     out.extend_from_slice(&parts.bytes)?;
     Ok(())

@@ -220,6 +220,7 @@ pub record Answer (cmap : List ℕ) (ms : List Mapping) : Type 0 where
   pub headers : HaveHeaders cmap
   pub format4 : HasFormat4 cmap
   pub told_in_4 : AreToldIn4 cmap (in_segments ms)
+  pub size : length cmap ≤ 64076 + length ms * 12
 
 tells4 : (table : List ℕ) (ms : List Mapping) (n : ℕ) (map : CharacterMap) → number_at table 0 2 ≡ 4 → number_at table 6 2 / 2 ≡ n →
     ((char glyph : ℕ) → IsGlyphOf (first4 table n) (last4 table) (gives4 table n) n char glyph → IsGlyphIn ms char glyph) →
@@ -299,6 +300,18 @@ length-small : length small_text ≡ 20
 unfolding small_text encoding_text uint16 uint32
 length-small = refl
 
+length-head : (count selector : ℕ) → length (head4_text count selector) ≡ 14
+unfolding head4_text uint16
+length-head count selector = refl
+
+-- the length of a subtable of format 4
+length-format4 : (gs : List Group) (selector : ℕ) → length (head4_text (length gs) selector ++ rows_text gs) ≡ 16 + length gs * 8
+length-format4 gs selector =
+    let both = length-append (head4_text (length gs) selector) (rows_text gs) in
+    let head = length-head (length gs) selector in
+    let rows = length-rows_text gs in
+    omega (arith, both, head, rows)
+
 two_headers : {cmap : List ℕ} → Two cmap → HasHeader4 cmap 20 → HaveHeaders cmap
 two_headers {cmap = cmap} it head zero less = inl (subst (HasHeader4 cmap) (sym (placed 0 4 0 3 20 refl it.first)) head)
 two_headers {cmap = cmap} it head (suc zero) less = inl (subst (HasHeader4 cmap) (sym (placed 1 12 3 1 20 refl it.second)) head)
@@ -340,27 +353,27 @@ small_answer cmap gs ms rise below is few fit text =
       format4 = has_format4 1 12 20 refl (omega (arith, records)) (two (stands_first small_text body s)).second head.format;
       told_in_4 = subst (AreToldIn4 cmap) (sym (all_in ms below (subst (λ xs. length xs < 8002) is few)))
           (small_told ms (two (stands_first small_text body s)) (told4 cmap 20 gs ms rise below is fit m));
+      size =
+          let both = ap length text.text ∙ length-append small_text body in
+          let first = length-small in
+          let last = length-format4 gs text.selector in
+          omega (arith, both, first, last, few);
     }
 
 length-large : (behind : ℕ) → length (large_text behind) ≡ 36
 unfolding large_text encoding_text uint16 uint32
 length-large behind = refl
 
-length-head : (count selector : ℕ) → length (head4_text count selector) ≡ 14
-unfolding head4_text uint16
-length-head count selector = refl
-
 pub large_answer : (cmap : List ℕ) (low gs : List Group) (ms : List Mapping) → CharsRise ms → gs ≡ groups ms →
     low ≡ groups (in_segments ms ++ end ∷ []) → MappingsFit (in_segments ms ++ end ∷ []) → length low < 8002 →
-    16 + length gs * 12 < 2 ^ 32 → MappingsFit ms → GroupsFit gs → IsLarge cmap low gs → Answer cmap ms
-large_answer cmap low gs ms rise is low_is low_fit few small fit fits text =
+    16 + length gs * 12 < 2 ^ 32 → length gs ≤ length ms → MappingsFit ms → GroupsFit gs → IsLarge cmap low gs → Answer cmap ms
+large_answer cmap low gs ms rise is low_is low_fit few small less fit fits text =
     let behind : ℕ = 52 + length low * 8 in
     let head : List ℕ = head4_text (length low) text.selector ++ rows_text low in
     let body : List ℕ = format12_text gs in
     let s = whole cmap (large_text behind ++ (head ++ body)) text.text in
     let at36 = stands_second (large_text behind) (head ++ body) 36 (length-large behind) s in
-    let long : length head ≡ 16 + length low * 8 = length-append (head4_text (length low) text.selector) (rows_text low)
-    ∙ (let a = length-head (length low) text.selector in let b = length-rows_text low in omega (arith, a, b)) in
+    let long : length head ≡ 16 + length low * 8 = length-format4 low text.selector in
     let there = stands_second head body (16 + length low * 8) long at36 in
     let on : 0 + 36 + (16 + length low * 8) ≡ behind = omega arith in
     let here : Stands body (drop behind cmap) 0 = stands_dropped body behind (subst (λ k. Stands body cmap k) on there) in
@@ -375,9 +388,10 @@ large_answer cmap low gs ms rise is low_is low_fit few small fit fits text =
     let taken = large_taken cmap behind records (omega (arith, room, rest)) (omega (arith, room, rest)) in
     let m = map4 (drop 36 cmap) low text.selector few (stands_dropped head 36 (stands_first head body at36)) in
     let head4 = headed4 36 text.selector low few text.selected text.few_bits (stands_first head body at36) in
-    let head12 = headed12 behind gs small (subst (λ k. Stands body cmap k) on there) (ap length text.text
+    let total : length cmap ≡ behind + (16 + length gs * 12) = ap length text.text
     ∙ length-append (large_text behind) (head ++ body) ∙ (let a = length-large behind in let b = length-append head body in
-    let c = length-format12 gs in omega (arith, a, b, c, long))) in
+    let c = length-format12 gs in omega (arith, a, b, c, long)) in
+    let head12 = headed12 behind gs small (subst (λ k. Stands body cmap k) on there) total in
     record {
       read = readable cmap behind taken (inr (inl (h.format, omega (arith, room, counted))));
       told = λ i map chosen at. tells12 (drop behind cmap) ms map h.format
@@ -387,4 +401,5 @@ large_answer cmap low gs ms rise is low_is low_fit few small fit fits text =
       format4 = has_format4 2 20 36 refl (omega (arith, counted4)) records.third head4.format;
       told_in_4 = large_told behind (in_segments ms) records head12.format
           (told4 cmap 36 low (in_segments ms) (in_segments_rise ms rise) (in_segments_below ms) low_is low_fit m);
+      size = omega (arith, total, few, less);
     }

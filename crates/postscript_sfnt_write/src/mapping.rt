@@ -361,6 +361,7 @@ fn of_both(alloc: Global, mappings: &[Mapping]) -> std::result::Result<Vec<u8>, 
     ensures headers { IfOk result (λ cmap. HaveHeaders cmap.items) }
     ensures format4 { IfOk result (λ cmap. HasFormat4 cmap.items) }
     ensures told_in_4 { IfOk result (λ cmap. AreToldIn4 cmap.items (in_segments mappings.now)) }
+    ensures size { IfOk result (λ cmap. length cmap.items ≤ 64076 + length mappings.now * 12) }
 {
     let low = low_segments(alloc, mappings)?;
     let all = groups(alloc, mappings)?;
@@ -385,6 +386,7 @@ fn of_segments(
     ensures headers { IfOk result (λ cmap. HaveHeaders cmap.items) }
     ensures format4 { IfOk result (λ cmap. HasFormat4 cmap.items) }
     ensures told_in_4 { IfOk result (λ cmap. AreToldIn4 cmap.items (in_segments mappings.now)) }
+    ensures size { IfOk result (λ cmap. length cmap.items ≤ 64076 + length mappings.now * 12) }
 {
     let table = small(alloc, segments)?;
     Ok(table)
@@ -412,6 +414,8 @@ pub fn cmap(alloc: Global, mappings: &[Mapping]) -> Result<Vec<u8>>
     ensures format4 { IfOk result (λ cmap. HasFormat4 cmap.items) }
     // It maps exactly the characters below U+FFFF, or none if these form over 8,000 segments.
     ensures told_in_4 { IfOk result (λ cmap. AreToldIn4 cmap.items (in_segments mappings.now)) }
+    // The table has at most 64,076 bytes, and 12 for each character.
+    ensures size { IfOk result (λ cmap. length cmap.items ≤ 64076 + length mappings.now * 12) }
     // A success means that the characters are in strictly ascending order.
     ensures rise { OnOk result (CharsRise mappings.now) }
     // An error is justified by the order or the number of characters, or it is `Memory`.

@@ -216,19 +216,8 @@ no-file e choice features face by gsub lookups glyphs room k h =
         is,
         origins-from h.0 by face origins,
       )
-      | inr (inl large) ↦ inr (
-        by,
-        outcomes.Absent,
-        outcomes.Absent,
-        outcomes.Absent,
-        [],
-        [],
-        [],
-        is,
-        subst (NoSubsetFrom by face) (sym large) tt,
-      )
-      | inr (inr (inl memory)) ↦ inl (inl memory)
-      | inr (inr (inr with)) ↦ inr (
+      | inr (inl memory) ↦ inl (inl memory)
+      | inr (inr with) ↦ inr (
         with.0,
         with.1,
         with.2,

@@ -16,9 +16,9 @@ use Rattle.postscript_subset.specs.declared.layers.Layers.{Layers}
 use Rattle.postscript_subset.specs.declared.layers.Outcome.{Outcome}
 use Rattle.postscript_subset.specs.declared.subset.Subset.{Subset}
 
--- there are no origins, or they are too large, or memory runs out
+-- there are no origins, or memory runs out
 abbrev pub NoOriginsBy : Choice → Face → Error → Type 0
-NoOriginsBy by face e = (cause : Cause) × (e ≡ errors.File cause) × (NoOriginsOf by face cause ⊎ (cause ≡ causes.TooLarge))
+NoOriginsBy by face e = (cause : Cause) × (e ≡ errors.File cause) × NoOriginsOf by face cause
 
 -- a choice with further tables
 pub record HasTables (by : Choice) (tables : List (ℕ × List ℕ)) (with : Choice) : Type 0 where
@@ -55,9 +55,9 @@ pub record IsCutBy (by : Choice) (features : Features) (face : Face) (was lookup
   pub left_out : subset.left_out.items ≡ left_in subset.gsub (have_marks origins subset.gdef) was lookups
 
 abbrev pub NoCutBy : Choice → Face → Error → Type 0
-NoCutBy by face e = (cause : Cause) × (e ≡ errors.File cause) × (NoOriginsOf by face cause ⊎ ((cause ≡ causes.TooLarge) ⊎ ((cause ≡ causes.Memory)
+NoCutBy by face e = (cause : Cause) × (e ≡ errors.File cause) × (NoOriginsOf by face cause ⊎ ((cause ≡ causes.Memory)
     ⊎ ((with : Choice) × (gdef : Outcome) × (gsub : Outcome) × (gpos : Outcome) × (a : List ℕ) × (b : List ℕ) × (c : List ℕ)
-    × HasTables by (all_tables gdef gsub gpos a b c) with × NoSubsetBy with face cause))))
+    × HasTables by (all_tables gdef gsub gpos a b c) with × NoSubsetBy with face cause)))
 
 -- the file of a face
 pub record IsCutFace (choice : Choice) (features : Features) (face : Face) (left : ℕ) (subset : Subset) : Type 0 where

@@ -97,7 +97,7 @@ fn origins_of(alloc: Global, face: &Face<'_>, by: &Choice<'_>) -> Result<Vec<u16
     let origins = face.origins(alloc, by)?;
     match narrow(alloc, &origins) {
         Ok(origins) => Ok(origins),
-        Err(Error::LargeGlyph(_)) => Err(Error::File(postscript_files::Error::TooLarge)),
+        // Each origin is below 65,536.
         Err(_) => Err(Error::File(postscript_files::Error::Memory)),
     }
 }

@@ -245,6 +245,37 @@ fn choices_that_do_not_fit(rt: HostRuntime) {
     }
 }
 
+/// Empty tables with this number of tags, from 1 on.
+fn empty_tables<R: Abort>(rt: &R, alloc: Global, count: u32) -> Vec<Given> {
+    let mut tables = Vec::new(alloc);
+    for tag in 1..count + 1 {
+        let bytes = Vec::new(alloc);
+        tables.push(Given { tag, bytes }).expect(rt, "memory");
+    }
+    tables
+}
+
+/// A file has at most 4,095 tables, and six are made.
+#[test]
+fn files_of_many_tables(rt: HostRuntime) {
+    let alloc = rt.alloc();
+    let bytes = file(&rt, alloc, 0, "", 0);
+    let given = empty_tables(&rt, alloc, 4090);
+    let mut asked = choice(&[0x41], false, &[]);
+    asked.given = given.as_slice();
+    let found = refusal(&rt, alloc, bytes.as_slice(), &asked);
+    is_text(
+        &rt,
+        found.as_str(),
+        "the file is too large to be written",
+        "4,096 tables",
+    );
+    asked.given = &given[1..];
+    let new = subset_file(alloc, bytes.as_slice(), 0, &asked).expect(&rt, "a file");
+    let face = Face::open(new.as_slice(), 0).expect(&rt, "a face");
+    holds(&rt, face.file.tables() == 4095, "4,095 tables");
+}
+
 /// Sets a byte, if there is one at this offset.
 fn set(bytes: &mut Vec<u8>, at: usize, byte: u8) {
     if let Some(found) = bytes.get_mut(at) {

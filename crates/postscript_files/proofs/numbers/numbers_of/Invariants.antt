@@ -1,4 +1,4 @@
-use Rattle.std.proofs.Common.{◌≡◌, ◌<◌, ◌≤◌, ℕ, length, get_or}
+use Rattle.std.proofs.Common.{◌≡◌, ◌<◌, ℕ, length, get_or}
 use Rattle.postscript_files.specs.Renumbered.{IsNumbered}
 use Rattle.postscript_files.proofs.numbers.numbers_of.Given as goal
 
@@ -6,6 +6,4 @@ abbrev pub invariant-loop-i : goal.invariant-loop-i
 invariant-loop-i l = record {
   many : length l.numbers.items ≡ 65536;
   numbered : (k : ℕ) → k < l.i → IsNumbered l.origins l.numbers.items (get_or l.origins k 0);
-  small : (k : ℕ) → k < l.i → get_or l.origins k 0 < 65536;
-  few : l.i ≤ 65536;
 }

@@ -1,6 +1,7 @@
-use Rattle.std.proofs.Common.{sym, subst, Bool}
+use Rattle.std.proofs.Common.{[], sym, subst, Bool, true, false}
 use Rattle.std.specs.Prelude.{IfOk}
 use Rattle.postscript_files.specs.Origins.{AreOrigins}
+use Rattle.postscript_files.proofs.Few.{if-few}
 use Rattle.postscript_files.proofs.Refusing.{no-every, no-kept}
 use Rattle.postscript_files.proofs.subset.origins_of.Goals as goal
 
@@ -21,3 +22,9 @@ returns-else-retain_gids-clause-are c =
 pub returns-else-retain_gids-clause-refused : goal.returns-else-retain_gids-clause-refused
 returns-else-retain_gids-clause-refused c =
     no-kept c.kept.result c.args.retain_gids c.args.named.now c.args.cff.now c.kept.ensures.refused
+
+pub returns-then-retain_gids-clause-few : goal.returns-then-retain_gids-clause-few
+returns-then-retain_gids-clause-few c = if-few c.every.result true [] c.args.cff.now c.are_bytes.ensures c.every.ensures.all
+
+pub returns-else-retain_gids-clause-few : goal.returns-else-retain_gids-clause-few
+returns-else-retain_gids-clause-few c = if-few c.kept.result false c.args.named.now c.args.cff.now c.are_bytes.ensures c.kept.ensures.are

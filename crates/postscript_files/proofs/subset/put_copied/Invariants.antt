@@ -1,6 +1,7 @@
 use Rattle.std.proofs.Common.{◌≡◌, ◌≤◌, ℕ, ◌+◌, drop}
 use Rattle.postscript_sfnt.specs.Lent.{HasNoTable}
-use Rattle.postscript_files.specs.Listed.{Adds, AreCopiedTo, tagged}
+use Rattle.postscript_files.specs.Listed.{Adds, AreCopiedTo}
+use Rattle.postscript_files.specs.Copies.{tagged}
 use Rattle.postscript_files.specs.Subsets.{IsCopied, times}
 use Rattle.postscript_files.proofs.subset.put_copied.Given as goal
 

@@ -1,7 +1,8 @@
 use Rattle.std.proofs.Common.{◌≡◌, ◌∙◌, ap, sym, subst, ℕ, ◌+◌, List}
 use Rattle.std.specs.Prelude.{Some, slice_get, ◌==◌, if◌then◌else◌}
 use Rattle.std.proofs.lemmas.Option.{slice_get-get_or}
-use Rattle.postscript_files.specs.Listed.{Puts, tagged}
+use Rattle.postscript_files.specs.Listed.{Puts}
+use Rattle.postscript_files.specs.Copies.{tagged}
 use Rattle.postscript_files.specs.Subsets.{IsGivenTag}
 use Rattle.postscript_files.specs.declared.choice.Given.{Given}
 use Rattle.postscript_files.proofs.Listing.{adds-more, given-more}

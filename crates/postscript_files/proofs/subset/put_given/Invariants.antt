@@ -1,6 +1,7 @@
 use Rattle.std.proofs.Common.{◌≡◌, ℕ, ◌+◌, drop}
 use Rattle.std.specs.Prelude.{map}
-use Rattle.postscript_files.specs.Listed.{Adds, AreGivenTo, tagged}
+use Rattle.postscript_files.specs.Listed.{Adds, AreGivenTo}
+use Rattle.postscript_files.specs.Copies.{tagged}
 use Rattle.postscript_files.specs.Subsets.{IsGivenTag, given_tag, times}
 use Rattle.postscript_files.proofs.subset.put_given.Given as goal
 

@@ -1,9 +1,9 @@
 use Rattle.std.proofs.Common.{◌∙◌, ap, subst, ℕ, List}
 use Rattle.std.proofs.lemmas.Result.{err_from_is_err_and}
-use Rattle.std.specs.Prelude.{IfOk}
+use Rattle.std.specs.Prelude.{IfErr, IfOk}
 use Rattle.postscript_sfnt_write.specs.declared.mapping.Mapping.{Mapping}
 use Rattle.postscript_files.specs.Choices.{glyphs_of, named_of}
-use Rattle.postscript_files.specs.Listed.{IsFileOfParts}
+use Rattle.postscript_files.specs.Listed.{IsFileOfParts, NoFileOfParts}
 use Rattle.postscript_files.specs.Made.{IsMade}
 use Rattle.postscript_files.specs.Origins.{AreOrigins}
 use Rattle.postscript_files.specs.Subsets.{IsSubsetFont}
@@ -25,7 +25,17 @@ returns-clause-subset c =
     c.deref-6.ensures.value c.written.ensures.file)
 
 pub returns-clause-refused : goal.returns-clause-refused
-returns-clause-refused c = no-written-so c.written.result c.args.choice.now c.args.face.now c.written.ensures.refused
+returns-clause-refused c =
+    no-written-so c.written.result c.args.choice.now c.args.face.now c.in_ok-pairs.pairs.items c.in_ok-named.named.items
+    c.in_ok-origins.origins.items c.in_ok-cff.cff.items c.in_ok-made.made c.in_ok-pairs.ensures.kept
+    (c.in_ok-named.ensures.named ∙ ap (named_of (glyphs_of c.args.choice.now)) c.deref.ensures.value)
+    (subst (λ (xs : List ℕ). IsSubsetFont c.args.choice.now.retain_gids xs c.args.face.now.cff.now c.in_ok-cff.cff.items)
+    c.deref-2.ensures.value c.in_ok-cff.ensures.font)
+    c.in_ok-origins.ensures.few
+    (subst (λ (ps : List Mapping). IsMade c.args.face.now ps c.in_ok-origins.origins.items c.in_ok-made.made) c.deref-4.ensures.value
+    (subst (λ (xs : List ℕ). IsMade c.args.face.now c.deref-4.result.now xs c.in_ok-made.made) c.deref-5.ensures.value c.in_ok-made.ensures.made))
+    (subst (λ (xs : List ℕ). IfErr c.written.result (λ e. NoFileOfParts c.args.choice.now c.args.face.now.file xs c.in_ok-made.made e))
+    c.deref-6.ensures.value c.written.ensures.refused)
 
 pub returns-in_err-origins-clause-refused : goal.returns-in_err-origins-clause-refused
 returns-in_err-origins-clause-refused c =

@@ -4,6 +4,7 @@ use Rattle.std.proofs.lemmas.List.Sorted.{IsNonDecreasingBy-from_sort_by_key}
 use Rattle.postscript_sfnt_write.specs.declared.file.Table.{Table}
 use Rattle.postscript_files.specs.Copies.{NoNeighbours}
 use Rattle.postscript_files.proofs.Filing.{if-not-written, if-written, tags-rise}
+use Rattle.postscript_files.proofs.Twice.{if-once}
 use Rattle.postscript_files.proofs.tables.file_with.Goals as goal
 
 pub written-requires : goal.written-requires
@@ -39,3 +40,17 @@ returns-in-Some-clause-refused c =
     (subst (λ (xs : List Table). IsPermutation xs c.sort_by_key.new.self.items) c.in_ok-sorted.ensures.items
     c.in_ok-sort_by_key.ensures.permutation) in
     (c.as_slice.result.now, moved, c.in-Some.ensures.found)
+
+pub returns-clause-once : goal.returns-clause-once
+returns-clause-once c =
+    let e = c.as_slice.ensures.value in
+    let f = c.as_slice-in-None.ensures.value in
+    let up : IsNonDecreasingBy (λ (t : Table). t.tag) c.sort_by_key.new.self.items =
+    IsNonDecreasingBy-from_sort_by_key (λ (t : Table). t.tag) _ c.in_ok-sort_by_key.ensures.sorted (λ a r q k. search rules) in
+    let rise = tags-rise c.as_slice-in-None.result.now (subst (λ (xs : List Table). IsNonDecreasingBy (λ t. t.tag) xs) (sym f) up)
+    (subst (λ (xs : List Table). NoNeighbours xs) (sym f) (subst (λ (xs : List Table). NoNeighbours xs) e c.in-None.ensures.none)) in
+    let moved : IsPermutation c.args.tables.now c.as_slice-in-None.result.now =
+    subst (λ (ys : List Table). IsPermutation c.args.tables.now ys) (sym c.as_slice-in-None.ensures.value)
+    (subst (λ (xs : List Table). IsPermutation xs c.sort_by_key.new.self.items) c.in_ok-sorted.ensures.items
+    c.in_ok-sort_by_key.ensures.permutation) in
+    if-once c.written.result c.args.tables.now c.as_slice-in-None.result.now moved rise

@@ -1,6 +1,6 @@
 use Rattle.std.proofs.Common.{◌≡◌, ◌++◌, ◌∙◌, ◌+◌, ◌*◌, ◌<◌, ap, subst, ℕ, List, length, arith, rules}
 use Rattle.postscript_layout.specs.Numbers.{word}
-use Rattle.postscript_layout_write.specs.Typed.{HasParts, new_type}
+use Rattle.postscript_layout_write.specs.Typed.{HasParts}
 use Rattle.postscript_layout_write.specs.Marks.{type_at}
 use Rattle.postscript_layout_write.specs.RuleSets.{rule_head_text}
 use Rattle.postscript_layout_write.specs.Sets.{AreOffsets}
@@ -27,8 +27,8 @@ returns-clause-done c =
     (subst (λ t. t < 65536) kind c.type_of-kind.ensures.small) c.requires.small
     (c.in_ok-extend_from_slice.ensures.items ∙ ap (λ (xs : List ℕ). xs ++ c.deref-2.result.now) (c.in_ok-put_offsets.ensures.text
     ∙ ap (λ (xs : List ℕ). xs ++ offsets_text (6 + c.len-count.result * 2) c.deref.result.now) c.in_ok-put_head.ensures.text)
-    ∙ ap (λ t. ((old ++ rule_head_text t flag c.len-count.result) ++ offsets_text (6 + c.len-count.result * 2) c.deref.result.now) ++ c.deref-2.result.now) (c.new_type.ensures.exact ∙ ap new_type kind)
-    ∙ ap (λ n. ((old ++ rule_head_text (new_type (type_at gpos lookup)) flag n) ++ offsets_text (6 + n * 2) c.deref.result.now) ++ c.deref-2.result.now) many
-    ∙ ap (λ (xs : List ℕ). ((old ++ rule_head_text (new_type (type_at gpos lookup)) flag (length offsets)) ++ offsets_text (6 + length offsets * 2) xs) ++ c.deref-2.result.now) c.deref.ensures.value
-    ∙ ap (λ (xs : List ℕ). ((old ++ rule_head_text (new_type (type_at gpos lookup)) flag (length offsets)) ++ offsets_text (6 + length offsets * 2) offsets) ++ xs) c.deref-2.ensures.value
-    ∙ parts-joined (new_type (type_at gpos lookup)) flag offsets subtables old)
+    ∙ ap (λ t. ((old ++ rule_head_text t flag c.len-count.result) ++ offsets_text (6 + c.len-count.result * 2) c.deref.result.now) ++ c.deref-2.result.now) kind
+    ∙ ap (λ n. ((old ++ rule_head_text (type_at gpos lookup) flag n) ++ offsets_text (6 + n * 2) c.deref.result.now) ++ c.deref-2.result.now) many
+    ∙ ap (λ (xs : List ℕ). ((old ++ rule_head_text (type_at gpos lookup) flag (length offsets)) ++ offsets_text (6 + length offsets * 2) xs) ++ c.deref-2.result.now) c.deref.ensures.value
+    ∙ ap (λ (xs : List ℕ). ((old ++ rule_head_text (type_at gpos lookup) flag (length offsets)) ++ offsets_text (6 + length offsets * 2) offsets) ++ xs) c.deref-2.ensures.value
+    ∙ parts-joined (type_at gpos lookup) flag offsets subtables old)

@@ -12,7 +12,7 @@ answer c =
     large_answer c.in_ok-table.table.items c.as_slice.result.now c.as_slice-2.result.now c.args.mappings.now c.requires.rise
     (c.as_slice-2.ensures.value ∙ c.in_ok-all.ensures.exact) (c.as_slice.ensures.value ∙ c.in_ok-low.ensures.exact)
     c.in_ok-low.ensures.fit (omega (arith, low, most))
-    (omega (arith, all, few, room)) c.in_ok-all.ensures.fit c.in_ok-table.ensures.fit c.in_ok-table.ensures.text
+    (omega (arith, all, few, room)) (omega (arith, all, few)) c.in_ok-all.ensures.fit c.in_ok-table.ensures.fit c.in_ok-table.ensures.text
 
 pub returns-clause-read : goal.returns-clause-read
 returns-clause-read c = (answer c).read
@@ -28,3 +28,6 @@ returns-clause-format4 c = (answer c).format4
 
 pub returns-clause-told_in_4 : goal.returns-clause-told_in_4
 returns-clause-told_in_4 c = (answer c).told_in_4
+
+pub returns-clause-size : goal.returns-clause-size
+returns-clause-size c = (answer c).size

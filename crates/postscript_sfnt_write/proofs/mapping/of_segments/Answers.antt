@@ -20,3 +20,6 @@ returns-clause-format4 c = (answer c).format4
 
 pub returns-clause-told_in_4 : goal.returns-clause-told_in_4
 returns-clause-told_in_4 c = (answer c).told_in_4
+
+pub returns-clause-size : goal.returns-clause-size
+returns-clause-size c = (answer c).size

@@ -1,7 +1,7 @@
 use Rattle.std.proofs.Common.{◌≤◌}
+use Rattle.postscript_layout_write.specs.Forms.{AreForms}
 use Rattle.postscript_layout_write.specs.Scopes.{new_pair}
-use Rattle.postscript_layout_write.specs.Lookups.{AreForms}
-use Rattle.postscript_layout_write.proofs.positioning.forms_of.Given as goal
+use Rattle.postscript_layout_write.proofs.forms.forms_of.Given as goal
 
 abbrev pub invariant-loop-k : goal.invariant-loop-k
 invariant-loop-k l = record {
