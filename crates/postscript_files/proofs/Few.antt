@@ -122,8 +122,8 @@ few-pairs choice map (pair ∷ pairs) kept =
     omega (arith, above, low)
 
 -- a table of 32 bytes after its version
-pub post-size : (new was : List ℕ) → 32 ≤ length was → drop 4 new ≡ drop 4 (take 32 was) → length new ≡ 32
-post-size new was long same =
+pub post_size : (new was : List ℕ) → 32 ≤ length was → drop 4 new ≡ drop 4 (take 32 was) → length new ≡ 32
+post_size new was long same =
     let a = length-drop 4 new in
     let b = length-drop 4 (take 32 was) in
     let c = length-take-le 32 was long in

@@ -462,14 +462,20 @@ tables-of choice old pairs origins font made tables kept is few m parts once = r
   named = named_of (glyphs_of choice) pairs;
   are = λ glyph h. named-for choice old.map pairs kept glyph h;
   cff = (font, parts.cff, is);
-  cmap = (made.cmap.items, parts.cmap,
-      let size = m.cmap_size in let most = few-pairs choice old.map pairs kept in omega (arith, size, most));
+  cmap = (
+    made.cmap.items,
+    parts.cmap,
+    let size = m.cmap_size in let most = few-pairs choice old.map pairs kept in omega (arith, size, most),
+  );
   hhea = (made.hhea.items, parts.hhea, m.hhea_kept.size);
-  hmtx = (made.hmtx.items, parts.hmtx,
-      let size = m.hmtx.size in let many = many-metrics old origins made.hmtx.items m.hmtx in let most = few.0 in
-      omega (arith, size, many, most));
+  hmtx = (
+    made.hmtx.items,
+    parts.hmtx,
+    let size = m.hmtx.size in let many = many-metrics old origins made.hmtx.items m.hmtx in let most = few.0 in
+        omega (arith, size, many, most),
+  );
   maxp = (made.maxp.items, parts.maxp, m.maxp_kept.size);
-  post = (made.post.items, parts.post, m.post.size);
+  post = (made.post.items, parts.post, m.post_size);
   copied = parts.copied;
   given = parts.given;
   only = parts.only;

@@ -48,7 +48,6 @@ pub record IsMapOf (pairs : List Mapping) (origins cmap : List ℕ) : Type 0 whe
 
 -- a `post` table without names, with the other values of the old one, or zeros
 pub record IsPostOf (file : FontFile) (post : List ℕ) : Type 0 where
-  pub size : length post ≡ 32
   pub version : number_at post 0 4 ≡ 0x00030000
   pub kept : (was : List ℕ) → IsTableOf file post_tag was → 32 ≤ length was → drop 4 post ≡ drop 4 (take 32 was)
   pub lacking : ((was : List ℕ) → IsTableOf file post_tag was → length was < 32) → drop 4 post ≡ replicate 28 0
@@ -74,6 +73,7 @@ pub record IsMade (face : Face) (pairs : List Mapping) (origins : List ℕ) (mad
   pub maxp : IsGlyphs made.maxp.items (length origins)
   pub maxp_kept : KeepsBut 4 face.maxp.now made.maxp.items
   pub post : IsPostOf face.file made.post.items
+  pub post_size : length made.post.items ≡ 32
 
 -- why the origins are not found
 abbrev pub HasNoOrigins : (retain : Bool) → (named cff : List ℕ) → Error → Type 0

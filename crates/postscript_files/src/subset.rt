@@ -193,8 +193,10 @@ fn maxp_of(alloc: Global, maxp: &[u8], count: u16) -> Result<Vec<u8>>
 }
 
 /// Writes a `post` table without names. Its other values are those of the face, or 0.
+#[tactic(auto, using(crate::proofs::Few::post_size))]
 fn post_of(alloc: Global, file: &FontFile<'_>) -> Result<Vec<u8>>
     ensures post { IfOk result (λ post. IsPostOf file.now post.items) }
+    ensures size { IfOk result (λ post. length post.items ≡ 32) }
     ensures memory { IfErr result (λ e. e ≡ errors.Memory) }
 {
     let post = match file.table(*b"post") {

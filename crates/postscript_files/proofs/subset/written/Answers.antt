@@ -3,7 +3,7 @@ use Rattle.postscript_files.proofs.Listing.{if-parts, parts}
 use Rattle.postscript_files.proofs.Twice.{if-not-parts}
 use Rattle.postscript_files.proofs.subset.written.Goals as goal
 
-all-parts : (c : goal.After-deref) → AreParts c.args.choice.now c.args.face.now.file c.args.cff.now c.args.made.now c.put_copied.new.tables.items
+all-parts : (c : goal.After-drop-tables-2) → AreParts c.args.choice.now c.args.face.now.file c.args.cff.now c.args.made.now c.put_copied.new.tables.items
 all-parts c =
     parts c.args.choice.now c.args.face.now.file c.args.cff.now c.args.made.now c.in_ok-tables.tables.items c.put_given.new.tables.items
     c.put_copied.new.tables.items c.in_ok-tables.ensures.made c.in_ok-put_given.ensures.adds c.in_ok-put_given.ensures.there
