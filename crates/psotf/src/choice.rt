@@ -1,7 +1,9 @@
 //! The glyphs and characters that a subset keeps.
 use clap::ArgMatches;
 use postscript_shaping::shaped;
-use psotf_font::characters::{Mapped, all_of, by_glyph, glyph_of, mapped_by, of_glyph, refuse_missing};
+use psotf_font::characters::{
+    Mapped, all_of, by_glyph, glyph_of, mapped_by, of_glyph, refuse_missing,
+};
 use psotf_font::face::Face;
 use psotf_output::failure::Failure;
 use std::alloc::{AllocError, Global};

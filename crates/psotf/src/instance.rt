@@ -78,13 +78,7 @@ fn made(
     let mut left = budget.left / budget.weight;
     let (alloc, opened, limit) = (rt.alloc(), &face.opened, budget.limit);
     let made = static_font(
-        alloc,
-        opened,
-        &location,
-        is_rounded,
-        limit,
-        &mut left,
-        &mut shown,
+        alloc, opened, &location, is_rounded, limit, &mut left, &mut shown,
     );
     shown.progress.end();
     match made {

@@ -15,7 +15,12 @@ pub fn chosen_by(
     face: &VariableFace<'_>,
     words: &ArgMatches<'_>,
 ) -> Result<Chosen, Failure> {
-    chosen(rt, face, words.get_str("instance"), words.get_str("variations"))
+    chosen(
+        rt,
+        face,
+        words.get_str("instance"),
+        words.get_str("variations"),
+    )
 }
 
 /// Prints the chosen glyphs at the chosen location.

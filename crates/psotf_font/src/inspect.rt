@@ -1,9 +1,9 @@
 //! The command `inspect`.
-use crate::{layouts, readings};
 use crate::characters::count;
 use crate::dictionaries::{self, Kind};
 use crate::face::{Face, called};
 use crate::hints::hinted;
+use crate::{layouts, readings};
 use postscript_base::compact1::Operator;
 use postscript_sfnt::Name;
 use postscript_view::Identifiers;
