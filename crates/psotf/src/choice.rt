@@ -1,9 +1,11 @@
 //! The glyphs and characters that a subset keeps.
-use crate::characters::{Mapped, all_of, by_glyph, glyph_of, mapped_by, of_glyph, refuse_missing};
-use crate::face::Face;
-use crate::failure::Failure;
 use clap::ArgMatches;
 use postscript_shaping::shaped;
+use psotf_font::characters::{
+    Mapped, all_of, by_glyph, glyph_of, mapped_by, of_glyph, refuse_missing,
+};
+use psotf_font::face::Face;
+use psotf_output::failure::Failure;
 use std::alloc::{AllocError, Global};
 
 /// The message for a malformed list of characters.

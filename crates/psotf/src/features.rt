@@ -1,7 +1,7 @@
 //! The layout features that a subset with new glyph numbers keeps.
-use crate::failure::Failure;
 use clap::ArgMatches;
 use postscript_subset::Features as Chosen;
+use psotf_output::failure::Failure;
 use std::alloc::Global;
 
 /// The features that are kept by default: those of HarfBuzz's `hb-subset`.

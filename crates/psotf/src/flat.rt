@@ -1,11 +1,12 @@
 //! The command `flat`: fonts with desubroutinized (no calls) charstrings.
-use crate::asking::ask_all;
-use crate::face::Face;
-use crate::failure::Failure;
-use crate::limit::Budget;
-use crate::saving;
+use crate::failures::by_files;
 use clap::ArgMatches;
 use postscript_files::flat_file;
+use psotf_font::asking::ask_all;
+use psotf_font::face::Face;
+use psotf_output::failure::Failure;
+use psotf_output::limit::Budget;
+use psotf_output::saving;
 use std::alloc::Global;
 use std::io::Write;
 
@@ -14,7 +15,10 @@ pub const RUNS: u64 = 4;
 
 /// Returns the file of the font without subroutines.
 fn file_of(alloc: Global, face: &Face<'_>) -> Result<Vec<u8>, Failure> {
-    Ok(flat_file(alloc, face.source.bytes, face.source.number)?)
+    match flat_file(alloc, face.source.bytes, face.source.number) {
+        Ok(file) => Ok(file),
+        Err(error) => Err(by_files(error)),
+    }
 }
 
 /// Writes the font with charstrings that call no subroutines. It fails if a glyph costs more than the limit.
@@ -27,5 +31,5 @@ pub fn write<W: Write>(
 ) -> Result<(), Failure> {
     ask_all(rt.alloc(), &face.font, budget)?;
     let file = file_of(rt.alloc(), face)?;
-    saving::put(rt, words, &file, out)
+    saving::put(rt, words.get_str("out"), &file, out)
 }

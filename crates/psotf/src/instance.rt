@@ -1,15 +1,16 @@
 //! The command `instance`: static fonts with outlines in a `CFF ` table.
-use crate::failure::{Failure, Refusal};
-use crate::leaving::tags;
-use crate::limit::Budget;
-use crate::progress::Progress;
-use crate::text::Text;
-use crate::variable::{VariableFace, chosen_by};
-use crate::{saving, telling};
+use crate::variable::chosen_by;
 use clap::ArgMatches;
 pub use postscript_instance_file::RUNS;
 use postscript_instance_file::{Error, GlyphError, StaticFont, Watch, static_font};
 use postscript_sfnt::FontFile;
+use psotf_drawing::variable::VariableFace;
+use psotf_font::leaving::tags;
+use psotf_output::failure::{Failure, Refusal};
+use psotf_output::limit::Budget;
+use psotf_output::progress::Progress;
+use psotf_output::text::Text;
+use psotf_output::{saving, telling};
 use std::alloc::{AllocError, Global};
 use std::io::Write;
 
@@ -27,9 +28,15 @@ const LOST: [([u8; 4], &str); 5] = [
     (*b"COLR", "colours"),
 ];
 
-impl<'r> Watch for Progress<'r> {
+/// The progress of an instance.
+#[derive(Clone, Copy)]
+struct Shown<'r> {
+    progress: Progress<'r>,
+}
+
+impl<'r> Watch for Shown<'r> {
     fn at_glyph(&mut self, gid: u16) {
-        self.at(u64::from(gid));
+        self.progress.at_glyph(gid);
     }
 }
 
@@ -51,7 +58,7 @@ fn refusal_of(error: GlyphError, budget: &mut Budget) -> Refusal {
 fn failure_of(error: Error, budget: &mut Budget) -> Failure {
     match error {
         Error::Glyph(gid, error) => Failure::glyph(gid, &refusal_of(error, budget)),
-        error => Failure::from(error),
+        error => Failure::other(error),
     }
 }
 
@@ -65,19 +72,15 @@ fn made(
     is_rounded: bool,
 ) -> Result<StaticFont, Failure> {
     let location = chosen_by(rt, face, words)?;
-    let mut progress = Progress::new(rt, face.common.glyphs);
+    let mut shown = Shown {
+        progress: Progress::new(rt, face.common.glyphs),
+    };
     let mut left = budget.left / budget.weight;
     let (alloc, opened, limit) = (rt.alloc(), &face.opened, budget.limit);
     let made = static_font(
-        alloc,
-        opened,
-        &location,
-        is_rounded,
-        limit,
-        &mut left,
-        &mut progress,
+        alloc, opened, &location, is_rounded, limit, &mut left, &mut shown,
     );
-    progress.end();
+    shown.progress.end();
     match made {
         Ok(made) => Ok(made),
         Err(error) => Err(failure_of(error, budget)),
@@ -150,5 +153,5 @@ pub fn write<W: Write>(
     if !words.get_flag("quiet") {
         tell(rt, face, &made)?;
     }
-    saving::put(rt, words, &made.file, out)
+    saving::put(rt, words.get_str("out"), &made.file, out)
 }

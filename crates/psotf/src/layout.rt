@@ -1,13 +1,22 @@
 //! The layout tables of a subset.
-use crate::face::Face;
-use crate::failure::Failure;
+use crate::failures::{by_files, by_subset};
 use crate::features::Features;
-use crate::limit::Budget;
-use crate::telling;
-use crate::text::Text;
 use postscript_files::{Choice, subset_file};
 use postscript_subset::{Error, Outcome, Subset, glyphs_with_layout, subset_with_layout};
+use psotf_font::face::Face;
+use psotf_output::failure::Failure;
+use psotf_output::limit::Budget;
+use psotf_output::telling;
+use psotf_output::text::Text;
 use std::alloc::{AllocError, Global};
+
+/// Opens the font in the file again, as the library takes it.
+fn opened<'l>(face: &Face<'l>) -> Result<postscript_files::Face<'l>, Failure> {
+    match postscript_files::Face::open(face.source.bytes, face.source.number) {
+        Ok(opened) => Ok(opened),
+        Err(error) => Err(by_files(error)),
+    }
+}
 
 /// Returns the chosen glyphs, and the glyphs that substitutions can make of them. It fails if the search costs more than
 /// the share of one glyph.
@@ -18,7 +27,7 @@ pub fn closed(
     features: &Features,
     budget: &mut Budget,
 ) -> Result<Vec<usize>, Failure> {
-    let opened = postscript_files::Face::open(face.source.bytes, face.source.number)?;
+    let opened = opened(face)?;
     let share = budget.share();
     let mut left = share;
     let found = glyphs_with_layout(alloc, &opened, choice, features.chosen(), &mut left);
@@ -26,7 +35,7 @@ pub fn closed(
     match found {
         Ok(glyphs) => Ok(glyphs),
         Err(Error::TooLong) => Err(Failure::substitutions(&budget.stop(share))),
-        Err(error) => Err(Failure::from(error)),
+        Err(error) => Err(by_subset(error)),
     }
 }
 
@@ -45,20 +54,22 @@ pub fn written(
     match written {
         Ok(subset) => Ok(subset),
         Err(Error::TooLong) => Err(Failure::substitutions(&budget.stop(0))),
-        Err(error) => Err(Failure::from(error)),
+        Err(error) => Err(by_subset(error)),
     }
 }
 
 /// Returns the subset without layout tables.
 pub fn plain(alloc: Global, face: &Face<'_>, choice: &Choice<'_>) -> Result<Subset, Failure> {
-    let (bytes, number) = (face.source.bytes, face.source.number);
-    Ok(Subset {
-        file: subset_file(alloc, bytes, number, choice)?,
-        gsub: Outcome::NotChosen,
-        gpos: Outcome::NotChosen,
-        gdef: Outcome::NotChosen,
-        left_out: Vec::new(alloc),
-    })
+    match subset_file(alloc, face.source.bytes, face.source.number, choice) {
+        Ok(file) => Ok(Subset {
+            file,
+            gsub: Outcome::NotChosen,
+            gpos: Outcome::NotChosen,
+            gdef: Outcome::NotChosen,
+            left_out: Vec::new(alloc),
+        }),
+        Err(error) => Err(by_files(error)),
+    }
 }
 
 /// Returns numbers as a text, with a space before each.

@@ -4,56 +4,37 @@
 
 ghost use Rattle.std.specs.Prelude.{◌<◌};
 
-mod along;
-mod asking;
-mod characters;
 mod choice;
 mod commands;
-mod dictionaries;
-mod drawing;
-mod face;
-mod failure;
+mod failures;
 mod features;
 mod flat;
-mod glyph;
 mod glyphs;
-mod held;
-mod hints;
-mod inspect;
 mod instance;
-mod labels;
 mod layout;
-mod layouts;
-mod leaving;
-mod limit;
 mod many;
-mod progress;
 mod proof;
-mod readings;
-mod refused;
+mod ranges;
 mod report;
-mod saving;
-mod sheet;
-mod specimen;
-mod stopped;
 mod subset;
 mod svg;
-mod telling;
-mod text;
 mod variable;
-mod weight;
 
 use clap::ArgMatches;
 use commands::psotf;
-use face::{Face, Source, source_of};
-use failure::Failure;
-use limit::Budget;
 use postscript_drawing::LIMIT;
+use psotf_drawing::specimen;
+use psotf_drawing::variable::VariableFace;
+use psotf_font::face::{Face, Source, source_of};
+use psotf_font::inspect;
+use psotf_output::failure::Failure;
+use psotf_output::limit::{Budget, OBJECT, PATH};
+use psotf_output::telling;
+use ranges::gids_of;
 use std::fs::File;
 use std::io::{BufWriter, Read, Write};
 use std::process::ExitCode;
 use std::{env, io};
-use variable::VariableFace;
 
 /// Returns how many units of the budget one unit of a run may cost in a subcommand.
 fn weight_of(name: &str, words: &ArgMatches<'_>) -> u64
@@ -63,10 +44,10 @@ fn weight_of(name: &str, words: &ArgMatches<'_>) -> u64
         "inspect" => 1,
         "flat" => flat::RUNS,
         "subset" => subset::RUNS,
-        "report" => report::RUNS,
+        "report" => psotf_drawing::report::RUNS,
         "instance" => instance::RUNS,
-        "glyph" if words.get_flag("json") => drawing::OBJECT,
-        _ => drawing::PATH,
+        "glyph" if words.get_flag("json") => OBJECT,
+        _ => PATH,
     }
 }
 
@@ -180,7 +161,14 @@ fn write<W: Write>(
         "flat" => flat::write(rt, face, words, budget, out),
         "subset" => subset::write(rt, face, words, budget, out),
         "report" => report::write(rt, face, words, budget),
-        _ => specimen::write(rt, face, words, budget, out),
+        _ => specimen::write(
+            rt,
+            face,
+            gids_of(face, words),
+            words.get_str("out"),
+            budget,
+            out,
+        ),
     }
 }
 

@@ -1,9 +1,10 @@
 //! Commands on several files: a row for each file, in their order, also if it has an error.
-use crate::failure::Failure;
-use crate::progress::Progress;
-use crate::sheet::Sheet;
-use crate::{answer, bytes_of, telling};
+use crate::{answer, bytes_of};
 use clap::ArgMatches;
+use psotf_output::failure::Failure;
+use psotf_output::progress::Progress;
+use psotf_output::sheet::Sheet;
+use psotf_output::telling;
 use std::alloc::{AllocError, Global};
 use std::io::{Read, Write};
 

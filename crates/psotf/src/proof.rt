@@ -1,6 +1,7 @@
 //! The command `proof`.
-use crate::failure::Failure;
-use crate::{bytes_of, telling};
+use crate::bytes_of;
+use psotf_output::failure::Failure;
+use psotf_output::telling;
 use std::env;
 use std::io::Write;
 use std::path::PathBuf;

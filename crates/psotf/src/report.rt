@@ -1,208 +1,39 @@
 //! The command `report`: HTML pages about a font.
-mod head;
-mod operations;
-mod outlines;
-mod pages;
-mod parts;
-mod row;
-mod short;
-mod unread;
-
-use crate::characters::{Mapped, by_glyph};
-use crate::drawing::{OBJECT, count};
-use crate::face::Face;
-use crate::failure::Failure;
-use crate::hints::hinted;
-use crate::limit::Budget;
-use crate::progress::Progress;
-use crate::saving::NewFile;
-use crate::sheet::Sheet;
-use crate::stopped::Stopped;
+use crate::ranges::gids_of;
 use clap::ArgMatches;
-use pages::{PAGES, Pages};
-use psotf_page::end;
-use std::alloc::{AllocError, Global};
+use psotf_drawing::report;
+use psotf_font::face::{Face, Source};
+use psotf_font::report::pages::Pages;
+use psotf_output::failure::Failure;
+use psotf_output::limit::Budget;
 use std::ops::Range;
-pub use unread::write_refused;
 
-/// The most that a unit of a run costs. A glyph is drawn and written, searched for hints, checked, and measured twice
-/// without calls.
-pub const RUNS: u64 = OBJECT + 4;
-
-/// Writes a piece of a page, and clears it.
-fn take(rt: &HostRuntime, page: &mut Vec<u8>, file: &mut NewFile<'_>) -> Result<(), Failure> {
-    file.put(rt, page.as_slice())?;
-    page.clear();
-    Ok(())
-}
-
-/// Writes the rows of glyphs to a page, one on each line, and the end of the block of JSON.
-fn write_glyphs(
-    rt: &HostRuntime,
-    face: &Face<'_>,
-    mapped: &[Mapped],
-    gids: Range<u16>,
-    budget: &mut Budget,
-    stopped: &mut Stopped<'_>,
-    file: &mut NewFile<'_>,
-) -> Result<(), Failure> {
-    let from = gids.start;
-    let mut page = Vec::new(rt.alloc());
-    let mut progress = Progress::new(rt, gids.end);
-    let mut sheet = Sheet::new(rt.alloc());
-    for gid in gids {
-        progress.at_glyph(gid);
-        if gid > from {
-            page.extend_from_slice(b",\n")?;
-        }
-        row::put(rt.alloc(), &mut sheet, face, mapped, gid, budget, stopped)?;
-        sheet.end_in(&mut page)?;
-        take(rt, &mut page, file)?;
-    }
-    progress.end();
-    file.put(rt, b"\n]}\n")
-}
-
-/// The data that all pages share.
-#[derive(Clone, Copy)]
-struct Common<'c, 'w, 'l> {
-    face: &'c Face<'l>,
-    words: &'c ArgMatches<'w>,
-    pages: Pages<'c>,
-    mapped: &'c [Mapped],
-    hinted: u64,
-}
-
-/// Writes the block of JSON of a page (docs/report-format.md).
-fn write_data(
-    rt: &HostRuntime,
-    common: &Common<'_, '_, '_>,
-    first: u16,
-    budget: &mut Budget,
-    stopped: &mut Stopped<'_>,
-    file: &mut NewFile<'_>,
-) -> Result<(), Failure> {
-    let mut page = Vec::new(rt.alloc());
-    let mut sheet = Sheet::new(rt.alloc());
-    head::put(
-        rt.alloc(),
-        &mut sheet,
-        common.face,
-        common.words,
-        &common.pages,
-        first,
-        common.hinted,
-    );
-    sheet.end_in(&mut page)?;
-    page.extend_from_slice(b",\n\"glyphs\":[\n")?;
-    take(rt, &mut page, file)?;
-    let gids = common.pages.glyphs(first);
-    write_glyphs(rt, common.face, common.mapped, gids, budget, stopped, file)
-}
-
-/// Adds the page up to the block of JSON, and the beginning of the block.
-fn begin(alloc: Global, page: &mut Vec<u8>) -> Result<(), AllocError> {
-    psotf_page::begin(alloc, page)?;
-    page.extend_from_slice(b"{\"head\":")
-}
-
-/// Writes the page that begins with a glyph to a file.
-fn write_all(
-    rt: &HostRuntime,
-    common: &Common<'_, '_, '_>,
-    first: u16,
-    budget: &mut Budget,
-    stopped: &mut Stopped<'_>,
-    file: &mut NewFile<'_>,
-) -> Result<(), Failure> {
-    let mut page = Vec::new(rt.alloc());
-    begin(rt.alloc(), &mut page)?;
-    take(rt, &mut page, file)?;
-    write_data(rt, common, first, budget, stopped, file)?;
-    end(&mut page)?;
-    take(rt, &mut page, file)
-}
-
-/// Writes the page that begins with a glyph.
-fn write_page(
-    rt: &HostRuntime,
-    common: &Common<'_, '_, '_>,
-    first: u16,
-    budget: &mut Budget,
-    stopped: &mut Stopped<'_>,
-) -> Result<(), Failure> {
-    let path = common.pages.path_of(rt.alloc(), first)?;
-    let mut file = NewFile::at(rt, path.as_str())?;
-    let written = write_all(rt, common, first, budget, stopped, &mut file);
-    file.end(rt, written)
-}
-
-fn write_pages(
-    rt: &HostRuntime,
-    common: &Common<'_, '_, '_>,
-    budget: &mut Budget,
-    stopped: &mut Stopped<'_>,
-) -> Result<(), Failure> {
-    for page in 0..PAGES {
-        if let Some(first) = common.pages.first_of(page) {
-            write_page(rt, common, first, budget, stopped)?;
-        }
-    }
-    Ok(())
-}
-
-/// Returns the path of the first page.
-fn path_of<'w>(words: &'w ArgMatches<'_>) -> &'w str {
-    match words.get_str("out") {
-        Some(path) => path,
-        None => "report.html",
-    }
-}
-
-/// Returns the pages of the glyphs that the arguments select.
-fn pages_of<'w>(face: &Face<'_>, words: &'w ArgMatches<'_>) -> Pages<'w> {
-    let first = words.get_one::<u16>("from").unwrap_or(0);
-    let most = words.get_one::<u16>("count").unwrap_or(65535);
+/// Returns the pages of glyphs, at the path in the arguments.
+fn pages_of<'w>(words: &'w ArgMatches<'_>, gids: Range<u16>) -> Pages<'w> {
     Pages {
-        path: path_of(words),
-        first,
-        end: count(face).min(first.saturating_add(most)),
+        path: words.get_str("out").unwrap_or("report.html"),
+        face: words.get_one::<u16>("face").unwrap_or(0),
+        first: gids.start,
+        end: gids.end,
     }
 }
 
-/// The most local subroutines that a page lists. Subroutines shared by several Font DICTs are listed for each of them.
-const MOST_LISTED: usize = 1_000_000;
-
-/// Returns whether the Font DICTs have more local subroutines than a page lists.
-fn lists_too_many(face: &Face<'_>) -> bool {
-    let mut sum = 0usize;
-    for part in &face.font.parts {
-        sum = sum.saturating_add(part.subroutines.len());
-    }
-    sum > MOST_LISTED
-}
-
-/// Writes pages about a font, which load nothing. Many glyphs take several pages. It fails first if the font has too
-/// many local subroutines, and afterwards if glyphs cost more than the limit, with their number.
+/// Writes pages about a font and the glyphs that the arguments select.
 pub fn write(
     rt: &HostRuntime,
     face: &Face<'_>,
     words: &ArgMatches<'_>,
     budget: &mut Budget,
 ) -> Result<(), Failure> {
-    if lists_too_many(face) {
-        return Err(Failure::dictionaries());
-    }
-    let mut stopped = Stopped::new(rt);
-    let mapped = by_glyph(rt.alloc(), &face.map)?;
-    let pages = pages_of(face, words);
-    let common = Common {
-        face,
-        words,
-        pages,
-        mapped: mapped.as_slice(),
-        hinted: hinted(rt, face, budget, &mut stopped)?,
-    };
-    write_pages(rt, &common, budget, &mut stopped)?;
-    stopped.end()
+    report::write(rt, face, pages_of(words, gids_of(face, words)), budget)
+}
+
+/// Writes a page that shows why a `CFF ` table is invalid. It writes nothing for any other failure.
+pub fn write_refused(
+    rt: &HostRuntime,
+    source: &Source<'_>,
+    words: &ArgMatches<'_>,
+    failure: &Failure,
+) -> Result<(), Failure> {
+    report::write_refused(rt, source, &pages_of(words, 0..0), failure)
 }

@@ -1,15 +1,17 @@
 //! The command `subset`: fonts with only some glyphs.
-use crate::along::Kept;
 use crate::choice::Choice;
-use crate::face::Face;
-use crate::failure::Failure;
 use crate::features::Features;
-use crate::limit::Budget;
-use crate::{layout, leaving, saving, telling};
+use crate::layout;
 use clap::ArgMatches;
 use postscript_files::Given;
 use postscript_subset::Subset;
 use postscript_text::names::trimmed;
+use psotf_font::along::Kept;
+use psotf_font::face::Face;
+use psotf_font::leaving;
+use psotf_output::failure::Failure;
+use psotf_output::limit::Budget;
+use psotf_output::{saving, telling};
 use std::alloc::{AllocError, Global};
 use std::io::Write;
 
@@ -175,5 +177,5 @@ pub fn write<W: Write>(
     if !words.get_flag("quiet") {
         tell(rt, face, &kept, &subset)?;
     }
-    saving::put(rt, words, &subset.file, out)
+    saving::put(rt, words.get_str("out"), &subset.file, out)
 }

@@ -1,39 +1,79 @@
-//! Variable fonts: fonts with outlines in a `CFF2` table.
-mod fixed;
-mod glyphs;
-mod holds;
-mod moving;
-mod place;
-
-use crate::face::Common;
-use crate::failure::Failure;
-use crate::instance;
-use crate::limit::Budget;
+//! Subcommands for variable fonts.
+use crate::{glyphs, instance, svg};
 use clap::ArgMatches;
-pub use place::chosen_by;
-use postscript_sfnt::FontFile;
+use psotf_drawing::variable::glyphs::Placed;
+use psotf_drawing::variable::place::{Chosen, axis_named, chosen};
+use psotf_drawing::variable::{VariableFace, holds, moving};
+use psotf_output::failure::Failure;
+use psotf_output::limit::Budget;
+use psotf_output::saving;
 use std::io::Write;
 
-/// A font of a file, with a `CFF2` table.
-#[derive(Clone, Copy)]
-pub struct VariableFace<'l> {
-    pub common: Common<'l>,
-    /// The font and its tables of variations.
-    pub opened: postscript_instance_file::VariableFace<'l>,
+/// Returns the location that the arguments select. Without them, it is the default instance.
+pub fn chosen_by(
+    rt: &HostRuntime,
+    face: &VariableFace<'_>,
+    words: &ArgMatches<'_>,
+) -> Result<Chosen, Failure> {
+    chosen(
+        rt,
+        face,
+        words.get_str("instance"),
+        words.get_str("variations"),
+    )
 }
 
-impl<'l> VariableFace<'l> {
-    /// Reads a font of a file. Returns `None` if it has no `CFF2` table, or also has a `CFF ` table. It fails if a
-    /// table is invalid or too expensive to process.
-    pub fn open(file: &FontFile<'l>) -> Result<Option<VariableFace<'l>>, Failure> {
-        match postscript_instance_file::VariableFace::open(file)? {
-            Some(opened) => Ok(Some(VariableFace {
-                common: Common::open(file)?,
-                opened,
-            })),
-            None => Ok(None),
-        }
+/// Prints the chosen glyphs at the chosen location.
+fn write_glyphs<W: Write>(
+    rt: &HostRuntime,
+    face: &VariableFace<'_>,
+    words: &ArgMatches<'_>,
+    budget: &mut Budget,
+    out: &mut W,
+) -> Result<(), Failure> {
+    let chosen = chosen_by(rt, face, words)?;
+    let placed = Placed {
+        face,
+        chosen: &chosen,
+    };
+    glyphs::write(rt, &placed, words, budget, out)
+}
+
+/// Writes a picture of the chosen glyph or text, animated along an axis and back.
+fn write_moving<W: Write>(
+    rt: &HostRuntime,
+    face: &VariableFace<'_>,
+    name: &str,
+    words: &ArgMatches<'_>,
+    budget: &mut Budget,
+    out: &mut W,
+) -> Result<(), Failure> {
+    let alloc = rt.alloc();
+    let (gid, text) = (words.get_one::<u16>("gid"), words.get_str("text"));
+    let axis = axis_named(alloc, face, name)?;
+    let gids = moving::asked(alloc, face, gid, text.unwrap_or(""))?;
+    let chosen = chosen_by(rt, face, words)?;
+    let picture = moving::moving(alloc, face, &axis, &gids, &chosen, budget)?;
+    saving::put(rt, words.get_str("out"), picture.as_bytes(), out)
+}
+
+/// Writes a picture of the chosen glyph or text, at the chosen location.
+fn write_picture<W: Write>(
+    rt: &HostRuntime,
+    face: &VariableFace<'_>,
+    words: &ArgMatches<'_>,
+    budget: &mut Budget,
+    out: &mut W,
+) -> Result<(), Failure> {
+    if let Some(axis) = words.get_str("animate") {
+        return write_moving(rt, face, axis, words, budget, out);
     }
+    let chosen = chosen_by(rt, face, words)?;
+    let placed = Placed {
+        face,
+        chosen: &chosen,
+    };
+    svg::write(rt, &placed, words, budget, out)
 }
 
 /// Returns whether the arguments select an instance or an axis.
@@ -73,8 +113,8 @@ pub fn write<W: Write>(
 ) -> Result<(), Failure> {
     match name {
         "inspect" => holds::write(rt.alloc(), face, words.get_flag("json"), out),
-        "glyph" => glyphs::write(rt, face, words, budget, out),
-        "svg" => glyphs::write_picture(rt, face, words, budget, out),
+        "glyph" => write_glyphs(rt, face, words, budget, out),
+        "svg" => write_picture(rt, face, words, budget, out),
         _ => instance::write(rt, face, words, budget, out),
     }
 }

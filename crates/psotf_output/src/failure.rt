@@ -1,0 +1,313 @@
+//! Errors of commands, and their messages.
+use crate::limit::GLYPHS;
+use crate::rules::{Spot, rule_of};
+use std::alloc::{AllocError, AllocFailed, Global};
+use std::fmt::{Display, InlineText};
+use std::{fmt, io};
+use thiserror::Error;
+
+/// The capacity of a message in bytes. Only a name at the end of a message can exceed it.
+const ROOM: usize = 512;
+
+/// A message. The text is stored instead of the error, since each function that passes an error on has its parts in its
+/// proof.
+pub type Words = InlineText<{ ROOM }>;
+
+/// Why a glyph cannot be drawn or written.
+#[derive(Drop, Error)]
+pub enum Refusal {
+    #[error("it has no Font DICT in FDSelect")]
+    NoPart,
+    #[error("it costs more than {0} units (--limit)")]
+    TooLong(u64),
+    #[error("it costs more than {0} units, a fortieth of --limit (instance keeps all operations in memory)")]
+    Held(u64),
+    #[error("it draws more than {0} segments, one for each 50 units of --limit")]
+    Segments(u64),
+    #[error("the command would cost more than {0} units ({GLYPHS} times --limit)")]
+    UsedUp(u64),
+    /// The message of another library's error.
+    #[error("{}", .0.as_str())]
+    Told(Words),
+}
+
+impl fmt::Debug for Refusal {
+    fn fmt<W: fmt::Write>(&self, f: &mut fmt::Formatter<W>) -> fmt::Result {
+        fmt::Display::fmt(self, f)
+    }
+}
+
+impl Refusal {
+    /// Returns the error of a run.
+    pub fn run(error: postscript_base::Error) -> Refusal {
+        let code = error.code();
+        let rule = rule_of(code);
+        Refusal::Told(Words::of(format_args!("{error} (error {code}): {rule}")))
+    }
+
+    /// Returns the error of a `seac` glyph whose operands name no base and accent.
+    pub fn accent<D: Display + Drop>(error: D) -> Refusal {
+        Refusal::Told(Words::of(format_args!(
+            "{error}: endchar with four operands names a base and an accent (Technical Note 5177, Appendix C)"
+        )))
+    }
+
+    /// Returns another library's error of a glyph.
+    pub fn other<D: Display + Drop>(error: D) -> Refusal {
+        Refusal::Told(Words::of(error))
+    }
+
+    /// Returns whether a greater limit may succeed.
+    pub fn is_by_limit(&self) -> bool {
+        match self {
+            Refusal::TooLong(_) | Refusal::Held(_) | Refusal::Segments(_) | Refusal::UsedUp(_) =>
+                true,
+            _ => false,
+        }
+    }
+}
+
+/// The kind of a failure.
+#[derive(Clone, Copy, PartialEq, Eq)]
+enum Kind {
+    /// Nobody reads the output pipe.
+    ClosedPipe,
+    /// The arguments are wrong.
+    Usage,
+    /// The `CFF ` table is invalid.
+    Table,
+    Other,
+}
+
+/// Why a command fails.
+#[derive(Drop)]
+pub struct Failure {
+    words: Words,
+    /// The end of the message: a name from the command line, or a text that may exceed the capacity.
+    name: Option<String>,
+    kind: Kind,
+}
+
+impl fmt::Display for Failure {
+    fn fmt<W: fmt::Write>(&self, f: &mut fmt::Formatter<W>) -> fmt::Result {
+        f.write_str(self.words.as_str())?;
+        match &self.name {
+            Some(name) => f.write_str(name.as_str()),
+            None => Ok(()),
+        }
+    }
+}
+
+impl Failure {
+    /// Returns a failure of a kind with a message.
+    fn told<D: Display + Drop>(kind: Kind, what: D) -> Failure {
+        Failure {
+            words: Words::of(what),
+            name: None,
+            kind,
+        }
+    }
+
+    /// Returns a failure with a message.
+    pub fn other<D: Display + Drop>(what: D) -> Failure {
+        Failure::told(Kind::Other, what)
+    }
+
+    /// Returns a failure of a part.
+    pub fn of<D: Display + Drop>(part: &str, what: D) -> Failure {
+        Failure::other(format_args!("{part}: {what}"))
+    }
+
+    /// Returns a failure whose message has a name in it.
+    fn between(before: &str, name: &str, behind: &str) -> Failure {
+        Failure::other(format_args!("{before}{name}{behind}"))
+    }
+
+    /// Returns a failure of a kind whose message ends with a name.
+    fn named(kind: Kind, words: &str, name: String) -> Failure {
+        Failure {
+            words: Words::of(words),
+            name: Some(name),
+            kind,
+        }
+    }
+
+    /// Returns whether nobody reads the output pipe.
+    pub fn is_closed_pipe(&self) -> bool {
+        self.kind == Kind::ClosedPipe
+    }
+
+    /// Returns whether the `CFF ` table is invalid.
+    pub fn is_of_table(&self) -> bool {
+        self.kind == Kind::Table
+    }
+
+    /// Returns the exit status.
+    pub fn status(&self) -> u8 {
+        if self.kind == Kind::Usage { 2 } else { 1 }
+    }
+
+    /// The arguments are wrong.
+    pub fn usage(what: &'static str) -> Failure {
+        Failure::told(Kind::Usage, what)
+    }
+
+    /// A glyph has an error.
+    pub fn glyph(gid: u16, refusal: &Refusal) -> Failure {
+        Failure::other(format_args!("glyph {gid}: {refusal}"))
+    }
+
+    /// `count` glyphs have errors.
+    pub fn refused(count: u64) -> Failure {
+        Failure::other(format_args!("glyphs with errors: {count}"))
+    }
+
+    /// `count` files have errors.
+    pub fn files(count: u64) -> Failure {
+        Failure::other(format_args!("files with errors: {count}"))
+    }
+
+    /// A file cannot be written.
+    pub fn saving(alloc: Global, path: &str, error: io::Error) -> Failure {
+        match format!(in alloc; "cannot write {path}: {error}") {
+            Ok(text) => Failure::named(Kind::Other, "", text),
+            Err(fault) => Failure::from(fault),
+        }
+    }
+}
+
+/// Errors of a file or a table.
+impl Failure {
+    /// A part of the `CFF ` table is invalid.
+    pub fn of_table(spot: Spot, error: postscript_base::Error) -> Failure {
+        let code = error.code();
+        let rule = rule_of(code);
+        Failure::told(
+            Kind::Table,
+            format_args!("the CFF table, {spot}: {error} (error {code}): {rule}"),
+        )
+    }
+
+    /// The search for substitutions in the `GSUB` table is too expensive.
+    pub fn substitutions(refusal: &Refusal) -> Failure {
+        Failure::other(format_args!("the GSUB table: {refusal}; --drop-layout does without it"))
+    }
+
+    /// A required table is missing.
+    pub fn no_table(table: &'static str) -> Failure {
+        Failure::between("there is no ", table, " table, or it is truncated")
+    }
+
+    /// The required table with this tag is missing.
+    pub fn no_table_of(tag: u32) -> Failure {
+        let [first, second, third, last] = tag.to_be_bytes();
+        Failure::other(format_args!(
+            "there is no {}{}{}{} table",
+            char::from(first),
+            char::from(second),
+            char::from(third),
+            char::from(last),
+        ))
+    }
+
+    /// A table is truncated.
+    pub fn cut(table: &'static str) -> Failure {
+        Failure::between("the ", table, " table is truncated")
+    }
+
+    /// Font DICTs overlap.
+    pub fn dictionaries() -> Failure {
+        Failure::other("the Font DICTs overlap: together they have too many bytes")
+    }
+
+    /// The file with the verdicts is missing.
+    pub fn no_proof() -> Failure {
+        Failure::other("there is no PROOF.txt; it comes with the packages and the archive")
+    }
+
+    /// The file is of another kind.
+    pub fn other_kind(kind: &'static str) -> Failure {
+        Failure::of(kind, "psotf reads OpenType files with a CFF or CFF2 table")
+    }
+}
+
+/// Requests for parts that the font does not have.
+impl Failure {
+    /// The font has no such part.
+    pub fn no_part(part: &'static str) -> Failure {
+        Failure::between("the font has no ", part, "")
+    }
+
+    /// The font has no glyph with this number.
+    pub fn no_glyph(gid: u32) -> Failure {
+        Failure::other(format_args!("the font has no glyph {gid}"))
+    }
+
+    /// The list of glyphs is empty.
+    pub fn no_glyphs() -> Failure {
+        Failure::other("no glyphs are chosen")
+    }
+
+    /// The font has no glyph for a character.
+    pub fn no_char(char: u32) -> Failure {
+        Failure::other(format_args!("the font has no glyph for the character U+{char:04X}"))
+    }
+
+    /// The font has no glyph for some characters. The text has a space before each of them.
+    pub fn no_chars(chars: String) -> Failure {
+        Failure::named(Kind::Other, "the font has no glyph for:", chars)
+    }
+
+    /// The font has no axis with this tag.
+    pub fn no_axis(tag: String) -> Failure {
+        Failure::named(Kind::Usage, "the font has no axis ", tag)
+    }
+
+    /// The font has no instance with this name.
+    pub fn no_instance(name: String) -> Failure {
+        Failure::named(Kind::Usage, "the font has no instance ", name)
+    }
+
+    /// The font is not a variable font.
+    pub fn no_places() -> Failure {
+        Failure::other(
+            "not a variable font: its outlines are in CFF, and instance needs a CFF2 table",
+        )
+    }
+}
+
+impl From<io::Error> for Failure {
+    fn from(error: io::Error) -> Failure {
+        let kind = if error.kind() == io::ErrorKind::BrokenPipe {
+            Kind::ClosedPipe
+        } else {
+            Kind::Other
+        };
+        Failure::told(kind, error)
+    }
+}
+
+impl From<AllocError> for Failure {
+    fn from(_fault: AllocError) -> Failure {
+        Failure::other("out of memory")
+    }
+}
+
+impl<T: Drop> From<AllocFailed<T>> for Failure {
+    fn from(_fault: AllocFailed<T>) -> Failure {
+        Failure::other("out of memory")
+    }
+}
+
+impl From<postscript_sfnt::Error> for Failure {
+    fn from(error: postscript_sfnt::Error) -> Failure {
+        Failure::of("cannot open the font", error)
+    }
+}
+
+impl From<postscript_base::Error> for Failure {
+    fn from(error: postscript_base::Error) -> Failure {
+        let code = error.code();
+        Failure::other(format_args!("the CFF table: {error} (error {code})"))
+    }
+}

@@ -1,0 +1,142 @@
+//! The budget of a command.
+ghost use Rattle.std.specs.Prelude.{◌≡◌, ◌<◌, ◌≤◌, ◌-◌, ◌*◌, ◌/◌, ◌^◌, min};
+ghost use Rattle.psotf_output.specs.declared.failure.Refusal.TheVariants as refusals;
+
+use crate::failure::Refusal;
+use postscript_base::index::IndexView;
+use postscript_view::{FontView, Glyph};
+
+/// The budget of a command, in multiples of the limit of a glyph.
+pub const GLYPHS: u64 = 20;
+
+/// The cost of writing a segment, in units.
+pub const SEGMENT: u64 = 8;
+
+/// The cost of writing an operator or an operand, in units.
+pub const OPERAND: u64 = 4;
+
+/// The most that a unit of a run costs if segments are written. A unit draws at most one.
+pub const PATH: u64 = 1 + SEGMENT;
+
+/// The most that a unit of a run costs if operations are written too. A unit has at most one operator or operand.
+pub const OBJECT: u64 = PATH + OPERAND;
+
+/// The units of the budget for each byte of a picture, which is kept in memory until it is complete.
+pub const BYTE: u64 = 10;
+
+/// The budget of a command, in units of `Program::step_within`.
+#[derive(Clone, Copy)]
+pub struct Budget {
+    /// The most that a glyph may cost.
+    pub limit: u64,
+    /// The rest of the command's budget.
+    pub left: u64,
+    /// The most that a unit of a run costs. Output made from the run costs units too.
+    pub weight: u64,
+
+    ghost weighs: { 0 < weight },
+}
+
+/// Returns the length of the longest item in bytes.
+fn longest_of(items: &IndexView<'_>) -> u64 {
+    let mut longest = 0u64;
+    for item in items.iter() {
+        longest = longest.max(item.len() as u64);
+    }
+    longest
+}
+
+/// Returns the length in bytes of the longest charstring or subroutine that a glyph may run.
+fn longest_code(glyph: &Glyph<'_, '_>) -> u64 {
+    let subroutines = longest_of(&glyph.global_subroutines).max(longest_of(
+        &glyph.part.subroutines,
+    ));
+    subroutines.max(glyph.code.len() as u64)
+}
+
+impl Budget {
+    /// Returns the budget of a command with a limit for each glyph. A unit of a run costs at most `weight` units.
+    pub fn new(limit: u64, weight: u64) -> Budget
+        requires weighs { 0 < weight }
+        // The limit is `limit`.
+        ensures limit { result.limit ≡ limit }
+        // The budget is `limit * GLYPHS`, or the greatest `u64`.
+        ensures left { result.left ≡ min (limit * GLYPHS) (2 ^ 64 - 1) }
+        // The weight is `weight`.
+        ensures weight { result.weight ≡ weight }
+    {
+        Budget {
+            limit,
+            left: limit.saturating_mul(GLYPHS),
+            weight,
+        }
+    }
+
+    /// Returns the share of the next glyph: the limit, or what is left if each unit costs the most.
+    pub fn share(&self) -> u64
+        // The share is the limit, or the rest divided by the weight if that is less.
+        ensures { result ≡ min self.now.limit (self.now.left / self.now.weight) }
+    {
+        self.limit.min(self.left / self.weight)
+    }
+
+    /// Spends units, or all that is left.
+    pub fn spend(&mut self, units: u64)
+        // The rest decreases by `units`, to at least 0.
+        ensures left { self.new.left ≡ self.old.left - units }
+        // The limit is unchanged.
+        ensures limit { self.new.limit ≡ self.old.limit }
+    {
+        self.left = self.left.saturating_sub(units);
+    }
+
+    /// Spends the most that these units of a run cost.
+    pub fn spend_whole(&mut self, units: u64)
+        // The rest decreases by `units` times the weight, to at least 0.
+        ensures left { self.new.left ≡ self.old.left - units * self.old.weight }
+        // The limit is unchanged.
+        ensures limit { self.new.limit ≡ self.old.limit }
+    {
+        self.left = self.left.saturating_sub(units.saturating_mul(self.weight));
+    }
+
+    /// Spends the cost of a glyph whose run fails, since the failing operator costs nothing itself. It is the length of
+    /// the longest code in bytes, plus one unit for each subroutine that was measured to find it.
+    pub fn refuse(&mut self, glyph: &Glyph<'_, '_>)
+        // The limit is unchanged.
+        ensures limit { self.new.limit ≡ self.old.limit }
+    {
+        let looked_at = (glyph.global_subroutines.len() as u64).saturating_add(
+            glyph.part.subroutines.len() as u64,
+        );
+        self.spend_whole(longest_code(glyph).saturating_add(looked_at));
+    }
+
+    /// Spends the cost of the search for a base and an accent: one unit for each of the two and each glyph of the font.
+    pub fn search(&mut self, font: &FontView<'_>)
+        // The limit is unchanged.
+        ensures limit { self.new.limit ≡ self.old.limit }
+    {
+        self.spend_whole((font.char_strings.len() as u64).saturating_mul(2));
+    }
+
+    /// Returns the error of a glyph that used up its share. If the share was less than the limit, nothing is left for
+    /// later glyphs.
+    pub fn stop(&mut self, share: u64) -> Refusal
+        // If the share is at least the limit, the error is `TooLong`, and the budget is unchanged.
+        ensures long { self.old.limit ≤ share → (result ≡ refusals.TooLong self.old.limit) × (self.new ≡ self.old) }
+        // If the share is less than the limit, the error is `UsedUp` with the whole budget.
+        ensures over { share < self.old.limit → result ≡ refusals.UsedUp (min (self.old.limit * GLYPHS) (2 ^ 64 - 1)) }
+        // If the share is less than the limit, nothing is left.
+        ensures none_left { share < self.old.limit → self.new.left ≡ 0 }
+        // The limit is unchanged.
+        ensures limit { self.new.limit ≡ self.old.limit }
+    {
+        if share < self.limit {
+            self.left = 0;
+            Refusal::UsedUp(self.limit.saturating_mul(GLYPHS))
+        } else {
+            Refusal::TooLong(self.limit)
+        }
+    }
+}
