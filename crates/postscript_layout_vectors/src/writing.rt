@@ -425,9 +425,7 @@ const POSITIONS: &[Row] = &[
     },
     Row {
         what: "a context by glyphs: 1 before 5",
-        old: &[
-            1, 4, 7, 0, 1, 8, 1, 8, 1, 14, 1, 1, 1, 1, 4, 2, 1, 5, 0, 3,
-        ],
+        old: &[1, 4, 7, 0, 1, 8, 1, 8, 1, 14, 1, 1, 1, 1, 4, 2, 1, 5, 0, 3],
         new: &[
             1, 4, 8, 0, 1, 8, 3, 0, 2, 18, 24, 0, 1, 0, 3, 1, 1, 0, 1, 1, 1,
         ],
@@ -767,7 +765,10 @@ fn put_classes(bytes: &mut Vec<u8>) -> Result<(), AllocError> {
 fn large_table(alloc: Global) -> Result<Vec<u8>, AllocError> {
     let mut bytes = table(alloc, HEAD, &[2, 6, 34_106, 2, 0, 1, 8])?;
     put_classes(&mut bytes)?;
-    put(&mut bytes, &[2, 0, 1, 8, 1, 12, 4, 0, 1, 18, 1, 1, 5, 1, 7, 33])?;
+    put(
+        &mut bytes,
+        &[2, 0, 1, 8, 1, 12, 4, 0, 1, 18, 1, 1, 5, 1, 7, 33],
+    )?;
     Ok(bytes)
 }
 
@@ -818,7 +819,11 @@ fn advance(table: &[u8], lookup: usize, first: usize, second: usize) -> usize
     for j in 0..word(table, at + 4) {
         let part = at + word(table, at + 6 + j * 2);
         let far = word(table, part + 4) * 65536 + word(table, part + 6);
-        let subtable = if word(table, at) == 9 { part + far } else { part };
+        let subtable = if word(table, at) == 9 {
+            part + far
+        } else {
+            part
+        };
         if let Some(found) = advance_in(table, subtable, first, second) {
             return found;
         }

@@ -17,6 +17,6 @@ returns-in-Some-clause-found c = record {
 pub returns-in-None-clause-why : goal.returns-in-None-clause-why
 returns-in-None-clause-why c =
     let none =
-        subst (λ (found : Option VariableFace). MatchOption found (IsNotVariable c.in_ok-file.file) (λ _. Unit {0})) c.in-None.is
-        c.in_ok-face.ensures.none in
+    subst (λ (found : Option VariableFace). MatchOption found (IsNotVariable c.in_ok-file.file) (λ _. Unit {0})) c.in-None.is
+    c.in_ok-face.ensures.none in
     not_variable c.in_ok-file.file c.in_ok-file.ensures.exact none refl
