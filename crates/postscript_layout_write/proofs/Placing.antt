@@ -138,7 +138,7 @@ module _ (scope : Scope) (gpos kept : List ℕ) (n : ℕ) (front behind distance
     place = refl;
   }
 
-  pub last-each : (i : ℕ) → i + n + 1 ≡ lookups_of gpos → HasLast scope gpos kept n distances lookups subtables →
+  last-each : (i : ℕ) → i + n + 1 ≡ lookups_of gpos → HasLast scope gpos kept n distances lookups subtables →
       MakesPosition scope gpos kept (lookup_at gpos i) (length lookups + length subtables) front behind → (j k : ℕ) → k < n + 1 → j + k + 1 ≡ lookups_of gpos →
       (offset : ℕ) × (offset + get_or (distances ++ length (front ++ lookups) ∷ []) k 0 ≡ length (front ++ lookups))
       × HasPosition scope gpos kept (lookup_at gpos j) joined offset
@@ -157,7 +157,7 @@ module _ (scope : Scope) (gpos kept : List ℕ) (n : ℕ) (front behind distance
         let same = get_or_push distances (length (front ++ lookups)) 0 k (omega (arith, here, many)) in
         let which : i ≡ j = omega (arith, is, at, here) in (
           0,
-          same,
+          omega (arith, same),
           subst (λ m. HasPosition scope gpos kept (lookup_at gpos m) joined 0) which
               (subst (λ (xs : List ℕ). HasPosition scope gpos kept (lookup_at gpos i) xs 0)
               (ap (λ xs. front ++ xs) (append_assoc lookups subtables behind) ∙ sym (append_assoc front lookups (subtables ++ behind)))
@@ -170,6 +170,7 @@ pub last-more : (scope : Scope) (gpos kept : List ℕ) (n i : ℕ) (front behind
     MakesPosition scope gpos kept (lookup_at gpos i) (length lookups + length subtables) front behind →
     newlookups ≡ front ++ lookups → newsubtables ≡ subtables ++ behind → newdistances ≡ distances ++ length newlookups ∷ [] →
     HasLast scope gpos kept (n + 1) newdistances newlookups newsubtables
+unfolding joined
 last-more scope gpos kept n i front behind distances lookups subtables newdistances newlookups newsubtables is has makes a b c =
     subst (λ (xs : List ℕ). HasLast scope gpos kept (n + 1) xs newlookups newsubtables) (sym (c ∙ ap (λ xs. distances ++ length xs ∷ []) a))
     (subst (λ (xs : List ℕ). HasLast scope gpos kept (n + 1) (distances ++ length (front ++ lookups) ∷ []) xs newsubtables) (sym a)

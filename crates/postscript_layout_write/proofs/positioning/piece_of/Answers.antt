@@ -12,19 +12,19 @@ pub returns-clause-done : goal.returns-clause-done
 returns-clause-done c =
     let gpos = c.args.gpos.now in
     let flag : c.new_flag-flag.result ≡ new_flag c.args.scope (word gpos (c.args.lookup + 2)) = c.new_flag-flag.ensures.exact ∙ ap (new_flag c.args.scope) c.word.ensures.exact in
-    let piece = c.in_ok-piece.piece in
+    let piece = c.in_ok-piece-2.piece in
     let subtables = c.in_ok-forms.forms.subtables in
     pairs-made c.args.scope gpos c.args.kept.now c.args.lookup c.args.distance subtables piece
     (sym c.in_ok-typed.ensures.exact ∙ c.if-typed.false) (sym c.in_ok-contextual.ensures.exact ∙ c.if-contextual.false) c.in_ok-forms.ensures.exact
-    (subst (λ (n : ℕ). IsPiece n (set_of gpos c.args.lookup) c.args.distance subtables piece) flag c.in_ok-piece.ensures.made)
+    (subst (λ (n : ℕ). IsPiece n (set_of gpos c.args.lookup) c.args.distance subtables piece) flag c.in_ok-piece-2.ensures.made)
 
 pub returns-then-typed-clause-done : goal.returns-then-typed-clause-done
 returns-then-typed-clause-done c =
     let gpos = c.args.gpos.now in
     let kept = c.args.kept.now in
-    let piece = c.in_ok-piece-then-typed.piece in
+    let piece = c.in_ok-piece.piece in
     let flag : c.new_flag-flag.result ≡ new_flag c.args.scope (word gpos (c.args.lookup + 2)) = c.new_flag-flag.ensures.exact ∙ ap (new_flag c.args.scope) c.word.ensures.exact in
-    let adds = subst (λ (n : ℕ). AddsTyped gpos kept c.args.lookup n [] piece.lookup.items) flag c.in_ok-piece-then-typed.ensures.done in
+    let adds = subst (λ (n : ℕ). AddsTyped gpos kept c.args.lookup n [] piece.lookup.items) flag c.in_ok-piece.ensures.done in
     elim c.then-typed.branch [
       | then-typed-via-then-typed w ↦ typed-made c.args.scope gpos kept c.args.lookup c.args.distance piece.lookup.items piece.subtables.items
           (sym c.in_ok-typed.ensures.exact ∙ w.if-typed.true) adds
