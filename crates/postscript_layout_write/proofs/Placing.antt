@@ -176,6 +176,7 @@ pub last-more : (scope : Scope) (gpos kept : List ℕ) (n i : ℕ) (front behind
     MakesPosition scope gpos kept (lookup_at gpos i) (length lookups + length subtables) front behind →
     newlookups ≡ front ++ lookups → newsubtables ≡ subtables ++ behind → newdistances ≡ distances ++ length newlookups ∷ [] →
     HasLast scope gpos kept (n + 1) newdistances newlookups newsubtables
+unfolding joined
 last-more scope gpos kept n i front behind distances lookups subtables newdistances newlookups newsubtables is has makes a b c =
     subst (λ (xs : List ℕ). HasLast scope gpos kept (n + 1) xs newlookups newsubtables) (sym (c ∙ ap (λ xs. distances ++ length xs ∷ []) a))
     (subst (λ (xs : List ℕ). HasLast scope gpos kept (n + 1) (distances ++ length (front ++ lookups) ∷ []) xs newsubtables) (sym a)

@@ -27,7 +27,7 @@ pub data HasPosition (scope : Scope) (gpos kept : List ℕ) (lookup : ℕ) (byte
       HasChained 8 (new_flag scope (word gpos (lookup + 2))) (set_of gpos lookup) (contexts_by gpos kept lookup (type_at gpos lookup)) bytes offset →
       HasPosition scope gpos kept lookup bytes offset
 
--- The bytes of a lookup, and those of its subtables that follow all lookups. The end of all lookups and subtables is at a distance after it.
+-- a lookup that is made: its bytes, and the bytes of subtables that begin at a distance after it
 abbrev pub MakesPosition : (scope : Scope) → (gpos kept : List ℕ) → (lookup distance : ℕ) → (front behind : List ℕ) → Type 0
 MakesPosition scope gpos kept lookup distance front behind =
     (between : List ℕ) → length between ≡ distance → HasPosition scope gpos kept lookup (front ++ (between ++ behind)) 0
