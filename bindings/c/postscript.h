@@ -407,12 +407,12 @@ int32_t psf_variable_advance(const uint8_t *file, size_t length, size_t face, co
 /* Writes a whole font file with a CFF table of a face of file[0..length] at the given axis values, to instance[0..room]. It is a static
  * font: its glyphs, metrics, positions and names are those at the location, and it has no tables of variations. If rounded is not 0,
  * each point is rounded to whole units.
- * The glyphs may cost limit units together. A glyph may cost a twentieth of the limit, and no more than a fortieth of that, since its
- * operations are kept in memory; and it may draw a segment for each 50 units of the twentieth. A good limit is 20 * PSF_LIMIT.
- * Sets *count to the size on PSF_OK and PSF_NO_ROOM; on all other errors sets *refusal instead. Other errors: PSF_NOT_VARIABLE;
- * PSF_NO_TABLE, PSF_CUT_TABLE and PSF_UNKNOWN_TABLE, with the tag of the table (0 for a written one); PSF_REFUSED_GLYPH and PSF_NO_PART,
- * with the glyph; PSF_TOO_LONG, with the glyph, or 0 if a table is too expensive; from PSF_CFF2_HEADER to PSF_CFF2_DATA; PSF_TOO_LARGE;
- * PSF_SAME_TAG; PSF_NO_GLYPH; and from 1 to 30. */
+ * The glyphs may cost limit units together. A glyph may cost a twentieth of the limit, and at most a fortieth of it, since its
+ * operations are kept in memory. It may draw a segment for each 50 units of the twentieth. A good limit is 20 * PSF_LIMIT.
+ * Sets *count to the size on PSF_OK and PSF_NO_ROOM; on all other errors sets *refusal instead.
+ * Errors with the tag of the table, or 0 for a written one: PSF_NO_TABLE, PSF_CUT_TABLE and PSF_UNKNOWN_TABLE. Errors with the glyph:
+ * PSF_REFUSED_GLYPH, PSF_NO_PART, and PSF_TOO_LONG, with 0 if a table is too expensive. Other errors: PSF_NOT_VARIABLE, PSF_TOO_LARGE,
+ * PSF_SAME_TAG, PSF_NO_GLYPH, from PSF_CFF2_HEADER to PSF_CFF2_DATA, and from 1 to 30. */
 int32_t psf_file_instance(const uint8_t *file, size_t length, size_t face, const int32_t *coordinates, size_t named, uint32_t rounded,
                           uint64_t limit, uint8_t *instance, size_t room, size_t *count, psf_refusal *refusal);
 

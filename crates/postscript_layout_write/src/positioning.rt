@@ -333,8 +333,8 @@ pub fn kerning(alloc: Global, gpos: &[u8], kept: &[u16], limit: &mut u64) -> Res
 /// adjustments are kept as by `kerning`. A lookup of single adjustments (type 1), of cursive attachment (type 3), or of
 /// marks on bases, on ligatures or on other marks (types 4 to 6) keeps its type, also by extensions. It has a subtable for
 /// each old one. A lookup of contexts (types 7 and 8) whose subtables all have format 1, 2 or 3 keeps the contexts
-/// whose sets of glyphs all have kept glyphs, as a lookup of type 8 with contexts by sets of glyphs (format 3). All other lookups have no subtables, and neither has a
-/// lookup with a flag above bit 3.
+/// whose sets of glyphs all have kept glyphs. It is written as a lookup of type 8, with contexts by sets of glyphs (format
+/// 3). All other lookups have no subtables, and neither has a lookup with a flag above bit 3.
 ///
 /// Units of the limit are paid as by `kerning`. One unit is paid for each kept glyph in a subtable of single adjustments or
 /// of cursive attachment, and two in a subtable of marks. One is paid for each subtable, each class of marks of a base or
