@@ -25,6 +25,7 @@ pub struct Kept {
 }
 
 impl Kept {
+    /// Returns no glyphs.
     pub fn new(alloc: Global) -> Kept {
         Kept {
             glyphs: Vec::new(alloc),

@@ -4,7 +4,6 @@ use crate::rules::{Spot, rule_of};
 use std::alloc::{AllocError, AllocFailed, Global};
 use std::fmt::{Display, InlineText};
 use std::{fmt, io};
-use thiserror::Error;
 
 /// The capacity of a message in bytes. Only a name at the end of a message can exceed it.
 const ROOM: usize = 512;
@@ -13,27 +12,48 @@ const ROOM: usize = 512;
 /// proof.
 pub type Words = InlineText<{ ROOM }>;
 
+/// The end of the message for a glyph of too many operations.
+const HELD: &str = " units, a fortieth of --limit (instance keeps all operations in memory)";
+
+/// The end of the message for a glyph of too many segments.
+const SEGMENTS: &str = " segments, one for each 50 units of --limit";
+
 /// Why a glyph cannot be drawn or written.
-#[derive(Drop, Error)]
+#[derive(Drop)]
 pub enum Refusal {
-    #[error("it has no Font DICT in FDSelect")]
+    /// It has no Font DICT.
     NoPart,
-    #[error("it costs more than {0} units (--limit)")]
+    /// It costs more than this many units.
     TooLong(u64),
-    #[error("it costs more than {0} units, a fortieth of --limit (instance keeps all operations in memory)")]
+    /// It costs more than this many units, a fortieth of the limit.
     Held(u64),
-    #[error("it draws more than {0} segments, one for each 50 units of --limit")]
+    /// It draws more than this many segments.
     Segments(u64),
-    #[error("the command would cost more than {0} units ({GLYPHS} times --limit)")]
+    /// The command would cost more than this many units.
     UsedUp(u64),
     /// The message of another library's error.
-    #[error("{}", .0.as_str())]
     Told(Words),
 }
 
-impl fmt::Debug for Refusal {
+/// Writes the message for a command that used up its budget.
+fn put_used_up<W: fmt::Write>(f: &mut fmt::Formatter<W>, units: u64) -> fmt::Result {
+    write!(
+        f,
+        "the command would cost more than {units} units ({GLYPHS} times --limit)"
+    )
+}
+
+impl fmt::Display for Refusal {
     fn fmt<W: fmt::Write>(&self, f: &mut fmt::Formatter<W>) -> fmt::Result {
-        fmt::Display::fmt(self, f)
+        let (before, number, behind) = match self {
+            Refusal::NoPart => return f.write_str("it has no Font DICT in FDSelect"),
+            Refusal::TooLong(units) => ("it costs more than ", *units, " units (--limit)"),
+            Refusal::Held(units) => ("it costs more than ", *units, HELD),
+            Refusal::Segments(most) => ("it draws more than ", *most, SEGMENTS),
+            Refusal::UsedUp(units) => return put_used_up(f, *units),
+            Refusal::Told(words) => return f.write_str(words.as_str()),
+        };
+        write!(f, "{before}{number}{behind}")
     }
 }
 

@@ -33,24 +33,28 @@ impl Sheet {
         }
     }
 
+    /// Begins an object.
     pub fn begin_object(&mut self) {
         if !self.failed {
             self.failed = self.json.begin_object().is_err();
         }
     }
 
+    /// Ends an object.
     pub fn end_object(&mut self) {
         if !self.failed {
             self.failed = self.json.end_object().is_err();
         }
     }
 
+    /// Begins a list.
     pub fn begin_array(&mut self) {
         if !self.failed {
             self.failed = self.json.begin_array().is_err();
         }
     }
 
+    /// Ends a list.
     pub fn end_array(&mut self) {
         if !self.failed {
             self.failed = self.json.end_array().is_err();
@@ -64,30 +68,35 @@ impl Sheet {
         }
     }
 
+    /// Writes a number.
     pub fn u64(&mut self, n: u64) {
         if !self.failed {
             self.failed = self.json.u64(n).is_err();
         }
     }
 
+    /// Writes a number that may be negative.
     pub fn i64(&mut self, n: i64) {
         if !self.failed {
             self.failed = self.json.i64(n).is_err();
         }
     }
 
+    /// Writes a string.
     pub fn string(&mut self, text: &str) {
         if !self.failed {
             self.failed = self.json.string(text).is_err();
         }
     }
 
+    /// Writes null.
     pub fn null(&mut self) {
         if !self.failed {
             self.failed = self.json.null().is_err();
         }
     }
 
+    /// Writes a number, or null.
     pub fn u64_or_null(&mut self, n: Option<u64>) {
         match n {
             Some(n) => self.u64(n),

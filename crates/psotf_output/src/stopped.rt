@@ -12,6 +12,7 @@ pub struct Stopped<'r> {
 }
 
 impl<'r> Stopped<'r> {
+    /// Returns no glyphs.
     pub fn new(rt: &'r HostRuntime) -> Stopped<'r> {
         Stopped {
             rt,

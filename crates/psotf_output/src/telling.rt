@@ -10,11 +10,13 @@ pub fn tell<D: Display + Drop>(rt: &HostRuntime, line: D) -> Result<(), Failure>
     Ok(())
 }
 
+/// Writes bytes to the output.
 pub fn put<W: Write>(out: &mut W, bytes: &[u8]) -> Result<(), Failure> {
     out.write_all(bytes)?;
     Ok(())
 }
 
+/// Writes what the output holds back.
 pub fn flush<W: Write>(out: &mut W) -> Result<(), Failure> {
     out.flush()?;
     Ok(())
