@@ -56,14 +56,14 @@ pub data IsNeeded : (name : List ℕ) → (tag : ℕ) → Type 0 where
 -- Why a face with a `CFF2` table is not opened. No rule says which tables are too expensive.
 pub data IsUnopened (file : FontFile) (e : Error) : Type 0 where
   no_table : (name : Bor (List ℕ)) (tag : ℕ) → IsNeeded name.now tag → HasNoTable file tag → e ≡ errors.NoTable name → IsUnopened file e
-  cut_advances : (name : Bor (List ℕ)) → name.now ≡ codes "hmtx" → HasBadAdvances file → e ≡ errors.Cut name → IsUnopened file e
-  cut_count : (name : Bor (List ℕ)) → name.now ≡ codes "maxp" → HasBadCount file → e ≡ errors.Cut name → IsUnopened file e
-  bad_axes : (name : Bor (List ℕ)) (cause : TableError) → name.now ≡ codes "fvar" → HasBad file fvar_tag (NoAxes cause) →
-      e ≡ errors.Variations name cause → IsUnopened file e
-  bad_maps : (name : Bor (List ℕ)) (cause : TableError) → name.now ≡ codes "avar" → HasBad file avar_tag (NoMaps cause) →
-      e ≡ errors.Variations name cause → IsUnopened file e
-  bad_variations : (name : Bor (List ℕ)) (cause : TableError) → name.now ≡ codes "HVAR" → HasBad file hvar_tag (NoAdvances cause) →
-      e ≡ errors.Variations name cause → IsUnopened file e
+  cut_advances : (name : Bor (List ℕ)) → e ≡ errors.Cut name → name.now ≡ codes "hmtx" → HasBadAdvances file → IsUnopened file e
+  cut_count : (name : Bor (List ℕ)) → e ≡ errors.Cut name → name.now ≡ codes "maxp" → HasBadCount file → IsUnopened file e
+  bad_axes : (name : Bor (List ℕ)) (cause : TableError) → e ≡ errors.Variations name cause → name.now ≡ codes "fvar" →
+      HasBad file fvar_tag (NoAxes cause) → IsUnopened file e
+  bad_maps : (name : Bor (List ℕ)) (cause : TableError) → e ≡ errors.Variations name cause → name.now ≡ codes "avar" →
+      HasBad file avar_tag (NoMaps cause) → IsUnopened file e
+  bad_variations : (name : Bor (List ℕ)) (cause : TableError) → e ≡ errors.Variations name cause → name.now ≡ codes "HVAR" →
+      HasBad file hvar_tag (NoAdvances cause) → IsUnopened file e
   bad_font : (cause : FontError) → HasBad file cff2_tag (NoFont cause) → e ≡ errors.Font cause → IsUnopened file e
   heavy : (name : Bor (List ℕ)) (face : VariableFace) → IsVariableFace file face → e ≡ errors.Heavy name → IsUnopened file e
 

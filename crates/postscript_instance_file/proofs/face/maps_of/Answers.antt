@@ -1,0 +1,14 @@
+use Rattle.std.proofs.Common.{refl}
+use Rattle.std.proofs.lemmas.Result.{err_from_is_err_and}
+use Rattle.postscript_instance_file.specs.Faces.{avar_tag}
+use Rattle.postscript_instance_file.specs.Refusals.{bad_maps}
+use Rattle.postscript_instance_file.proofs.Refusing.{rejected}
+use Rattle.postscript_instance_file.proofs.face.maps_of.Goals as goal
+use Rattle.postscript_variation.specs.Refusals.{NoMaps}
+
+pub returns-in_err-read_as-in-Some-clause-why : goal.returns-in_err-read_as-in-Some-clause-why
+returns-in_err-read_as-in-Some-clause-why c =
+    let error = err_from_is_err_and c.from_residual.result c.from_residual.ensures.1 in
+    let why = c.in_err-read_as-in-Some.ensures.why in
+    rw (error.1, error.2) (bad_maps _ why.0 why.2 refl
+    (rejected (λ e t. NoMaps e t) c.args.file.now avar_tag c.in-Some.avar.now c.read.result why.0 c.in-Some.ensures c.read.ensures.why why.1))
