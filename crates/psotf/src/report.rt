@@ -8,10 +8,18 @@ use psotf_output::failure::Failure;
 use psotf_output::limit::Budget;
 use std::ops::Range;
 
+/// Returns the path of the first page.
+fn path_of<'w>(words: &'w ArgMatches<'_>) -> &'w str {
+    match words.get_str("out") {
+        Some(path) => path,
+        None => "report.html",
+    }
+}
+
 /// Returns the pages of glyphs, at the path in the arguments.
 fn pages_of<'w>(words: &'w ArgMatches<'_>, gids: Range<u16>) -> Pages<'w> {
     Pages {
-        path: words.get_str("out").unwrap_or("report.html"),
+        path: path_of(words),
         face: words.get_one::<u16>("face").unwrap_or(0),
         first: gids.start,
         end: gids.end,
