@@ -103,11 +103,7 @@ fn all_settings(
 }
 
 /// The settings of user coordinates of a face.
-fn settings_of(
-    alloc: Global,
-    file: &FontFile<'_>,
-    values: &[i32],
-) -> Result<Vec<Setting>, Unplaced>
+fn settings_of(alloc: Global, file: &FontFile<'_>, values: &[i32]) -> Result<Vec<Setting>, Unplaced>
     ensures found { IfOk result (λ all. AreSettingsOf file.now values.now all.items) }
     ensures why { IfErr result (λ e. IsUnplaced file.now values.now e) }
 {
@@ -137,7 +133,15 @@ fn written(
 {
     let mut left = limit;
     let whole = is_set(rounded);
-    instance_file(alloc, bytes, face, settings, whole, limit / GLYPHS, &mut left)
+    instance_file(
+        alloc,
+        bytes,
+        face,
+        settings,
+        whole,
+        limit / GLYPHS,
+        &mut left,
+    )
 }
 
 /// The same for the settings of user coordinates.
