@@ -20,7 +20,7 @@ pub returns-in_err-file-clause-why : goal.returns-in_err-file-clause-why
 returns-in_err-file-clause-why c =
     let error = err_from_is_err_and c.from_residual-in_err-file.result c.from_residual-in_err-file.ensures.1 in
     let moved =
-        subst (λ (ys : List Table). IsPermutation c.args.tables.now ys) (sym c.as_slice.ensures.value)
-        (subst (λ (xs : List Table). IsPermutation xs c.sort_by_key.new.self.items) c.in_ok-sorted.ensures.items
-        c.in_ok-sort_by_key.ensures.permutation) in
+    subst (λ (ys : List Table). IsPermutation c.args.tables.now ys) (sym c.as_slice.ensures.value)
+    (subst (λ (xs : List Table). IsPermutation xs c.sort_by_key.new.self.items) c.in_ok-sorted.ensures.items
+    c.in_ok-sort_by_key.ensures.permutation) in
     rw (error.1) (refused c.as_slice.result.now _ moved c.in_err-file.ensures.refused error.2)

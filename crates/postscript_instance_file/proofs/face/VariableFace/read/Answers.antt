@@ -18,13 +18,13 @@ returns-in-Some-clause-found c = record {
 pub returns-in-None-clause-why : goal.returns-in-None-clause-why
 returns-in-None-clause-why c =
     let none =
-        subst (λ (found : Option VariableFace). MatchOption found (IsNotVariable c.in_ok-file.file) (λ _. Unit {0})) c.in-None.is
-        c.in_ok-face.ensures.none in
+    subst (λ (found : Option VariableFace). MatchOption found (IsNotVariable c.in_ok-file.file) (λ _. Unit {0})) c.in-None.is
+    c.in_ok-face.ensures.none in
     not_variable c.in_ok-file.file c.in_ok-file.ensures.exact none refl
 
 pub returns-in_err-file-clause-why : goal.returns-in_err-file-clause-why
 returns-in_err-file-clause-why c =
-    let error = err_from_is_err_and c.from_residual-in_err-file.result c.from_residual-in_err-file.ensures.1 in
+    let error = err_from_is_err_and c.from_residual.result c.from_residual.ensures.1 in
     rw (error.1) (no_face _ c.in_err-file.ensures.why error.2)
 
 pub returns-in_err-face-clause-why : goal.returns-in_err-face-clause-why
