@@ -8,10 +8,12 @@
 //!
 //! Each call is safe and ends, on all bytes. A file that is written has one face, which opens with exactly the tables that are
 //! written. Its `CFF ` table is one that `postscript_instance` writes for the location, so glyphs are drawn as at the location.
+//! An error names a table that is missing, malformed, too expensive or not written, or a glyph of the font, or it is out of
+//! memory. The limit of all glyphs never grows.
 //!
 //! # What is not proved
 //!
-//! - That there is enough memory, and which limit suffices.
+//! - That there is enough memory, and which limit suffices. Why a glyph or a table is too expensive.
 //! - The tables other than `CFF `: metrics, names, glyph classes and positions are tested.
 #![tactic(auto)]
 

@@ -13,7 +13,7 @@ returns-clause-written c = record {
 
 pub returns-in_err-face-clause-why : goal.returns-in_err-face-clause-why
 returns-in_err-face-clause-why c =
-    let error = err_from_is_err_and c.from_residual-in_err-face.result c.from_residual-in_err-face.ensures.1 in
+    let error = err_from_is_err_and c.from_residual.result c.from_residual.ensures.1 in
     rw (error.1, error.2) (unread c.in_err-face.ensures.why)
 
 pub returns-in_err-location-clause-why : goal.returns-in_err-location-clause-why

@@ -20,5 +20,5 @@ returns-in_err-file-clause-why c =
 
 pub returns-in_err-tables-clause-why : goal.returns-in_err-tables-clause-why
 returns-in_err-tables-clause-why c =
-    let error = err_from_is_err_and c.from_residual-in_err-tables.result c.from_residual-in_err-tables.ensures.1 in
+    let error = err_from_is_err_and c.from_residual.result c.from_residual.ensures.1 in
     rw (error.1) (no_tables error.2)
