@@ -1,4 +1,6 @@
 //! Layout tables that are written for a subset, computed by hand from the specification. All numbers are of two bytes.
+ghost use Rattle.std.specs.Prelude.{◌^◌, ◌<◌};
+
 use postscript_layout_write::{
     Error, flagged_left_out, flagged_positions, flagged_positions_left_out, flagged_substitutions,
     glyph_classes, glyph_definitions, kerning, left_out, positions, positions_left_out,
@@ -761,9 +763,9 @@ fn put_classes(bytes: &mut Vec<u8>) -> Result<(), AllocError> {
     Ok(())
 }
 
-/// Returns a table with two lookups: pairs of all glyphs, and the pair of 5 and 7 by 33.
-fn large_table(alloc: Global) -> Result<Vec<u8>, AllocError> {
-    let mut bytes = table(alloc, HEAD, &[2, 6, 34_106, 2, 0, 1, 8])?;
+/// Returns a table with two lookups at two offsets: pairs of all glyphs at offset 6, and the pair of 5 and 7 by 33 after it.
+fn large_table(alloc: Global, first: u16, second: u16) -> Result<Vec<u8>, AllocError> {
+    let mut bytes = table(alloc, HEAD, &[2, first, second, 2, 0, 1, 8])?;
     put_classes(&mut bytes)?;
     put(
         &mut bytes,
@@ -810,6 +812,20 @@ fn advance_in(table: &[u8], subtable: usize, first: usize, second: usize) -> Opt
     None
 }
 
+/// Returns the offset of a subtable of the lookup at an offset, or of the subtable that its extension names.
+fn subtable_at(table: &[u8], at: usize, j: usize) -> usize
+    requires near { at < 2 ^ 20 }
+    requires few { j < 65536 }
+    ensures { result < 2 ^ 35 }
+{
+    let part = at + word(table, at + 6 + j * 2);
+    if word(table, at) == 9 {
+        part + word(table, part + 4) * 65536 + word(table, part + 6)
+    } else {
+        part
+    }
+}
+
 /// Returns the advance of a pair by the first subtable of a lookup that applies. Extensions are followed.
 fn advance(table: &[u8], lookup: usize, first: usize, second: usize) -> usize
     requires { lookup < 65536 }
@@ -817,47 +833,67 @@ fn advance(table: &[u8], lookup: usize, first: usize, second: usize) -> usize
     let list = word(table, 8);
     let at = list + word(table, list + 2 + lookup * 2);
     for j in 0..word(table, at + 4) {
-        let part = at + word(table, at + 6 + j * 2);
-        let far = word(table, part + 4) * 65536 + word(table, part + 6);
-        let subtable = if word(table, at) == 9 {
-            part + far
-        } else {
-            part
-        };
-        if let Some(found) = advance_in(table, subtable, first, second) {
+        if let Some(found) = advance_in(table, subtable_at(table, at, j), first, second) {
             return found;
         }
     }
     0
 }
 
-/// Pairs that take more than 64 kB are in extensions, and the lookup after them is as small as before.
-#[test]
-fn large(rt: HostRuntime) {
-    let old = large_table(rt.alloc()).expect(&rt, "memory");
-    let mut kept = Vec::new(rt.alloc());
-    for glyph in 0..MANY {
-        kept.push(glyph as u16).expect(&rt, "memory");
-    }
-    let mut limit = 100_000_000;
-    let new = kerning(rt.alloc(), &old, &kept, &mut limit).expect(&rt, "a table");
-    assert!(rt; new.len() > 67_600);
+/// Whether two lookups have the pairs of the large lookup and the one pair.
+fn has_all(table: &[u8], large: usize, small: usize) -> bool
+    requires large { large < 65536 }
+    requires small { small < 65536 }
+{
     for first in 0..MANY {
         for second in 0..MANY {
-            assert_eq!(rt; advance(&new, 0, first, second), first * MANY + second + 1);
-            let other = if first == 5 && second == 7 { 33 } else { 0 };
-            assert_eq!(rt; advance(&new, 1, first, second), other);
+            let one = if first == 5 && second == 7 { 33 } else { 0 };
+            if advance(table, large, first, second) != first * MANY + second + 1
+                || advance(table, small, first, second) != one
+            {
+                return false;
+            }
         }
     }
+    true
+}
+
+/// Returns the numbers of all glyphs of the large lookup.
+fn all_glyphs(alloc: Global) -> Result<Vec<u16>, AllocError> {
+    let mut glyphs = Vec::new(alloc);
+    for glyph in 0..MANY {
+        glyphs.push(glyph as u16)?;
+    }
+    Ok(glyphs)
+}
+
+/// Pairs that take more than 64 kB are in extensions.
+#[test]
+fn large(rt: HostRuntime) {
+    let kept = all_glyphs(rt.alloc()).expect(&rt, "memory");
+    let old = large_table(rt.alloc(), 6, 34_106).expect(&rt, "memory");
+    let mut limit = 100_000_000;
+    let new = kerning(rt.alloc(), &old, &kept, &mut limit).expect(&rt, "a table");
+    assert!(rt; new.len() > 67_600 && has_all(&new, 0, 1));
     let mut limit = 100_000_000;
     let same = positions(rt.alloc(), &old, &kept, &mut limit).expect(&rt, "a table");
     assert!(rt; same == new);
 }
 
+/// A small lookup before the large one has extensions too.
+#[test]
+fn large_at_last(rt: HostRuntime) {
+    let kept = all_glyphs(rt.alloc()).expect(&rt, "memory");
+    let old = large_table(rt.alloc(), 34_106, 6).expect(&rt, "memory");
+    let mut limit = 100_000_000;
+    let new = kerning(rt.alloc(), &old, &kept, &mut limit).expect(&rt, "a table");
+    assert!(rt; new.len() > 67_600 && has_all(&new, 1, 0));
+}
+
 /// A large lookup and a small one for few glyphs are as small as others.
 #[test]
 fn large_for_few(rt: HostRuntime) {
-    let old = large_table(rt.alloc()).expect(&rt, "memory");
+    let old = large_table(rt.alloc(), 6, 34_106).expect(&rt, "memory");
     let lookups = [
         2, 6, 56, 2, 0, 1, 8, 1, 14, 4, 0, 2, 22, 32, 1, 2, 0, 1, 2, 0, 656, 1, 658, 2, 0, 916, 1,
         918, 2, 0, 1, 8, 1, 12, 4, 0, 1, 18, 1, 1, 0, 1, 1, 33,
