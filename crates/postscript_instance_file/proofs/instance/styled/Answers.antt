@@ -16,3 +16,8 @@ returns-in_err-file-clause-why c =
     let error = err_from_is_err_and c.from_residual-in_err-file.result c.from_residual-in_err-file.ensures.1 in
     let none = subst (λ (font : List ℕ). NoFileWith font c.in_err-file.field-0.0) c.deref.ensures.value c.in_err-file.ensures.why in
     rw (error.1, error.2) (no_file c.in_ok-font.font.items c.in_ok-font.ensures.written none)
+
+pub returns-in_err-made-clause-why : goal.returns-in_err-made-clause-why
+returns-in_err-made-clause-why c =
+    let error = err_from_is_err_and c.from_residual-in_err-made.result c.from_residual-in_err-made.ensures.1 in
+    rw (error.1, error.2) (c.in_err-made.ensures c.args.is_rounded)
