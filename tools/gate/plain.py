@@ -42,6 +42,8 @@ AIMS = [
     (";", r";", 3),
 ]
 GENERATED = {"API.md"}
+#: the crates with texts of `psotf`
+PROGRAM = ("psotf", "psotf_output", "psotf_font", "psotf_drawing")
 WORD = re.compile(r"[A-Za-z'’-]+")
 
 
@@ -96,7 +98,8 @@ def corpora():
     for name in sorted(os.listdir(f"{TOP}/crates")):
         sources = glob.glob(f"{TOP}/crates/{name}/src/**/*.rt", recursive=True)
         found[f"crates/{name}"] = "\n\n".join(of_rust(read(path)) for path in sources)
-    found["texts of psotf"] = "\n\n".join(of_texts(read(path)) for path in glob.glob(f"{TOP}/crates/psotf/src/**/*.rt", recursive=True) if "/report/" not in path)
+    texts = [path for name in PROGRAM for path in glob.glob(f"{TOP}/crates/{name}/src/**/*.rt", recursive=True) if "/report/" not in path]
+    found["texts of psotf"] = "\n\n".join(of_texts(read(path)) for path in texts)
     return found
 
 
