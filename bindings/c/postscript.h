@@ -407,8 +407,8 @@ int32_t psf_variable_advance(const uint8_t *file, size_t length, size_t face, co
 /* Writes a whole font file with a CFF table of a face of file[0..length] at the given axis values, to instance[0..room]. It is a static
  * font: its glyphs, metrics, positions and names are those at the location, and it has no tables of variations. If rounded is not 0,
  * each point is rounded to whole units.
- * The glyphs may cost limit units together. A glyph may cost a twentieth of the limit, and at most a fortieth of it, since its
- * operations are kept in memory. It may draw a segment for each 50 units of the twentieth. A good limit is 20 * PSF_LIMIT.
+ * The glyphs may cost limit units together, and one glyph an 800th of the limit, since its operations are kept in memory. A glyph may
+ * draw one segment for each 1,000 units of the limit. A good limit is 20 * PSF_LIMIT.
  * Sets *count to the size on PSF_OK and PSF_NO_ROOM; on all other errors sets *refusal instead.
  * Errors with the tag of the table, or 0 for a written one: PSF_NO_TABLE, PSF_CUT_TABLE and PSF_UNKNOWN_TABLE. Errors with the glyph:
  * PSF_REFUSED_GLYPH, PSF_NO_PART, and PSF_TOO_LONG, with 0 if a table is too expensive. Other errors: PSF_NOT_VARIABLE, PSF_TOO_LARGE,
