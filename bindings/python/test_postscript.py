@@ -130,6 +130,8 @@ class Small(Case):
         self.assertEqual(len(self.font), 4)
         self.assertFalse(self.font.is_cid_keyed)
         self.assertEqual([self.font.fits(limit) for limit in (1, 1000)], [False, True])
+        # the bytes of the char strings
+        self.assertEqual([self.font.cost(limit) for limit in (1, 1000)], [None, 1 + 3 + 12 + 23])
         self.assertEqual(self.font.limit, LIMIT)
         self.assertEqual([glyph.advance for glyph in self.font], [500, 250, 500, 450])
         self.assertIsNone(self.font[1].bounds)

@@ -705,13 +705,18 @@ class Font:
         years; the limit stops it, with `Status.TOO_LONG`."""
         return int(self._font.limit)
 
+    def cost(self, limit: int) -> Optional[int]:
+        """Returns how many units the runs of all glyphs cost together. None if they cost more than `limit`."""
+        left = c_uint64(limit)
+        status = _library.psf_font_fits(*self._view.told, byref(left))
+        if status == Status.TOO_LONG:
+            return None
+        _checked(status)
+        return limit - left.value
+
     def fits(self, limit: int) -> bool:
         """Returns whether all glyphs end, or have an error, within `limit` units that they share."""
-        status = _library.psf_font_fits(*self._view.told, byref(c_uint64(limit)))
-        if status == Status.TOO_LONG:
-            return False
-        _checked(status)
-        return True
+        return self.cost(limit) is not None
 
     @property
     def _limit_of_all(self) -> int:
