@@ -245,10 +245,10 @@ fn choices_that_do_not_fit(rt: HostRuntime) {
     }
 }
 
-/// Empty tables with this number of tags, from 1 on.
-fn empty_tables<R: Abort>(rt: &R, alloc: Global, count: u32) -> Vec<Given> {
+/// Empty tables with the tags from 1 to the one before `end`.
+fn empty_tables<R: Abort>(rt: &R, alloc: Global, end: u32) -> Vec<Given> {
     let mut tables = Vec::new(alloc);
-    for tag in 1..count + 1 {
+    for tag in 1..end {
         let bytes = Vec::new(alloc);
         tables.push(Given { tag, bytes }).expect(rt, "memory");
     }
@@ -260,9 +260,12 @@ fn empty_tables<R: Abort>(rt: &R, alloc: Global, count: u32) -> Vec<Given> {
 fn files_of_many_tables(rt: HostRuntime) {
     let alloc = rt.alloc();
     let bytes = file(&rt, alloc, 0, "", 0);
-    let given = empty_tables(&rt, alloc, 4090);
+    let (many, fewer) = (
+        empty_tables(&rt, alloc, 4091),
+        empty_tables(&rt, alloc, 4090),
+    );
     let mut asked = choice(&[0x41], false, &[]);
-    asked.given = given.as_slice();
+    asked.given = many.as_slice();
     let found = refusal(&rt, alloc, bytes.as_slice(), &asked);
     is_text(
         &rt,
@@ -270,7 +273,7 @@ fn files_of_many_tables(rt: HostRuntime) {
         "the file is too large to be written",
         "4,096 tables",
     );
-    asked.given = &given[1..];
+    asked.given = fewer.as_slice();
     let new = subset_file(alloc, bytes.as_slice(), 0, &asked).expect(&rt, "a file");
     let face = Face::open(new.as_slice(), 0).expect(&rt, "a face");
     holds(&rt, face.file.tables() == 4095, "4,095 tables");
