@@ -720,7 +720,7 @@ int main(int argc, char **argv) {
     holds(length == 412, "the length of the file with metrics");
     check_subset_file(whole, length, file);
     length = read_hex(argv[5], layout, sizeof layout);
-    holds(length == 592, "the length of the file with layout tables");
+    holds(length == 600, "the length of the file with layout tables");
     check_subset_layout(layout, length);
     check_instance(variable, 752, whole, 412);
     check_texts();
