@@ -286,7 +286,7 @@ length-formats : (form : Form) → length (formats_text form) ≡ 4
 unfolding formats_text uint16
 length-formats form = refl
 
-length-head : (form : Form) (count : ℕ) → length (head_text form count) ≡ 10
+pub length-head : (form : Form) (count : ℕ) → length (head_text form count) ≡ 10
 unfolding head_text formats_text uint16
 length-head form count = refl
 

@@ -16,6 +16,7 @@ use Rattle.postscript_layout_write.specs.RuleLookups.{HasNewLookup, HasRuleLooku
 use Rattle.postscript_layout_write.specs.RuleSets.{AddsRules, AreRuleSets, HasRuleLookup, HasRules, HasRuleSubtable, PutsRules, has_ligatures, has_none, has_one, has_several, has_single, bare_text, no_rules, puts_none, puts_one, rule_front_text, rule_head_text, rules_text, some_rules, subtable_offset}
 use Rattle.postscript_layout_write.specs.Rules.{rules_of_type, type_at}
 use Rattle.postscript_layout_write.specs.Substituting.{is_kept, is_taken, keeps, new_flag, new_rules, rules_at}
+use Rattle.postscript_layout_write.specs.Sets.{Places}
 use Rattle.postscript_layout_write.specs.Text.{uint16}
 use Rattle.postscript_layout_write.proofs.Firsts.{nat_cases}
 use Rattle.postscript_layout_write.proofs.ContextCollecting.{chained-added, chained-in, chained-on}
@@ -135,10 +136,6 @@ length-rule-front type flag set = by (uses_set flag)
     by true = refl
     by false = refl
 
-more-of : (type flag set : ℕ) (firsts numbers sets old new : List ℕ) → PutsRules type flag set firsts numbers sets old new → (more : List ℕ) × (new ≡ old ++ more)
-more-of type flag set firsts numbers sets old new (puts_none none small is) = (bare_text type flag set, is)
-more-of type flag set firsts numbers sets old new (puts_one small fit few is) = (rule_front_text type flag set ++ rules_text type firsts numbers sets, is)
-
 lookup-made : (type flag set : ℕ) (f : ℕ → List (List ℕ)) (n : ℕ) (firsts numbers sets old new : List ℕ) → ((x : ℕ) → n ≤ x → f x ≡ []) →
     PutsRules type flag set firsts numbers sets old new → AreRuleSets type f n firsts numbers sets → HasRuleLookup type flag set f new (length old)
 lookup-made type flag set f n firsts numbers sets old new far (puts_none none small is) are =
@@ -177,12 +174,6 @@ new-on whole gsub chosen kept i bytes more at (has_contexts is h) = has_contexts
     (chained-on 6 (new_flag whole (flag_of gsub i)) (set_of gsub (lookup_at gsub i)) (contexts_at gsub kept (lookup_at gsub i) (type_at gsub (lookup_at gsub i))) bytes more at h)
 
 -- lookup i is appended
-next-more : (whole : Bool) (gsub chosen kept : List ℕ) (i : ℕ) (old new : List ℕ) → PutsNext whole gsub chosen kept (lookup_at gsub i) i old new →
-    (more : List ℕ) × (new ≡ old ++ more)
-next-more whole gsub chosen kept i old new (puts_rules is p) =
-    more-of (new_type gsub (lookup_at gsub i)) (new_flag whole (flag_of gsub i)) (set_of gsub (lookup_at gsub i)) p.firsts p.numbers p.sets old new p.puts
-next-more whole gsub chosen kept i old new (puts_contexts is p) = (chained_text 6 (new_flag whole (flag_of gsub i)) p.offsets p.subtables, p.puts.text)
-
 next-made : (whole : Bool) (gsub chosen kept : List ℕ) (i : ℕ) (old new : List ℕ) → PutsNext whole gsub chosen kept (lookup_at gsub i) i old new →
     HasNewLookup whole gsub chosen kept i new (length old)
 next-made whole gsub chosen kept i old new (puts_rules is p) = has_rules is
@@ -191,25 +182,6 @@ next-made whole gsub chosen kept i old new (puts_rules is p) = has_rules is
 next-made whole gsub chosen kept i old new (puts_contexts is p) = has_contexts is
     (chained-added 6 (new_flag whole (flag_of gsub i)) (set_of gsub (lookup_at gsub i)) (contexts_at gsub kept (lookup_at gsub i) (type_at gsub (lookup_at gsub i)))
     p.offsets p.subtables old new (omega arith) p.set_small p.have p.begins p.puts).has
-
-pub rule-lookups-more : (whole : Bool) (gsub chosen kept : List ℕ) (i : ℕ) (offsets bytes newoffsets newbytes : List ℕ) →
-    HasRuleLookups whole gsub chosen kept i offsets bytes → PutsNext whole gsub chosen kept (lookup_at gsub i) i bytes newbytes → newoffsets ≡ offsets ++ length bytes ∷ [] →
-    HasRuleLookups whole gsub chosen kept (i + 1) newoffsets newbytes
-rule-lookups-more whole gsub chosen kept i offsets bytes newoffsets newbytes has puts is =
-    let more = next-more whole gsub chosen kept i bytes newbytes puts in
-    subst (λ (xs : List ℕ). HasRuleLookups whole gsub chosen kept (i + 1) xs newbytes) (sym is) (record {
-      many = (let many = has.many in omega (arith, many, length-append offsets (length bytes ∷ [])));
-      each = λ k less. elim (nat_cases k i) [
-        | inl early ↦ subst (λ w. HasNewLookup whole gsub chosen kept k newbytes w)
-            (sym (get_or_append_left offsets (length bytes ∷ []) 0 k (let many = has.many in omega (arith, many, early))))
-            (subst (λ (xs : List ℕ). HasNewLookup whole gsub chosen kept k xs (get_or offsets k 0)) (sym more.1)
-            (new-on whole gsub chosen kept k bytes more.0 (get_or offsets k 0) (has.each k early)))
-        | inr late ↦ (let same : i ≡ k = omega (arith, less, late) in
-            subst (λ j. HasNewLookup whole gsub chosen kept j newbytes (get_or (offsets ++ length bytes ∷ []) j 0)) same
-            (subst (λ w. HasNewLookup whole gsub chosen kept i newbytes w) (sym (get_or_push offsets (length bytes) 0 i has.many))
-            (next-made whole gsub chosen kept i bytes newbytes puts)))
-      ];
-    })
 
 pub subtable-in : (type : ℕ) (f : ℕ → List (List ℕ)) (t bytes : List ℕ) (at offset : ℕ) → Holds bytes t at → HasRuleSubtable type f bytes offset →
     HasRuleSubtable type f t (at + offset)
@@ -238,6 +210,25 @@ new-in whole gsub chosen kept i t bytes at offset h (has_rules is k) = has_rules
 new-in whole gsub chosen kept i t bytes at offset h (has_contexts is k) = has_contexts is
     (chained-in 6 (new_flag whole (flag_of gsub i)) (set_of gsub (lookup_at gsub i)) (contexts_at gsub kept (lookup_at gsub i) (type_at gsub (lookup_at gsub i)))
     t bytes at offset h k)
+
+-- the text of lookup i is placed
+pub rule-lookups-more : (whole : Bool) (gsub chosen kept : List ℕ) (i offset : ℕ) (text offsets bytes newoffsets newbytes : List ℕ) →
+    HasRuleLookups whole gsub chosen kept i offsets bytes → PutsNext whole gsub chosen kept (lookup_at gsub i) i [] text → Places text bytes newbytes offset →
+    newoffsets ≡ offsets ++ offset ∷ [] → HasRuleLookups whole gsub chosen kept (i + 1) newoffsets newbytes
+rule-lookups-more whole gsub chosen kept i offset text offsets bytes newoffsets newbytes has puts places is =
+    subst (λ (xs : List ℕ). HasRuleLookups whole gsub chosen kept (i + 1) xs newbytes) (sym is) (record {
+      many = (let many = has.many in omega (arith, many, length-append offsets (offset ∷ [])));
+      each = λ k less. elim (nat_cases k i) [
+        | inl early ↦ subst (λ w. HasNewLookup whole gsub chosen kept k newbytes w)
+            (sym (get_or_append_left offsets (offset ∷ []) 0 k (let many = has.many in omega (arith, many, early))))
+            (subst (λ (xs : List ℕ). HasNewLookup whole gsub chosen kept k xs (get_or offsets k 0)) (sym places.bytes)
+            (new-on whole gsub chosen kept k bytes places.more (get_or offsets k 0) (has.each k early)))
+        | inr late ↦ (let same : i ≡ k = omega (arith, less, late) in
+            subst (λ j. HasNewLookup whole gsub chosen kept j newbytes (get_or (offsets ++ offset ∷ []) j 0)) same
+            (subst (λ w. HasNewLookup whole gsub chosen kept i newbytes w) {x = offset + 0} (let last = get_or_push offsets offset 0 i has.many in omega (arith, last))
+            (new-in whole gsub chosen kept i newbytes text offset 0 places.there (next-made whole gsub chosen kept i [] text puts))))
+      ];
+    })
 
 -- the rules of a lookup that keeps them, or none
 and-first : (a b : Bool) → (a && b) ≡ true → a ≡ true

@@ -1,8 +1,9 @@
 -- Lookups as they are written. Only contracts of private functions and proofs name this.
-use Rattle.std.specs.Prelude.{◌≡◌, ℕ, true, false, ◌+◌, ◌-◌, ◌*◌, ◌<◌, ◌≤◌, List, ◌++◌, length, slice_index}
+use Rattle.std.specs.Prelude.{◌≡◌, ℕ, true, false, ◌+◌, ◌-◌, ◌*◌, ◌<◌, ◌≤◌, List, [], ◌∷◌, ◌++◌, length, slice_index}
 use Rattle.postscript_layout.specs.Numbers.{word}
 use Rattle.postscript_layout_write.specs.Coverages.{HasChained}
 use Rattle.postscript_layout_write.specs.Flags.{KeepsFlaggedPositions, set_of}
+use Rattle.postscript_layout_write.specs.Holds.{Holds}
 use Rattle.postscript_layout_write.specs.Kerning.{KeepsKerning}
 use Rattle.postscript_layout_write.specs.Marks.{type_at}
 use Rattle.postscript_layout_write.specs.Pairs.{lookup_at, lookups_of}
@@ -13,6 +14,7 @@ use Rattle.postscript_layout_write.specs.Scopes.{new_flag, new_pair, takes_conte
 use Rattle.postscript_layout_write.specs.Sets.{AreOffsets}
 use Rattle.postscript_layout_write.specs.Text.{list_text}
 use Rattle.postscript_layout_write.specs.Typed.{HasTyped}
+use Rattle.postscript_layout_write.specs.declared.positioning.Last.{Last}
 use Rattle.postscript_layout_write.specs.declared.scope.Scope.{Scope}
 use Rattle.postscript_layout_write.specs.declared.scope.Scope.TheVariants.{Flags, Marks, Pairs}
 
@@ -27,10 +29,36 @@ pub data HasPosition (scope : Scope) (gpos kept : List ℕ) (lookup : ℕ) (byte
       HasChained 8 (new_flag scope (word gpos (lookup + 2))) (set_of gpos lookup) (contexts_by gpos kept lookup (type_at gpos lookup)) bytes offset →
       HasPosition scope gpos kept lookup bytes offset
 
--- a lookup that is made: its bytes, and the bytes of subtables that begin at a distance after it
-abbrev pub MakesPosition : (scope : Scope) → (gpos kept : List ℕ) → (lookup distance : ℕ) → (front behind : List ℕ) → Type 0
-MakesPosition scope gpos kept lookup distance front behind =
-    (between : List ℕ) → length between ≡ distance → HasPosition scope gpos kept lookup (front ++ (between ++ behind)) 0
+-- A lookup that is made: its bytes, and the bytes of subtables that begin at a distance after it. Without such subtables it can be anywhere.
+pub record MakesPosition (scope : Scope) (gpos kept : List ℕ) (lookup distance : ℕ) (front behind : List ℕ) : Type 0 where
+  pub before : (between : List ℕ) → length between ≡ distance → HasPosition scope gpos kept lookup (front ++ (between ++ behind)) 0
+  pub alone : behind ≡ [] → HasPosition scope gpos kept lookup front 0
+
+-- a text begins at a distance from the end of the lookups
+pub record IsAway (text : List ℕ) (distance : ℕ) (lookups : List ℕ) : Type 0 where
+  pub offset : ℕ
+  pub place : offset + distance ≡ length lookups
+  pub there : Holds text lookups offset
+
+-- a lookup is put before the others, and subtables are put behind the others
+pub record IsPut (front behind : List ℕ) (old new : Last) : Type 0 where
+  pub lookups : new.lookups.items ≡ front ++ old.lookups.items
+  pub subtables : new.subtables.items ≡ old.subtables.items ++ behind
+  pub distances : new.distances.items ≡ old.distances.items ++ length new.lookups.items ∷ []
+
+-- a lookup that has the same bytes as another one is that one
+pub record IsShared (front behind : List ℕ) (old new : Last) : Type 0 where
+  pub alone : behind ≡ []
+  pub distance : ℕ
+  pub there : IsAway front distance old.lookups.items
+  pub lookups : new.lookups.items ≡ old.lookups.items
+  pub subtables : new.subtables.items ≡ old.subtables.items
+  pub distances : new.distances.items ≡ old.distances.items ++ distance ∷ []
+
+-- a lookup is added
+pub data Joins (front behind : List ℕ) (old new : Last) : Type 0 where
+  is_put : IsPut front behind old new → Joins front behind old new
+  is_shared : IsShared front behind old new → Joins front behind old new
 
 -- The last lookups are there, and the subtables that follow all lookups. A distance for each lookup, the last one first, says how far its beginning is
 -- from the end of the lookups.

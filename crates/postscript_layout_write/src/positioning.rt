@@ -1,9 +1,9 @@
 //! Writes a `GPOS` table with adjustments of pairs and of single glyphs, cursive attachment, marks, and contexts.
-ghost use Rattle.std.specs.Prelude.{◌≡◌, ◌⊎◌, ◌%◌, ◌^◌, ◌+◌, ◌<◌, ◌≤◌, ◌&&◌, ◌++◌, ◌∷◌, [], true, false, length, slice_range, IfErr, IfOk, OnOk};
+ghost use Rattle.std.specs.Prelude.{◌≡◌, ◌⊎◌, ◌%◌, ◌^◌, ◌+◌, ◌<◌, ◌≤◌, ◌&&◌, ◌++◌, ◌∷◌, [], true, false, length, slice_range, IfErr, IfOk, IfSome, OnOk};
 ghost use Rattle.postscript_layout_write.specs.Coverages.{AddsChained};
 ghost use Rattle.postscript_layout_write.specs.Flags.{KeepsFlaggedPositions, set_of};
 ghost use Rattle.postscript_layout_write.specs.Kerning.{KeepsKerning};
-ghost use Rattle.postscript_layout_write.specs.Lookups.{AreStarts, HasLast, Keeps, MakesPosition, PutsList};
+ghost use Rattle.postscript_layout_write.specs.Lookups.{AreStarts, HasLast, IsAway, IsPut, Joins, Keeps, MakesPosition, PutsList};
 ghost use Rattle.postscript_layout_write.specs.Marks.{type_at};
 ghost use Rattle.postscript_layout_write.specs.Pairs.{lookups_of};
 ghost use Rattle.postscript_layout_write.specs.PositionContexts.{contexts_by};
@@ -22,7 +22,7 @@ use crate::pieces::{Piece, pairs_piece};
 use crate::position_contexts::{has_contexts, keeps_contexts, put_contexts};
 use crate::scope::{Scope, new_flag};
 use crate::script_lists::lists_end;
-use crate::subtables::put_offsets;
+use crate::subtables::{SHARED, is_at, put_offsets};
 use crate::typed::{has_kept_type, keeps_type, put_typed};
 use std::alloc::{AllocError, Global};
 
@@ -49,11 +49,24 @@ impl Last {
         Ok(size + self.subtables.len())
     }
 
+    /// Returns the distance of one of the last lookups that begins with a text.
+    fn find(&self, text: &[u8]) -> Option<usize>
+        ensures { IfSome result (λ distance. IsAway text.now distance self.now.lookups.items) }
+    {
+        let size = self.lookups.len();
+        let count = self.distances.len();
+        for k in count.saturating_sub(SHARED)..count {
+            let distance = self.distances[k];
+            if distance <= size && is_at(&self.lookups, text, size - distance) {
+                return Some(distance);
+            }
+        }
+        None
+    }
+
     /// Puts a lookup before the others.
-    fn add(&mut self, alloc: Global, piece: &Piece) -> Result<()>
-        ensures lookups { OnOk result (self.new.lookups.items ≡ piece.now.lookup.items ++ self.old.lookups.items) }
-        ensures subtables { OnOk result (self.new.subtables.items ≡ self.old.subtables.items ++ piece.now.subtables.items) }
-        ensures distances { OnOk result (self.new.distances.items ≡ self.old.distances.items ++ length self.new.lookups.items ∷ []) }
+    fn put(&mut self, alloc: Global, piece: &Piece) -> Result<()>
+        ensures put { OnOk result (IsPut piece.now.lookup.items piece.now.subtables.items self.old self.new) }
         ensures memory { IfErr result (λ e. e ≡ errors.Memory) }
     {
         let mut lookups = Vec::new(alloc);
@@ -62,6 +75,21 @@ impl Last {
         self.distances.push(lookups.len())?;
         self.lookups = lookups;
         self.subtables.extend_from_slice(&piece.subtables)?;
+        Ok(())
+    }
+
+    /// Adds a lookup. If it has the same bytes as one of the last lookups, that one is shared.
+    fn add(&mut self, alloc: Global, piece: &Piece) -> Result<()>
+        ensures added { OnOk result (Joins piece.now.lookup.items piece.now.subtables.items self.old self.new) }
+        ensures memory { IfErr result (λ e. e ≡ errors.Memory) }
+    {
+        if piece.subtables.is_empty() {
+            if let Some(distance) = self.find(&piece.lookup) {
+                self.distances.push(distance)?;
+                return Ok(());
+            }
+        }
+        self.put(alloc, piece)?;
         Ok(())
     }
 }

@@ -318,11 +318,10 @@ fn put_next(
     Ok(())
 }
 
-/// Appends the lookups of a table one after the other, and collects their offsets.
-fn put_each(
+/// Places the lookups of a table one after the other. Lookups with the same bytes can have the same offset.
+fn place_each(
     alloc: Global,
-    bytes: &mut Vec<u8>,
-    offsets: &mut Vec<usize>,
+    placed: &mut Sets,
     whole: bool,
     gsub: &[u8],
     lookups: &[u16],
@@ -330,11 +329,10 @@ fn put_each(
     numbers: &[Option<usize>],
     limit: &mut u64,
 ) -> Result<()>
-    requires bytes { length bytes.old.items ≡ 0 }
-    requires offsets { length offsets.old.items ≡ 0 }
+    requires offsets { placed.old.offsets.items ≡ [] }
     requires small { length kept.now < 65536 }
     requires exact { AreNumbers kept.now numbers.now }
-    ensures done { OnOk result (HasRuleLookups whole gsub.now lookups.now kept.now (lookups_of gsub.now) offsets.new.items bytes.new.items) }
+    ensures done { OnOk result (HasRuleLookups whole gsub.now lookups.now kept.now (lookups_of gsub.now) placed.new.offsets.items placed.new.bytes.items) }
     ensures spends { limit.new ≤ limit.old }
     ensures why { IfErr result (λ e. Fails limit.new e) }
 {
@@ -344,13 +342,12 @@ fn put_each(
         pay(limit)?;
         pay_all(limit, lookups.len())?;
         let lookup = list + word(gsub, list + 2 + i * 2);
-        if bytes.len() > 65535 {
-            return Err(Error::TooLarge);
-        }
-        offsets.push(bytes.len())?;
+        let mut text = Vec::new(alloc);
         put_next(
-            alloc, bytes, whole, gsub, lookup, lookups, i, kept, numbers, limit,
+            alloc, &mut text, whole, gsub, lookup, lookups, i, kept, numbers, limit,
         )?;
+        let offset = placed.place(&text)?;
+        placed.offsets.push(offset)?;
     }
     Ok(())
 }
@@ -372,12 +369,10 @@ fn put_list(
     ensures why { IfErr result (λ e. Fails limit.new e) }
 {
     let numbers = new_numbers(alloc, kept)?;
-    let mut bytes = Vec::new(alloc);
-    let mut offsets = Vec::new(alloc);
-    put_each(
+    let mut placed = Sets::new(alloc);
+    place_each(
         alloc,
-        &mut bytes,
-        &mut offsets,
+        &mut placed,
         whole,
         gsub,
         lookups,
@@ -385,13 +380,13 @@ fn put_list(
         &numbers,
         limit,
     )?;
-    let count = offsets.len();
+    let count = placed.offsets.len();
     if count > 32766 {
         return Err(Error::TooLarge);
     }
     put_uint16(out, count as u16)?;
-    put_offsets(out, 2 + count * 2, &offsets)?;
-    out.extend_from_slice(&bytes)?;
+    put_offsets(out, 2 + count * 2, &placed.offsets)?;
+    out.extend_from_slice(&placed.bytes)?;
     Ok(())
 }
 

@@ -21,8 +21,8 @@ pub(crate) struct Sets {
     pub(crate) bytes: Vec<u8>,
 }
 
-/// The number of sets that a new set is compared with. An equal one is shared.
-const SHARED: usize = 64;
+/// The number of texts that a new text is compared with. An equal one is shared.
+pub(crate) const SHARED: usize = 64;
 
 /// Appends the four numbers of a value record.
 #[tactic(auto, unfolding(crate::specs::Text::values_text))]
@@ -119,7 +119,7 @@ fn set_of(alloc: Global, form: Form, entries: &[Entry]) -> Result<Vec<u8>>
 }
 
 /// Returns whether a text is at an offset.
-fn is_at(bytes: &[u8], text: &[u8], offset: usize) -> bool
+pub(crate) fn is_at(bytes: &[u8], text: &[u8], offset: usize) -> bool
     ensures { result ≡ true → Holds text.now bytes.now offset }
 {
     if offset > bytes.len() || text.len() > bytes.len() - offset {

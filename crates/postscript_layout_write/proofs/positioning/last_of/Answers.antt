@@ -17,11 +17,9 @@ loop-k-preserved c =
     let place : c.word-list.result + c.word.result ≡ lookup_at gpos i = ap (λ (n : ℕ). c.word-list.result + n) c.word.ensures.exact
     ∙ ap (λ (n : ℕ). n + word gpos (n + 2 + i * 2)) c.word-list.ensures.exact in
     record {
-      last = last-more c.args.scope gpos kept c.loop-k.k i piece.lookup.items piece.subtables.items
-          old.distances.items old.lookups.items old.subtables.items new.distances.items new.lookups.items new.subtables.items
-          (omega (arith, count)) c.loop-k.invariant.last
+      last = last-more c.args.scope gpos kept c.loop-k.k i piece.lookup.items piece.subtables.items old new (omega (arith, count)) c.loop-k.invariant.last
           (subst (λ (n : ℕ). MakesPosition c.args.scope gpos kept (lookup_at gpos i) n piece.lookup.items piece.subtables.items) c.in_ok-size.ensures.exact
           (subst (λ (n : ℕ). MakesPosition c.args.scope gpos kept n c.in_ok-size.size piece.lookup.items piece.subtables.items) place c.in_ok-piece.ensures.done))
-          c.in_ok-add.ensures.lookups c.in_ok-add.ensures.subtables c.in_ok-add.ensures.distances;
+          c.in_ok-add.ensures.added;
       spent = omega (arith, c.pay.ensures.spends, c.piece_of.ensures.spends, c.loop-k.invariant.spent);
     }
