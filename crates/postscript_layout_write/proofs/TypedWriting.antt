@@ -9,7 +9,7 @@ use Rattle.postscript_layout_write.specs.Holds.{Holds}
 use Rattle.postscript_layout_write.specs.Marks.{of_format1, type_at, typed_at}
 use Rattle.postscript_layout_write.specs.RuleSets.{rule_head_text}
 use Rattle.postscript_layout_write.specs.Scopes.{mark_set_text}
-use Rattle.postscript_layout_write.specs.Sets.{AreOffsets}
+use Rattle.postscript_layout_write.specs.Sets.{AreOffsets, Places}
 use Rattle.postscript_layout_write.specs.Text.{array_text, coverage_text, offsets_text}
 use Rattle.postscript_layout_write.specs.Typed.{AddsPart, AddsRows, AddsTyped, HasPart, HasParts, HasRows, HasTyped, PutsRows, has_ends, has_marks, has_singles, parts_text, rows_text}
 use Rattle.postscript_layout_write.specs.declared.anchors.Side.{Side}
@@ -99,17 +99,18 @@ parts-none gpos lookup type flag kept offsets bytes none is small = record {
   set_small = small;
 }
 
-pub parts-more : (gpos : List ℕ) (lookup type flag : ℕ) (kept : List ℕ) (j : ℕ) (offsets bytes newoffsets newbytes : List ℕ) →
-    HasParts gpos lookup type flag kept j offsets bytes → AddsPart type gpos (typed_at gpos lookup type j) kept bytes newbytes →
-    newoffsets ≡ offsets ++ length bytes ∷ [] → HasParts gpos lookup type flag kept (j + 1) newoffsets newbytes
-parts-more gpos lookup type flag kept j offsets bytes newoffsets newbytes has adds is =
+pub parts-more : (gpos : List ℕ) (lookup type flag : ℕ) (kept : List ℕ) (j offset : ℕ) (text offsets bytes newoffsets newbytes : List ℕ) →
+    HasParts gpos lookup type flag kept j offsets bytes → AddsPart type gpos (typed_at gpos lookup type j) kept [] text → Places text bytes newbytes offset →
+    newoffsets ≡ offsets ++ offset ∷ [] → HasParts gpos lookup type flag kept (j + 1) newoffsets newbytes
+parts-more gpos lookup type flag kept j offset text offsets bytes newoffsets newbytes has adds places is =
     subst (λ (xs : List ℕ). HasParts gpos lookup type flag kept (j + 1) xs newbytes) (sym is) (record {
-      many = (let many = has.many in omega (arith, many, length-append offsets (length bytes ∷ [])));
-      each = push-each (λ k o. HasPart type gpos (typed_at gpos lookup type k) kept newbytes o) offsets (length bytes) 0 j has.many
-          (λ k less. subst (λ (xs : List ℕ). HasPart type gpos (typed_at gpos lookup type k) kept xs (get_or offsets k 0)) (sym adds.bytes)
-          (part-on type gpos (typed_at gpos lookup type k) kept bytes adds.more (get_or offsets k 0) (has.each k less)))
-          adds.has;
-      set = subst (λ (xs : List ℕ). Holds (mark_set_text flag (set_of gpos lookup)) xs 0) (sym adds.bytes) (holds-on adds.more has.set);
+      many = (let many = has.many in omega (arith, many, length-append offsets (offset ∷ [])));
+      each = push-each (λ k o. HasPart type gpos (typed_at gpos lookup type k) kept newbytes o) offsets offset 0 j has.many
+          (λ k less. subst (λ (xs : List ℕ). HasPart type gpos (typed_at gpos lookup type k) kept xs (get_or offsets k 0)) (sym places.bytes)
+          (part-on type gpos (typed_at gpos lookup type k) kept bytes places.more (get_or offsets k 0) (has.each k less)))
+          (subst (λ o. HasPart type gpos (typed_at gpos lookup type j) kept newbytes o) {x = offset + 0} {y = offset} (omega arith)
+          (part-in type gpos (typed_at gpos lookup type j) kept newbytes text offset 0 places.there adds.has));
+      set = subst (λ (xs : List ℕ). Holds (mark_set_text flag (set_of gpos lookup)) xs 0) (sym places.bytes) (holds-on places.more has.set);
       set_small = has.set_small;
     })
 

@@ -17,7 +17,7 @@ use crate::numbers::{long, word};
 use crate::row_subtables::add_rows;
 use crate::scope::put_set;
 use crate::substituting::put_head;
-use crate::subtables::put_offsets;
+use crate::subtables::{Sets, put_offsets};
 use std::alloc::Global;
 
 /// Returns the type of a lookup. An extension has the type of its first subtable.
@@ -149,14 +149,8 @@ fn add_part(
     }
 }
 
-/// The subtables of a lookup one after the other, after the set of marks of the lookup, if it uses one, and their offsets.
-#[derive(Drop)]
-struct Parts {
-    offsets: Vec<usize>,
-    bytes: Vec<u8>,
-}
-
-/// Collects the subtables of a lookup of a type with a new flag.
+/// Collects the subtables of a lookup of a type with a new flag, after the set of marks of the lookup, if it uses one.
+/// Subtables with the same bytes can have the same offset.
 fn parts_of(
     alloc: Global,
     gpos: &[u8],
@@ -165,27 +159,25 @@ fn parts_of(
     flag: usize,
     kept: &[u16],
     limit: &mut u64,
-) -> Result<Parts>
+) -> Result<Sets>
     requires near { lookup < 2 ^ 31 }
     requires few { length kept.now < 65536 }
     ensures exact { IfOk result (λ parts. HasParts gpos.now lookup kind flag kept.now (the_word gpos.now (lookup + 4)) parts.offsets.items parts.bytes.items) }
     ensures spends { limit.new ≤ limit.old }
     ensures why { IfErr result (λ e. Fails limit.new e) }
 {
-    let mut offsets = Vec::new(alloc);
-    let mut bytes = Vec::new(alloc);
-    put_set(&mut bytes, gpos, lookup, flag)?;
+    let mut parts = Sets::new(alloc);
+    put_set(&mut parts.bytes, gpos, lookup, flag)?;
     let count = word(gpos, lookup + 4);
     for j in 0..count {
         pay(limit)?;
-        if bytes.len() > 65535 {
-            return Err(Error::TooLarge);
-        }
-        offsets.push(bytes.len())?;
         let subtable = subtable_at(gpos, lookup, kind, j);
-        add_part(alloc, &mut bytes, gpos, kind, subtable, kept, limit)?;
+        let mut text = Vec::new(alloc);
+        add_part(alloc, &mut text, gpos, kind, subtable, kept, limit)?;
+        let offset = parts.place(&text)?;
+        parts.offsets.push(offset)?;
     }
-    Ok(Parts { offsets, bytes })
+    Ok(parts)
 }
 
 /// Appends a lookup with its type, a new flag, and a subtable for each old one.
