@@ -6,6 +6,7 @@ use Rattle.postscript_layout_write.specs.declared.error.Error.{Error as Fault}
 use Rattle.postscript_layout_write.specs.declared.error.Error.TheVariants.{ListsTooLong, Memory, TooLarge, TooLong}
 use Rattle.postscript_sfnt.specs.declared.file.FontFile.{FontFile}
 use Rattle.postscript_subset.specs.Layers.{IsGdef, IsGsub, RefusesGlyphs, are_few}
+use Rattle.postscript_subset.specs.declared.features.Features.{Features}
 use Rattle.postscript_subset.specs.declared.layers.Outcome.{Outcome}
 use Rattle.postscript_subset.specs.declared.layers.Outcome.TheVariants.{Absent, Kept, Lost, NotChosen}
 
@@ -38,12 +39,12 @@ less-gdef NotChosen file origins left less new below h = h
 less-gdef Kept file origins left less new below h = h
 less-gdef (Lost e) file origins left less new below h = (h.0, h.1, (h.2.0, less-glyphs (are_few origins) e origins left less below h.2.1))
 
-pub less-gsub : (o : Outcome) (file : FontFile) (lookups origins : List ℕ) (gdef : Outcome) (left less : ℕ) (new : List ℕ) → less ≤ left →
-    IsGsub o file lookups origins gdef left new → IsGsub o file lookups origins gdef less new
-less-gsub Absent file lookups origins gdef left less new below h = h
-less-gsub NotChosen file lookups origins gdef left less new below h = h
-less-gsub Kept file lookups origins gdef left less new below h = h
-less-gsub (Lost e) file lookups origins gdef left less new below h = (
+pub less-gsub : (o : Outcome) (file : FontFile) (features : Features) (lookups origins : List ℕ) (gdef : Outcome) (left less : ℕ) (new : List ℕ) → less ≤ left →
+    IsGsub o file features lookups origins gdef left new → IsGsub o file features lookups origins gdef less new
+less-gsub Absent file features lookups origins gdef left less new below h = h
+less-gsub NotChosen file features lookups origins gdef left less new below h = h
+less-gsub Kept file features lookups origins gdef left less new below h = h
+less-gsub (Lost e) file features lookups origins gdef left less new below h = (
   h.0,
   h.1,
   elim h.2 [

@@ -17,7 +17,7 @@ IsLayer (Err e) layer = layer.outcome ≡ outcomes.Lost e
 -- the three tables of the origins
 pub record AreLayers (file : FontFile) (features : Features) (lookups origins : List ℕ) (left : ℕ) (layers : Layers) : Type 0 where
   pub gdef : IsGdef layers.gdef.outcome file origins left layers.gdef.table.items
-  pub gsub : IsGsub layers.gsub.outcome file lookups origins layers.gdef.outcome left layers.gsub.table.items
+  pub gsub : IsGsub layers.gsub.outcome file features lookups origins layers.gdef.outcome left layers.gsub.table.items
   pub gpos : IsGpos layers.gpos.outcome file features origins layers.gdef.outcome left layers.gpos.table.items
 
 -- the layout tables that are kept

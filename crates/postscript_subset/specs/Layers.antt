@@ -3,6 +3,7 @@ use Rattle.std.specs.Prelude.{◌≡◌, ◌⊎◌, ℕ, ◌<◌, ◌++◌, Bool
 use Rattle.postscript_layout.specs.Numbers.{word}
 use Rattle.postscript_layout_write.specs.Classes.{KeepsClasses, RefusesClasses}
 use Rattle.postscript_layout_write.specs.Definitions.{KeepsDefinitions}
+use Rattle.postscript_layout_write.specs.Features.{HasOnlyFeatures}
 use Rattle.postscript_layout_write.specs.Flags.{KeepsFlaggedPositions}
 use Rattle.postscript_layout_write.specs.Positions.{KeepsPositions}
 use Rattle.postscript_layout_write.specs.Refusals.{Fails, Refuses}
@@ -12,6 +13,7 @@ use Rattle.postscript_sfnt.specs.declared.file.FontFile.{FontFile}
 use Rattle.postscript_layout_write.specs.declared.error.Error.{Error}
 use Rattle.postscript_subset.specs.Lookups.{HavePositions}
 use Rattle.postscript_subset.specs.declared.features.Features.{Features}
+use Rattle.postscript_subset.specs.declared.features.Features.TheVariants.{All, These}
 use Rattle.postscript_subset.specs.declared.layers.Outcome.{Outcome}
 use Rattle.postscript_subset.specs.declared.layers.Outcome.TheVariants.{Absent, Kept, Lost, NotChosen}
 
@@ -52,6 +54,15 @@ abbrev pub KeepsPlaces : (marks : Bool) → (old origins new : List ℕ) → Typ
 KeepsPlaces true old origins new = KeepsFlaggedPositions old origins new
 KeepsPlaces false old origins new = KeepsPositions old origins new
 
+-- a table has only the chosen features
+abbrev pub HasChosen : Features → (whole new : List ℕ) → Type 0
+HasChosen All whole new = new ≡ whole
+HasChosen (These tags) whole new = HasOnlyFeatures whole tags.now new
+
+-- a table with only the chosen features, where this is true of the table with all of them
+abbrev pub OfWhole : Features → (new : List ℕ) → (List ℕ → Type 0) → Type 0
+OfWhole features new P = (whole : List ℕ) × P whole × HasChosen features whole new
+
 -- The outcome for `GDEF`, and the new table. The table is absent if the face has none, or no glyph classes in it.
 abbrev pub IsGdef : Outcome → (file : FontFile) → (origins : List ℕ) → (left : ℕ) → (new : List ℕ) → Type 0
 IsGdef Absent file origins left new = HasNoTable file gdef_tag ⊎ OfTable file gdef_tag (λ gdef. word gdef 4 ≡ 0)
@@ -59,19 +70,21 @@ IsGdef NotChosen file origins left new = ⊥
 IsGdef Kept file origins left new = OfTable file gdef_tag (λ gdef. (0 < word gdef 4) × KeepsGlyphs (are_few origins) gdef origins new)
 IsGdef (Lost e) file origins left new = OfTable file gdef_tag (λ gdef. (0 < word gdef 4) × RefusesGlyphs (are_few origins) e origins left)
 
--- The outcome for `GSUB`, and the new table. It has lookups that use classes or sets of marks if `GDEF` has these. It is lost if it is refused, or with
--- `GDEF`.
-abbrev pub IsGsub : Outcome → (file : FontFile) → (lookups origins : List ℕ) → (gdef : Outcome) → (left : ℕ) → (new : List ℕ) → Type 0
-IsGsub Absent file lookups origins gdef left new = HasNoTable file gsub_tag
-IsGsub NotChosen file lookups origins gdef left new = ⊥
-IsGsub Kept file lookups origins gdef left new = OfTable file gsub_tag (λ gsub. KeepsRules (have_marks origins gdef) gsub lookups origins new)
-IsGsub (Lost e) file lookups origins gdef left new = OfTable file gsub_tag (λ gsub. Refuses e gsub left ⊎ (gdef ≡ Lost e))
+-- The outcome for `GSUB`, and the new table. It has only the chosen features, and lookups that use classes or sets of marks if `GDEF` has these. It is
+-- lost if it is refused, or with `GDEF`.
+abbrev pub IsGsub : Outcome → (file : FontFile) → (features : Features) → (lookups origins : List ℕ) → (gdef : Outcome) → (left : ℕ) → (new : List ℕ) → Type 0
+IsGsub Absent file features lookups origins gdef left new = HasNoTable file gsub_tag
+IsGsub NotChosen file features lookups origins gdef left new = ⊥
+IsGsub Kept file features lookups origins gdef left new =
+    OfTable file gsub_tag (λ gsub. OfWhole features new (KeepsRules (have_marks origins gdef) gsub lookups origins))
+IsGsub (Lost e) file features lookups origins gdef left new = OfTable file gsub_tag (λ gsub. Refuses e gsub left ⊎ (gdef ≡ Lost e))
 
--- The outcome for `GPOS`, and the new table. It is chosen if kerning or marks are.
+-- The outcome for `GPOS`, and the new table. It is chosen if kerning or marks are, and has only the chosen features.
 abbrev pub IsGpos : Outcome → (file : FontFile) → (features : Features) → (origins : List ℕ) → (gdef : Outcome) → (left : ℕ) → (new : List ℕ) → Type 0
 IsGpos Absent file features origins gdef left new = HasNoTable file gpos_tag
 IsGpos NotChosen file features origins gdef left new = (HavePositions features → ⊥) × OfTable file gpos_tag (λ gpos. Unit {0})
-IsGpos Kept file features origins gdef left new = HavePositions features × OfTable file gpos_tag (λ gpos. KeepsPlaces (have_marks origins gdef) gpos origins new)
+IsGpos Kept file features origins gdef left new =
+    HavePositions features × OfTable file gpos_tag (λ gpos. OfWhole features new (KeepsPlaces (have_marks origins gdef) gpos origins))
 IsGpos (Lost e) file features origins gdef left new =
     HavePositions features × OfTable file gpos_tag (λ gpos. Refuses e gpos left ⊎ (gdef ≡ Lost e))
 

@@ -50,7 +50,7 @@ pub record IsCutBy (by : Choice) (features : Features) (face : Face) (was lookup
   pub origins : List ℕ
   pub are : AreOriginsOf by face origins
   pub classes : IsGdef subset.gdef face.file origins left gdef
-  pub substitutions : IsGsub subset.gsub face.file lookups origins subset.gdef left gsub
+  pub substitutions : IsGsub subset.gsub face.file features lookups origins subset.gdef left gsub
   pub positions : IsGpos subset.gpos face.file features origins subset.gdef left gpos
   pub left_out : subset.left_out.items ≡ left_in subset.gsub (have_marks origins subset.gdef) was lookups
 
@@ -70,7 +70,7 @@ pub record IsCutFace (choice : Choice) (features : Features) (face : Face) (left
   pub origins : List ℕ
   pub are : AreOriginsOf by face origins
   pub classes : IsGdef subset.gdef face.file origins left gdef
-  pub substitutions : IsGsub subset.gsub face.file is.made.lookups origins subset.gdef left gsub
+  pub substitutions : IsGsub subset.gsub face.file features is.made.lookups origins subset.gdef left gsub
   pub positions : IsGpos subset.gpos face.file features origins subset.gdef left gpos
   pub stays : TextStaysIn choice face is.made.count is.made.gsub is.made.lookups origins
   pub left_out : subset.left_out.items ≡ left_in subset.gsub (have_marks origins subset.gdef) is.made.gsub is.made.lookups

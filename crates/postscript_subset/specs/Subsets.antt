@@ -84,7 +84,7 @@ pub record IsCutWithLayout (choice : Choice) (features : Features) (bytes : List
   pub origins : List ℕ
   pub are : AreOriginsOf by cut.old origins
   pub classes : IsGdef subset.gdef cut.old.file origins left gdef
-  pub substitutions : IsGsub subset.gsub cut.old.file is.made.lookups origins subset.gdef left gsub
+  pub substitutions : IsGsub subset.gsub cut.old.file features is.made.lookups origins subset.gdef left gsub
   pub positions : IsGpos subset.gpos cut.old.file features origins subset.gdef left gpos
   pub there : (i : ℕ) (table : ℕ × List ℕ) → slice_get (all_tables subset.gdef subset.gsub subset.gpos gdef gsub gpos) i ≡ Some table →
       (new : Face) → IsFaceIn subset.file.items 0 new → HasCopy new.file table.0 table.1

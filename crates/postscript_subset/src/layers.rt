@@ -2,9 +2,9 @@
 ghost use Rattle.std.specs.Prelude.{◌≡◌, ◌≤◌, [], IfOk, IfErr};
 ghost use Rattle.postscript_layout.specs.Numbers.{word};
 ghost use Rattle.postscript_files.specs.declared.error.Error.TheVariants as causes;
-ghost use Rattle.postscript_layout_write.specs.Refusals.{Refuses};
+ghost use Rattle.postscript_layout_write.specs.Refusals.{Fails, Refuses};
 ghost use Rattle.postscript_layout_write.specs.Substituting.{KeepsRules};
-ghost use Rattle.postscript_subset.specs.Layers.{IsGdef, IsGpos, IsGsub, KeepsGlyphs, KeepsPlaces, RefusesGlyphs, are_few, have_marks};
+ghost use Rattle.postscript_subset.specs.Layers.{HasChosen, IsGdef, IsGpos, IsGsub, KeepsGlyphs, KeepsPlaces, OfWhole, RefusesGlyphs, are_few, have_marks};
 ghost use Rattle.postscript_subset.specs.Layering.{AreLayers, IsLayer};
 ghost use Rattle.postscript_subset.specs.declared.error.Error.TheVariants as errors;
 ghost use Rattle.postscript_subset.specs.declared.layers.Outcome.TheVariants as outcomes;
@@ -14,7 +14,7 @@ use crate::features::Features;
 use postscript_base::index::number::number_at;
 use postscript_layout_write::{
     Error as Fault, flagged_positions, flagged_substitutions, glyph_classes, glyph_definitions,
-    positions, substitutions,
+    positions, substitutions, with_features,
 };
 use postscript_sfnt::FontFile;
 use std::alloc::Global;
@@ -115,6 +115,23 @@ pub(crate) fn has_marks(origins: &[u16], gdef: Outcome) -> bool
     }
 }
 
+/// Returns a table with only the chosen features.
+fn chosen(
+    alloc: Global,
+    features: &Features<'_>,
+    whole: Vec<u8>,
+    limit: &mut u64,
+) -> std::result::Result<Vec<u8>, Fault>
+    ensures chosen { IfOk result (λ new. HasChosen features.now whole.items new.items) }
+    ensures spends { limit.new ≤ limit.old }
+    ensures why { IfErr result (λ e. Fails limit.new e) }
+{
+    match features {
+        Features::All => Ok(whole),
+        Features::These(tags) => with_features(alloc, &whole, tags, limit),
+    }
+}
+
 /// Writes a `GPOS` table for the origins. Lookups that use classes or sets of marks are kept if the new `GDEF` table has
 /// these.
 fn positions_of(
@@ -156,6 +173,41 @@ fn substitutions_of(
     }
 }
 
+/// Writes a `GPOS` table for the origins, with only the chosen features.
+fn chosen_positions(
+    alloc: Global,
+    gpos: &[u8],
+    features: &Features<'_>,
+    origins: &[u16],
+    gdef: Outcome,
+    limit: &mut u64,
+) -> std::result::Result<Vec<u8>, Fault>
+    ensures kept { IfOk result (λ new. OfWhole features.now new.items (KeepsPlaces (have_marks origins.now gdef) gpos.now origins.now)) }
+    ensures spends { limit.new ≤ limit.old }
+    ensures why { IfErr result (λ e. Refuses e gpos.now limit.new) }
+{
+    let whole = positions_of(alloc, gpos, origins, gdef, limit)?;
+    chosen(alloc, features, whole, limit)
+}
+
+/// Writes a `GSUB` table for the origins, with only the chosen features.
+fn chosen_substitutions(
+    alloc: Global,
+    gsub: &[u8],
+    features: &Features<'_>,
+    lookups: &[u16],
+    origins: &[u16],
+    gdef: Outcome,
+    limit: &mut u64,
+) -> std::result::Result<Vec<u8>, Fault>
+    ensures kept { IfOk result (λ new. OfWhole features.now new.items (KeepsRules (have_marks origins.now gdef) gsub.now lookups.now origins.now)) }
+    ensures spends { limit.new ≤ limit.old }
+    ensures why { IfErr result (λ e. Refuses e gsub.now limit.new) }
+{
+    let whole = substitutions_of(alloc, gsub, lookups, origins, gdef, limit)?;
+    chosen(alloc, features, whole, limit)
+}
+
 /// Returns the `GDEF` table with the classes of the origins.
 fn gdef_of(alloc: Global, file: &FontFile<'_>, origins: &[u16], limit: &mut u64) -> Result<Layer>
     ensures gdef { IfOk result (λ gdef. IsGdef gdef.outcome file.now origins.now limit.new gdef.table.items) }
@@ -174,16 +226,17 @@ fn gdef_of(alloc: Global, file: &FontFile<'_>, origins: &[u16], limit: &mut u64)
     }
 }
 
-/// Returns the `GSUB` table with the rules of the lookups for the origins.
+/// Returns the `GSUB` table with the chosen features, and with the rules of the lookups for the origins.
 fn gsub_of(
     alloc: Global,
     file: &FontFile<'_>,
+    features: &Features<'_>,
     lookups: &[u16],
     origins: &[u16],
     gdef: Outcome,
     limit: &mut u64,
 ) -> Result<Layer>
-    ensures gsub { IfOk result (λ gsub. IsGsub gsub.outcome file.now lookups.now origins.now gdef limit.new gsub.table.items) }
+    ensures gsub { IfOk result (λ gsub. IsGsub gsub.outcome file.now features.now lookups.now origins.now gdef limit.new gsub.table.items) }
     ensures spends { limit.new ≤ limit.old }
     ensures memory { IfErr result (λ e. e ≡ errors.File causes.Memory) }
 {
@@ -193,7 +246,7 @@ fn gsub_of(
             Outcome::Lost(fault) => Ok(without(alloc, Outcome::Lost(fault))),
             _ => layer_of(
                 alloc,
-                substitutions_of(alloc, gsub, lookups, origins, gdef, limit),
+                chosen_substitutions(alloc, gsub, features, lookups, origins, gdef, limit),
             ),
         },
     }
@@ -220,7 +273,10 @@ fn gpos_of(
             }
             match gdef {
                 Outcome::Lost(fault) => Ok(without(alloc, Outcome::Lost(fault))),
-                _ => layer_of(alloc, positions_of(alloc, gpos, origins, gdef, limit)),
+                _ => layer_of(
+                    alloc,
+                    chosen_positions(alloc, gpos, features, origins, gdef, limit),
+                ),
             }
         }
     }
@@ -240,7 +296,15 @@ pub(crate) fn layers_of(
     ensures memory { IfErr result (λ e. e ≡ errors.File causes.Memory) }
 {
     let gdef = gdef_of(alloc, file, origins, limit)?;
-    let gsub = gsub_of(alloc, file, lookups, origins, gdef.outcome, limit)?;
+    let gsub = gsub_of(
+        alloc,
+        file,
+        features,
+        lookups,
+        origins,
+        gdef.outcome,
+        limit,
+    )?;
     let gpos = gpos_of(alloc, file, features, origins, gdef.outcome, limit)?;
     Ok(Layers { gdef, gsub, gpos })
 }

@@ -228,8 +228,9 @@ fn cut(
 /// that the chosen lookups can make of them. It has these tables in addition, under the new glyph numbers:
 ///
 /// - `GDEF`, with the glyph classes, if the face has classes;
-/// - `GSUB`, with the chosen lookups, if the face has this table;
-/// - `GPOS`, with all its positions, if the face has this table and `kern`, `mark`, `mkmk` or `curs` is among the features.
+/// - `GSUB`, with the chosen features and lookups, if the face has this table;
+/// - `GPOS`, with the chosen features and all its positions, if the face has this table and `kern`, `mark`, `mkmk` or `curs` is
+///   among the features.
 ///
 /// If `choice.retain_gids` is set, glyphs keep their numbers. All lookups of `GSUB` are then chosen, and `GDEF`, `GSUB` and `GPOS`
 /// are copied as far as the face has them.
