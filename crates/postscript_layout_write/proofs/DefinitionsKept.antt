@@ -16,42 +16,9 @@ use Rattle.postscript_layout_write.specs.Ranges.{class_in, class_of, coverage_in
 use Rattle.postscript_layout_write.specs.Text.{array_text, uint16}
 use Rattle.postscript_layout_write.proofs.Firsts.{nat_cases}
 use Rattle.postscript_layout_write.proofs.Holding.{holds-array, holds-first, holds-in, holds-second, holds-whole, length-array, length-uint16}
+use Rattle.postscript_layout_write.proofs.Longs.{holds-long, holds-two}
 use Rattle.postscript_layout_write.proofs.MarkReading.{coverage-read}
 use Rattle.postscript_layout_write.proofs.Reading.{Searched, any-default, missing, present}
-
--- numbers of four bytes
-value-two : (n : ℕ) → n < 65536 → big_endian (uint16 0 ++ uint16 n) ≡ n
-unfolding uint16
-value-two n small = let e = from_be_bytes-to_be_bytes_2 n small in omega (arith, e)
-
-length-two : (n : ℕ) → length (uint16 0 ++ uint16 n) ≡ 4
-unfolding uint16
-length-two n = refl
-
-holds-long : {bytes : List ℕ} {offset : ℕ} (n : ℕ) → n < 65536 → Holds (uint16 0 ++ uint16 n) bytes offset → long bytes offset ≡ n
-unfolding number_at
-holds-long {bytes = bytes} {offset = offset} n small h =
-    ap (λ (b : Bool). if b then 0 else number_at bytes offset 4) within
-    ∙ ap (λ xs. big_endian (take 4 xs)) rest ∙ ap (λ k. big_endian (take k ((uint16 0 ++ uint16 n) ++ h.behind))) (sym (length-two n))
-    ∙ ap big_endian (take-append_seam (uint16 0 ++ uint16 n) h.behind) ∙ value-two n small
-  where
-    within : nat_lt (length bytes) (offset + 4) ≡ false
-    within = let a = ap length h.is in let b = h.place in
-        le-ltb _ _ (omega (arith, a, b, length-append h.front ((uint16 0 ++ uint16 n) ++ h.behind), length-append (uint16 0 ++ uint16 n) h.behind, length-two n))
-
-    rest : drop offset bytes ≡ (uint16 0 ++ uint16 n) ++ h.behind
-    rest = ap (drop offset) h.is ∙ ap (λ k. drop k (h.front ++ ((uint16 0 ++ uint16 n) ++ h.behind))) (sym h.place)
-        ∙ drop-append_seam h.front ((uint16 0 ++ uint16 n) ++ h.behind)
-
-holds-two : {bytes : List ℕ} (ns : List ℕ) (offset k : ℕ) → k + 1 < length ns → Holds (array_text ns) bytes offset →
-    Holds (uint16 (get_or ns k 0) ++ uint16 (get_or ns (suc k) 0)) bytes (offset + k * 2)
-unfolding array_text
-holds-two [] offset k less h = absurd (omega (arith, less))
-holds-two (a ∷ []) offset zero less h = absurd (omega (arith, less))
-holds-two {bytes = bytes} (a ∷ (b ∷ ns)) offset zero less h = subst (Holds (uint16 a ++ uint16 b) bytes) (omega arith)
-    (holds-first (uint16 a ++ uint16 b) (array_text ns) (subst (λ (xs : List ℕ). Holds xs bytes offset) (sym (append_assoc (uint16 a) (uint16 b) (array_text ns))) h))
-holds-two {bytes = bytes} (a ∷ ns) offset (suc k) less h = subst (Holds (uint16 (get_or ns k 0) ++ uint16 (get_or ns (suc k) 0)) bytes) (omega arith)
-    (holds-two ns (offset + 2) k (omega (arith, less)) (holds-second (uint16 a) (array_text ns) 2 (length-uint16 a) h))
 
 -- a list of classes from glyph 0 on
 listed : (t : List ℕ) (c n x : ℕ) (classes : List ℕ) → word t c ≡ 1 → word t (c + 2) ≡ 0 → word t (c + 4) ≡ n → length classes ≡ n →
@@ -192,7 +159,7 @@ module _ (old kept new classes marks numbers bytes : List ℕ) (few : length kep
       let two : Holds (uint16 (get_or numbers (s * 2) 0) ++ uint16 (get_or numbers (s * 2 + 1) 0)) new (26 + length kept * 4 + 4 + s * 2 * 2) =
       subst (λ i. Holds (uint16 (get_or numbers (s * 2) 0) ++ uint16 (get_or numbers i 0)) new (26 + length kept * 4 + 4 + s * 2 * 2)) (sym (add-one (s * 2)))
       (holds-two numbers (26 + length kept * 4 + 4) (s * 2) (omega (arith, many, low)) (holds-first (array_text numbers) bytes rest5)) in
-      ap (long new) (omega arith) ∙ holds-long (4 + sets_of old * 4 + h.place) h.small
+      ap (long new) (omega arith) ∙ holds-long 0 (4 + sets_of old * 4 + h.place) (omega arith) h.small
       (subst (λ n. Holds (uint16 0 ++ uint16 n) new (26 + length kept * 4 + 4 + s * 2 * 2)) h.low
       (subst (λ n. Holds (uint16 n ++ uint16 (get_or numbers (s * 2 + 1) 0)) new (26 + length kept * 4 + 4 + s * 2 * 2)) h.high two))
 

@@ -33,3 +33,7 @@ pub mod TypedKept
 pub mod PositionKept
 pub mod DefinitionSets
 pub mod DefinitionsKept
+pub mod Longs
+pub mod RecordReading
+pub mod LanguageReading
+pub mod FeatureReading

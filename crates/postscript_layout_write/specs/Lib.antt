@@ -40,3 +40,5 @@ pub mod Attaching
 pub mod Typed
 pub mod Definitions
 pub mod MarkSets
+pub mod Features
+pub mod Records

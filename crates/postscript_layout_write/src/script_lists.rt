@@ -18,7 +18,7 @@ fn later(a: usize, b: usize) -> usize
 }
 
 /// Returns the offset of the table that record `i` of a list names.
-fn named(gpos: &[u8], from: usize, records: usize, i: usize) -> usize
+pub(crate) fn named(gpos: &[u8], from: usize, records: usize, i: usize) -> usize
     requires from { from < 2 ^ 30 }
     requires records { records < 2 ^ 30 }
     requires few { i < 65536 }
@@ -83,7 +83,7 @@ fn scripts_end(gpos: &[u8], limit: &mut u64) -> Result<usize>
 }
 
 /// Returns the size of the parameters of a feature.
-fn parameters_size(gpos: &[u8], tag: usize, parameters: usize) -> usize
+pub(crate) fn parameters_size(gpos: &[u8], tag: usize, parameters: usize) -> usize
     requires { parameters < 2 ^ 31 }
     ensures exact { result ≡ the_size gpos.now tag parameters }
     ensures small { result < 262144 }

@@ -1,0 +1,52 @@
+//! Lists of records, which are a tag and an offset each, and the tables at the offsets.
+ghost use Rattle.std.specs.Prelude.{◌≡◌, ◌⊎◌, ◌+◌, ◌/◌, ◌%◌, ◌^◌, ◌<◌, ◌++◌, ◌∷◌, [], IfErr, OnOk};
+ghost use Rattle.postscript_layout_write.specs.Records.{records_text};
+ghost use Rattle.postscript_layout_write.specs.declared.error.Error.TheVariants as errors;
+
+use crate::error::{Error, Result};
+use crate::subtables::put_glyphs;
+use std::alloc::AllocError;
+
+/// The records of a list, as three numbers each, and the tables that they name.
+#[derive(Drop)]
+pub(crate) struct Records {
+    pub(crate) numbers: Vec<u16>,
+    pub(crate) bytes: Vec<u8>,
+}
+
+/// Adds a record with a tag. Its table is at a place after `base`.
+pub(crate) fn push_record(
+    numbers: &mut Vec<u16>,
+    tag: usize,
+    base: usize,
+    place: usize,
+) -> Result<()>
+    requires tag { tag < 4294967296 }
+    ensures text { OnOk result (numbers.new.items ≡ numbers.old.items ++ (tag / 65536 ∷ tag % 65536 ∷ (base + place) ∷ [])) }
+    ensures small { OnOk result (base + place < 65536) }
+    ensures why { IfErr result (λ e. (e ≡ errors.Memory) ⊎ (e ≡ errors.TooLarge)) }
+{
+    if base > 65535 || place > 65535 - base {
+        return Err(Error::TooLarge);
+    }
+    numbers.extend_from_slice(&[
+        (tag / 65536) as u16,
+        (tag % 65536) as u16,
+        (base + place) as u16,
+    ])?;
+    Ok(())
+}
+
+/// Appends a list: its first numbers, its records, and their tables.
+#[tactic(auto, unfolding(crate::specs::Records::records_text))]
+pub(crate) fn put_records(
+    out: &mut Vec<u8>,
+    head: &[u16],
+    records: &Records,
+) -> std::result::Result<(), AllocError>
+    ensures { OnOk result (out.new.items ≡ out.old.items ++ records_text head.now records.now.numbers.items records.now.bytes.items) }
+{
+    put_glyphs(out, head)?;
+    put_glyphs(out, &records.numbers)?;
+    out.extend_from_slice(&records.bytes)
+}
