@@ -9,7 +9,7 @@ use Rattle.std.proofs.lemmas.List.FromFn.{get_or-map-range_with_len, get_or-rang
 use Rattle.postscript_layout.specs.Numbers.{word, long, words}
 use Rattle.postscript_layout.specs.Substitutions.{coverage_of}
 use Rattle.postscript_layout.specs.Substitutions.{set_of as rule_set}
-use Rattle.postscript_layout_write.specs.Contexts.{actions_at, after_at, all_have_formats, context_of, contexts_at, contexts_in, has_format, input_at, parts_of, sets_at}
+use Rattle.postscript_layout_write.specs.Contexts.{actions_at, after_at, all_have_formats, context_of, contexts_at, contexts_below, contexts_in, has_format, input_at, parts_of, sets_at}
 use Rattle.postscript_layout_write.specs.Sequences.{Context, can_apply, covered_of, covers, if_applies, kept_by}
 use Rattle.postscript_layout_write.specs.declared.contexts.Parts.{Parts}
 use Rattle.postscript_layout_write.specs.declared.labels.Role.{Role}
