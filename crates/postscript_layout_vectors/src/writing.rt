@@ -525,7 +525,7 @@ fn put(bytes: &mut Vec<u8>, words: &[u16]) -> Result<(), AllocError> {
 }
 
 /// Returns a table of two lists of numbers.
-fn table(alloc: Global, first: &[u16], second: &[u16]) -> Result<Vec<u8>, AllocError> {
+pub(crate) fn table(alloc: Global, first: &[u16], second: &[u16]) -> Result<Vec<u8>, AllocError> {
     let mut bytes = Vec::new(alloc);
     put(&mut bytes, first)?;
     put(&mut bytes, second)?;

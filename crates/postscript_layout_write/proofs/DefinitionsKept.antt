@@ -1,12 +1,8 @@
 -- Glyph definitions that were written are read as they were.
-use Rattle.std.proofs.Common.{◌≡◌, refl, sym, ap, subst, ◌∙◌, inl, inr, ℕ, zero, suc, ◌+◌, ◌-◌, ◌*◌, ◌≤◌, ◌<◌, ◌==◌, ◌&&◌, List, [], ◌∷◌, ◌++◌, length, length-append, get_or, take, drop, arith, add-one, Bool, true, false}
+use Rattle.std.proofs.Common.{◌≡◌, refl, sym, ap, subst, ◌∙◌, inl, inr, ℕ, ◌+◌, ◌-◌, ◌*◌, ◌≤◌, ◌<◌, ◌==◌, ◌&&◌, List, [], ◌∷◌, ◌++◌, length, get_or, arith, add-one, Bool, true, false}
 use Rattle.std.specs.Prelude.{Option, is_some, nat_le, nat_lt, if◌then◌else◌}
 use Rattle.std.proofs.lemmas.Bool.{eq-eqb, le-leb, le-ltb, lt-ltb, ne_eqb}
 use Rattle.std.proofs.lemmas.List.{append_assoc}
-use Rattle.std.proofs.lemmas.Nat.{from_be_bytes-to_be_bytes_2}
-use Rattle.std.proofs.Math.Seq.{drop-append_seam, take-append_seam}
-use Rattle.postscript_base.specs.Index.{number_at}
-use Rattle.postscript_base.specs.Numbers.{big_endian}
 use Rattle.postscript_layout.specs.Numbers.{long, word}
 use Rattle.postscript_layout_write.specs.Classes.{AreClasses, glyph_class, known}
 use Rattle.postscript_layout_write.specs.Definitions.{KeepsDefinitions, covers, in_set, mark_class, sets_at, sets_of}
@@ -15,7 +11,7 @@ use Rattle.postscript_layout_write.specs.MarkSets.{AreMarkClasses, AreMarkSets, 
 use Rattle.postscript_layout_write.specs.Ranges.{class_in, class_of, coverage_index, listed_class, range_of}
 use Rattle.postscript_layout_write.specs.Text.{array_text, uint16}
 use Rattle.postscript_layout_write.proofs.Firsts.{nat_cases}
-use Rattle.postscript_layout_write.proofs.Holding.{holds-array, holds-first, holds-in, holds-second, holds-whole, length-array, length-uint16}
+use Rattle.postscript_layout_write.proofs.Holding.{holds-array, holds-first, holds-in, holds-second, holds-whole, length-array}
 use Rattle.postscript_layout_write.proofs.Longs.{holds-long, holds-two}
 use Rattle.postscript_layout_write.proofs.MarkReading.{coverage-read}
 use Rattle.postscript_layout_write.proofs.Reading.{Searched, any-default, missing, present}
@@ -162,6 +158,7 @@ module _ (old kept new classes marks numbers bytes : List ℕ) (few : length kep
       ap (long new) (omega arith) ∙ holds-long 0 (4 + sets_of old * 4 + h.place) (omega arith) h.small
       (subst (λ n. Holds (uint16 0 ++ uint16 n) new (26 + length kept * 4 + 4 + s * 2 * 2)) h.low
       (subst (λ n. Holds (uint16 n ++ uint16 (get_or numbers (s * 2 + 1) 0)) new (26 + length kept * 4 + 4 + s * 2 * 2)) h.high two))
+      ∙ omega arith
 
   in-read : (s k : ℕ) (low : s < sets_of old) → in_set new s k ≡ is_some (coverage_index new (cover-at s low) k)
   unfolding cover-at

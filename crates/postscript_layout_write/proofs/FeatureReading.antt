@@ -1,12 +1,11 @@
 -- Features that are written are read as they were.
-use Rattle.std.proofs.Common.{◌≡◌, refl, sym, ap, subst, ◌∙◌, inl, inr, ℕ, ◌+◌, ◌*◌, ◌≤◌, ◌<◌, List, [], ◌∷◌, ◌++◌, length, length-append, get_or, take, drop, append-nil, arith, Bool, true, false}
-use Rattle.std.specs.Prelude.{map}
-use Rattle.std.specs.List.{All, range_with_len}
+use Rattle.std.proofs.Common.{◌≡◌, refl, sym, ap, subst, ◌∙◌, ℕ, ◌+◌, ◌*◌, ◌≤◌, ◌<◌, List, [], ◌∷◌, ◌++◌, length, length-append, get_or, drop, arith}
+use Rattle.std.specs.List.{All}
 use Rattle.std.proofs.Math.Seq.{drop-append_seam}
 use Rattle.std.proofs.lemmas.List.{append_assoc, ext_get_or, get_or_append_left}
 use Rattle.std.proofs.lemmas.List.FromFn.{get_or-map-range_with_len, length-map-range_with_len, map-range_with_len_more}
 use Rattle.postscript_layout.specs.Features.{indices_of}
-use Rattle.postscript_layout.specs.Numbers.{long, word, words}
+use Rattle.postscript_layout.specs.Numbers.{long, word}
 use Rattle.postscript_layout_write.specs.Features.{HasOnlyFeatures, KeepsFeature, KeepsFeatures, KeepsParameters, KeepsScripts, bytes_at, chosen_features, has_parameters, no_parameters, size_of}
 use Rattle.postscript_layout_write.specs.Holds.{Holds}
 use Rattle.postscript_layout_write.specs.Records.{AreRecords, Puts, records_text, table_text}
@@ -32,8 +31,10 @@ bytes-read t o text n many h = ext_get_or 0 (bytes_at t o n) text (length-map-ra
 pub length-bytes : (t : List ℕ) (o n : ℕ) → length (bytes_at t o n) ≡ n
 length-bytes t o n = length-map-range_with_len (λ k. get_or t (o + k) 0) 0 n
 
-pub bytes-more : (old t : List ℕ) (o k : ℕ) → (old ++ bytes_at t o k) ++ get_or t (o + k) 0 ∷ [] ≡ old ++ bytes_at t o (k + 1)
-bytes-more old t o k = append_assoc old (bytes_at t o k) (get_or t (o + k) 0 ∷ [])
+pub bytes-more : (t : List ℕ) (o k b : ℕ) (old before after : List ℕ) → before ≡ old ++ bytes_at t o k → b ≡ get_or t (o + k) 0 → after ≡ before ++ b ∷ [] →
+    after ≡ old ++ bytes_at t o (k + 1)
+bytes-more t o k b old before after so here is = is ∙ ap (λ xs. xs ++ b ∷ []) so ∙ append_assoc old (bytes_at t o k) (b ∷ [])
+    ∙ ap (λ n. old ++ (bytes_at t o k ++ n ∷ [])) here
     ∙ ap (λ xs. old ++ xs) (sym (map-range_with_len_more (λ i. get_or t (o + i) 0) 0 k k (omega arith)))
 
 -- the offset of the parameters of a feature

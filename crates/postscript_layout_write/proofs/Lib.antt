@@ -37,3 +37,4 @@ pub mod Longs
 pub mod RecordReading
 pub mod LanguageReading
 pub mod FeatureReading
+pub mod FeatureRows

@@ -19,12 +19,7 @@ use crate::subtables::put_glyphs;
 use std::alloc::{AllocError, Global};
 
 /// Returns the features whose tags are chosen.
-fn chosen_features(
-    alloc: Global,
-    table: &[u8],
-    tags: &[u32],
-    limit: &mut u64,
-) -> Result<Vec<u16>>
+fn chosen_features(alloc: Global, table: &[u8], tags: &[u32], limit: &mut u64) -> Result<Vec<u16>>
     ensures exact { IfOk result (λ kept. kept.items ≡ the_chosen table.now tags.now) }
     ensures few { IfOk result (λ kept. length kept.items < 65536) }
     ensures spends { limit.new ≤ limit.old }
@@ -194,28 +189,24 @@ fn joined(alloc: Global, scripts: &[u8], features: &[u8], table: &[u8]) -> Resul
 
 /// Returns a `GSUB` or `GPOS` table with only the features whose tags are given.
 ///
-/// A tag is a number of four bytes. The new table has version 1.0. Scripts and languages stay, also those that have no
-/// feature left. The kept features have new indices, in the same order, and each has the same lookups and parameters. A
-/// language system whose required feature is dropped has none. The bytes of the old table from its lookup list on follow.
-/// So all lookups stay, also those that no feature names now. Old lists behind the lookup list stay too, and are not used:
-/// in the tables of this crate there are none. Feature variations are dropped.
+/// A tag is a number of four bytes. The new table has version 1.0, with all scripts and languages, even if no feature of
+/// theirs is left. The kept features are in the same order, with the same lookups and parameters, under new indices. If
+/// the required feature of a language system is dropped, the language system has none. The last part is the lookup list
+/// with all bytes of the old table that follow it. So all lookups are kept, even if no feature names them now. An old
+/// script list or feature list after the lookup list is kept there, unused; tables of this crate have none there. Feature
+/// variations are dropped.
 ///
-/// Tables that records share are written for each record. One unit of the limit is paid for each script, language system
-/// and feature, and for each feature index, lookup index and byte of parameters. One more is paid for each tag, for each
-/// feature of the old table.
+/// A table that several records share is written for each of them. One unit of the limit is paid for each tag, and one
+/// more, for each feature of the old table. One is paid for each script and each language system, and for each feature
+/// index there. One is paid for each kept feature, each of its lookup indices, and each byte of its parameters.
 ///
 /// # Errors
 ///
 /// - `TooLarge`: an offset or a count would exceed 16 bits.
 /// - `TooLong`: the table costs more than the limit.
 /// - `Memory`: out of memory.
-pub fn with_features(
-    alloc: Global,
-    table: &[u8],
-    tags: &[u32],
-    limit: &mut u64,
-) -> Result<Vec<u8>>
-    // The features with the given tags are kept, with their lookups, for the same scripts and languages. No others are.
+pub fn with_features(alloc: Global, table: &[u8], tags: &[u32], limit: &mut u64) -> Result<Vec<u8>>
+    // All scripts and languages keep their features with the given tags, and only these.
     ensures kept { IfOk result (λ new. HasOnlyFeatures table.now tags.now new.items) }
     // The limit never grows.
     ensures spends { limit.new ≤ limit.old }

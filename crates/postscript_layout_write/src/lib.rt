@@ -31,6 +31,9 @@
 //! them only if all of its subtables have one of the three formats. `with_called` returns the lookups that contexts
 //! apply, which have to be chosen too (specs/Calls.antt).
 //!
+//! `with_features` returns such a table with only some of its features. The scripts and languages are the same, and the
+//! lookups have the same bytes (`HasOnlyFeatures` in specs/Features.antt).
+//!
 //! What is left out:
 //!
 //! - Of `GPOS`, `kerning` keeps only pair adjustments (type 2). `positions` and `flagged_positions` also keep single

@@ -1,8 +1,8 @@
-use Rattle.std.proofs.Common.{◌≡◌, ◌∙◌, ◌+◌, ◌*◌, ◌≤◌, ◌++◌, ◌∷◌, [], ap, sym, ℕ, List, Bool, length, length-append, arith}
+use Rattle.std.proofs.Common.{◌≡◌, ◌∙◌, ◌+◌, ◌*◌, ◌++◌, ◌∷◌, [], ap, sym, ℕ, List, Bool, length, length-append, arith}
 use Rattle.std.specs.Prelude.{◌==◌, filter, if◌then◌else◌}
 use Rattle.std.specs.List.{list_any, range_with_len}
 use Rattle.postscript_layout.specs.Features.{tag_of}
-use Rattle.postscript_layout.specs.Numbers.{long, word}
+use Rattle.postscript_layout.specs.Numbers.{long}
 use Rattle.postscript_layout_write.proofs.Covering.{filter-more, filter-skips}
 use Rattle.postscript_layout_write.proofs.features.chosen_features.Goals.{then-contains+in_ok-push, else-contains}
 use Rattle.postscript_layout_write.proofs.features.chosen_features.Goals as goal

@@ -1,4 +1,4 @@
-use Rattle.std.proofs.Common.{◌≡◌, ◌∙◌, ◌+◌, ◌*◌, ◌≤◌, ℕ, List, ap, subst, get_or, length, arith, rules}
+use Rattle.std.proofs.Common.{◌≡◌, ◌∙◌, ◌+◌, ◌*◌, ap, subst, get_or, length, arith, rules}
 use Rattle.postscript_layout.specs.Numbers.{long, word}
 use Rattle.postscript_layout_write.specs.Features.{KeepsFeature}
 use Rattle.postscript_layout_write.specs.Records.{Puts}

@@ -1,4 +1,4 @@
-use Rattle.std.proofs.Common.{◌≡◌, ◌∙◌, ◌+◌, ◌*◌, ◌≤◌, ◌<◌, ◌++◌, ◌∷◌, [], ℕ, List, ap, sym, subst, arith}
+use Rattle.std.proofs.Common.{◌≡◌, ◌∙◌, ◌+◌, ◌*◌, ◌<◌, ◌++◌, ◌∷◌, [], ℕ, List, ap, sym, subst, arith}
 use Rattle.std.specs.List.{All}
 use Rattle.postscript_layout.specs.Features.{indices_of}
 use Rattle.postscript_layout.specs.Numbers.{word, words}

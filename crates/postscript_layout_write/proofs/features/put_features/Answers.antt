@@ -1,4 +1,4 @@
-use Rattle.std.proofs.Common.{◌≡◌, ◌∙◌, ◌++◌, ◌∷◌, [], ℕ, List, length, ap}
+use Rattle.std.proofs.Common.{◌∷◌, [], length}
 use Rattle.postscript_layout.specs.Numbers.{word}
 use Rattle.postscript_layout_write.specs.Features.{KeepsFeatures}
 use Rattle.postscript_layout_write.specs.Records.{records_text}

@@ -1,4 +1,4 @@
-use Rattle.std.proofs.Common.{◌≡◌, ◌∙◌, ◌+◌, ◌*◌, ◌≤◌, ℕ, List, inl, inr, ap, sym, subst, length, arith, rules}
+use Rattle.std.proofs.Common.{◌≡◌, ◌+◌, ◌*◌, ℕ, List, inl, inr, sym, subst, length, arith, rules}
 use Rattle.postscript_layout.specs.Numbers.{long, word}
 use Rattle.postscript_layout_write.specs.Features.{KeepsLanguage}
 use Rattle.postscript_layout_write.specs.Records.{Puts, Stands}

@@ -1,4 +1,4 @@
-use Rattle.std.proofs.Common.{◌<◌, ◌∙◌, sym, arith}
+use Rattle.std.proofs.Common.{◌∙◌, sym, arith}
 use Rattle.postscript_layout_write.proofs.Renumbered.{number-small}
 use Rattle.postscript_layout_write.proofs.languages.new_required.Goals as goal
 

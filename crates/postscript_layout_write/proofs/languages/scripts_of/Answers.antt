@@ -1,4 +1,4 @@
-use Rattle.std.proofs.Common.{◌≡◌, ◌∙◌, ◌+◌, ◌*◌, ◌≤◌, ℕ, List, ap, subst, length, arith, rules}
+use Rattle.std.proofs.Common.{◌≡◌, ◌∙◌, ◌+◌, ◌*◌, ap, subst, length, arith, rules}
 use Rattle.postscript_layout.specs.Numbers.{long, word}
 use Rattle.postscript_layout_write.specs.Features.{KeepsScript}
 use Rattle.postscript_layout_write.specs.Records.{Puts}
