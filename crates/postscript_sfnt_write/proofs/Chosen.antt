@@ -9,7 +9,7 @@ use Rattle.postscript_sfnt.specs.declared.character_map.CharacterMap.{CharacterM
 use Rattle.postscript_sfnt.specs.declared.character_map.CharacterMap.TheVariants.{Segments, Groups, Trimmed}
 use Rattle.postscript_sfnt_write.specs.Grouping.{MappingsFit, AreBelow, GroupsFit, IsLarge, IsSmall, encoding_text, end, format12_text, groups, head4_text, large_text, rows_text, small_text}
 use Rattle.postscript_sfnt_write.specs.Headers.{HasHeader12, HasHeader4, HaveHeaders}
-use Rattle.postscript_sfnt_write.specs.Mappings.{AreTold, AreToldIn4, CharsRise, HasFormat4, IsGlyphIn, IsReadable, Tells, in_segments}
+use Rattle.postscript_sfnt_write.specs.Mappings.{AreTold, AreToldIn4, CharsRise, HasFormat4, HasOnlyFormat4, IsGlyphIn, IsReadable, Tells, in_segments}
 use Rattle.postscript_sfnt_write.specs.Numbers.{uint16, uint32}
 use Rattle.postscript_sfnt_write.specs.declared.mapping.Group.{Group}
 use Rattle.postscript_sfnt_write.specs.declared.mapping.Mapping.{Mapping}
@@ -328,6 +328,19 @@ four_headers {cmap = cmap} behind it head last (suc (suc (suc zero))) less =
     inr (subst (HasHeader12 cmap) (sym (placed 3 28 3 10 behind refl it.fourth)) last)
 four_headers {cmap = cmap} behind it head last (suc (suc (suc (suc i)))) less =
     let many = it.counted in absurd (omega (arith, less, many))
+
+two_of_format4 : {cmap : List ℕ} → Two cmap → number_at cmap 20 2 ≡ 4 → HasOnlyFormat4 cmap
+two_of_format4 {cmap = cmap} it is zero less = ap (λ k. number_at cmap k 2) (placed 0 4 0 3 20 refl it.first) ∙ is
+two_of_format4 {cmap = cmap} it is (suc zero) less = ap (λ k. number_at cmap k 2) (placed 1 12 3 1 20 refl it.second) ∙ is
+two_of_format4 {cmap = cmap} it is (suc (suc i)) less = let many = it.counted in absurd (omega (arith, less, many))
+
+-- a table of segments has only format 4
+pub small_only : (cmap : List ℕ) (gs : List Group) → length gs < 8002 → IsSmall cmap gs → HasOnlyFormat4 cmap
+small_only cmap gs few text =
+    let body = head4_text (length gs) text.selector ++ rows_text gs in
+    let s = whole cmap (small_text ++ body) text.text in
+    let head = headed4 20 text.selector gs few text.selected text.few_bits (stands_second small_text body 20 length-small s) in
+    two_of_format4 (two (stands_first small_text body s)) head.format
 
 pub small_answer : (cmap : List ℕ) (gs : List Group) (ms : List Mapping) → CharsRise ms → AreBelow ms → gs ≡ groups (ms ++ end ∷ []) →
     length gs < 8002 → MappingsFit (ms ++ end ∷ []) → IsSmall cmap gs → Answer cmap ms

@@ -1,5 +1,5 @@
 -- Headers of known subtables.
-use Rattle.std.proofs.Common.{◌≡◌, refl, ℕ, List, [], ◌∷◌, arith}
+use Rattle.std.proofs.Common.{refl, ℕ, List, [], ◌∷◌, arith}
 use Rattle.postscript_base.specs.Index.{number_at}
 use Rattle.postscript_sfnt_write.specs.Headers.{HasHeader4, HasHeader12}
 

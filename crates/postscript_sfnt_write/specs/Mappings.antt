@@ -70,6 +70,15 @@ abbrev pub AreToldIn4 : (cmap : List ℕ) → List Mapping → Type 0
 AreToldIn4 cmap mappings = (i : ℕ) (map : CharacterMap) → i < records_of cmap → number_at cmap (place_at cmap i) 2 ≡ 4 →
     IsMapAt cmap (place_at cmap i) map → Tells map mappings
 
+-- a subtable of format 4 has room for all mappings: the characters are below U+FFFF, and form at most 8,000 segments
+pub record FitFormat4 (mappings : List Mapping) : Type 0 where
+  pub below : (i : ℕ) (mapping : Mapping) → IsMapping mappings i mapping → mapping.char < 0xffff
+  pub few : segments mappings ≤ 8000
+
+-- each subtable has format 4
+abbrev pub HasOnlyFormat4 : (cmap : List ℕ) → Type 0
+HasOnlyFormat4 cmap = (i : ℕ) → i < records_of cmap → number_at cmap (place_at cmap i) 2 ≡ 4
+
 -- when each error is possible
 abbrev pub RefusesMap : Error → List Mapping → Type 0
 RefusesMap Memory mappings = Unit {0}

@@ -1,6 +1,6 @@
 //! Writes character maps (ISO/IEC 14496-22, 5.2.1).
-ghost use Rattle.std.specs.Prelude.{◌≡◌, ℕ, ◌+◌, ◌*◌, ◌^◌, ◌<◌, ◌≤◌, [], ◌∷◌, ◌++◌, List, length, IsTrue, ◌↔◌, OnOk, IfOk, IfErr};
-ghost use Rattle.postscript_sfnt_write.specs.Mappings.{AreTold, AreToldIn4, CharsRise, HasFormat4, IsReadable, RefusesMap, in_segments, low as the_low};
+ghost use Rattle.std.specs.Prelude.{◌≡◌, ℕ, ◌+◌, ◌*◌, ◌^◌, ◌<◌, ◌≤◌, [], ◌∷◌, ◌++◌, List, length, IsTrue, ◌↔◌, OnOk, IfOk, IfErr, IfNone, IfSome};
+ghost use Rattle.postscript_sfnt_write.specs.Mappings.{AreTold, AreToldIn4, CharsRise, FitFormat4, HasFormat4, HasOnlyFormat4, IsReadable, RefusesMap, in_segments, low as the_low};
 ghost use Rattle.postscript_sfnt_write.specs.Headers.{HaveHeaders, IsLogarithm};
 ghost use Rattle.postscript_sfnt_write.specs.Grouping.{MappingsFit, AreBelow, MappingFits, GroupFits, GroupsFit, IsLarge, IsSmall, encoding_text, end, format12_text, goes_on as the_goes_on, group_of as the_group_of, group_text, grouped, groups as the_groups, groups_text, head4_text, large_text, row_number, row_text, rows_text};
 ghost use Rattle.postscript_sfnt_write.specs.declared.mapping.Mapping.{Mapping};
@@ -347,7 +347,7 @@ fn large(alloc: Global, low: &[Group], all: &[Group]) -> std::result::Result<Vec
 /// Whether ascending characters are all below U+FFFF.
 fn are_below(mappings: &[Mapping]) -> bool
     requires { CharsRise mappings.now }
-    ensures { IsTrue result → AreBelow mappings.now }
+    ensures { IsTrue result ↔ AreBelow mappings.now }
 {
     mappings.is_empty() || mappings[mappings.len() - 1].char < 0xffff
 }
@@ -386,10 +386,32 @@ fn of_segments(
     ensures headers { IfOk result (λ cmap. HaveHeaders cmap.items) }
     ensures format4 { IfOk result (λ cmap. HasFormat4 cmap.items) }
     ensures told_in_4 { IfOk result (λ cmap. AreToldIn4 cmap.items (in_segments mappings.now)) }
+    ensures only { IfOk result (λ cmap. HasOnlyFormat4 cmap.items) }
     ensures size { IfOk result (λ cmap. length cmap.items ≤ 64076 + length mappings.now * 12) }
 {
     let table = small(alloc, segments)?;
     Ok(table)
+}
+
+/// The segments of characters, if a subtable of format 4 has room for them.
+fn fitting_segments(
+    alloc: Global,
+    mappings: &[Mapping],
+) -> std::result::Result<Option<Vec<Group>>, AllocError>
+    requires { CharsRise mappings.now }
+    ensures fit { IfOk result (λ found. IfSome found (λ segments. AreBelow mappings.now
+        × (segments.items ≡ the_groups (mappings.now ++ end ∷ [])) × (length segments.items < 8002)
+        × MappingsFit (mappings.now ++ end ∷ []))) }
+    ensures none { IfOk result (λ found. IfNone found (FitFormat4 mappings.now → ⊥)) }
+{
+    if !are_below(mappings) {
+        return Ok(None);
+    }
+    let segments = segments(alloc, mappings)?;
+    if segments.len() > SEGMENTS {
+        return Ok(None);
+    }
+    Ok(Some(segments))
 }
 
 /// Writes a `cmap` table of characters in strictly ascending order, each with its glyph. Glyph 0 means no glyph.
@@ -414,6 +436,8 @@ pub fn cmap(alloc: Global, mappings: &[Mapping]) -> Result<Vec<u8>>
     ensures format4 { IfOk result (λ cmap. HasFormat4 cmap.items) }
     // It maps exactly the characters below U+FFFF, or none if these form over 8,000 segments.
     ensures told_in_4 { IfOk result (λ cmap. AreToldIn4 cmap.items (in_segments mappings.now)) }
+    // If format 4 has room for all characters (`FitFormat4`), each subtable has this format.
+    ensures only { IfOk result (λ cmap. FitFormat4 mappings.now → HasOnlyFormat4 cmap.items) }
     // The table has at most 64,076 bytes, and 12 for each character.
     ensures size { IfOk result (λ cmap. length cmap.items ≤ 64076 + length mappings.now * 12) }
     // A success means that the characters are in strictly ascending order.
@@ -427,11 +451,8 @@ pub fn cmap(alloc: Global, mappings: &[Mapping]) -> Result<Vec<u8>>
     if mappings.len() > MOST {
         return Err(Error::TooLarge);
     }
-    if are_below(mappings) {
-        let segments = segments(alloc, mappings)?;
-        if segments.len() <= SEGMENTS {
-            return Ok(of_segments(alloc, segments.as_slice(), mappings)?);
-        }
+    match fitting_segments(alloc, mappings)? {
+        Some(segments) => Ok(of_segments(alloc, segments.as_slice(), mappings)?),
+        None => Ok(of_both(alloc, mappings)?),
     }
-    Ok(of_both(alloc, mappings)?)
 }

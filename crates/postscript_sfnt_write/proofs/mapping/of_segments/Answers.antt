@@ -1,4 +1,4 @@
-use Rattle.postscript_sfnt_write.proofs.Chosen.{Answer, small_answer}
+use Rattle.postscript_sfnt_write.proofs.Chosen.{Answer, small_answer, small_only}
 use Rattle.postscript_sfnt_write.proofs.mapping.of_segments.Goals as goal
 
 answer : (c : goal.In_ok-table) → Answer c.in_ok-table.table.items c.args.mappings.now
@@ -23,3 +23,6 @@ returns-clause-told_in_4 c = (answer c).told_in_4
 
 pub returns-clause-size : goal.returns-clause-size
 returns-clause-size c = (answer c).size
+
+pub returns-clause-only : goal.returns-clause-only
+returns-clause-only c = small_only c.in_ok-table.table.items c.args.segments.now c.requires.most c.in_ok-table.ensures
