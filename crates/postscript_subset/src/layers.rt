@@ -296,15 +296,7 @@ pub(crate) fn layers_of(
     ensures memory { IfErr result (λ e. e ≡ errors.File causes.Memory) }
 {
     let gdef = gdef_of(alloc, file, origins, limit)?;
-    let gsub = gsub_of(
-        alloc,
-        file,
-        features,
-        lookups,
-        origins,
-        gdef.outcome,
-        limit,
-    )?;
+    let gsub = gsub_of(alloc, file, features, lookups, origins, gdef.outcome, limit)?;
     let gpos = gpos_of(alloc, file, features, origins, gdef.outcome, limit)?;
     Ok(Layers { gdef, gsub, gpos })
 }
