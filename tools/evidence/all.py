@@ -61,6 +61,7 @@ SCRIPTS = [
     ("readings_fonts", "tools/speed/readings.py fonts CRATE fonts-ebgaramond fonts-freefont-otf", "postscript"),
     ("opening", "tools/speed/opening.py FONTS", "postscript_view"),
     ("pages", "tools/bindings/pages.py crates/psotf/out/psotf crates/psfont/out/psfont bindings/c/build", f"{C} psotf psfont {PAGES} bindings"),
+    ("doors", "/usr/bin/python3 tools/evidence/doors.py 20261130 4 FONTS --variable pango1.0-tests", f"{C} psotf bindings/rust bindings/python"),
     ("bindings", "tools/bindings/bindings.sh", f"{C} bindings"),
     ("aarch64", "make --no-print-directory -s -C bindings/c check-aarch64", C),
     ("threads", "make --no-print-directory -s -C bindings/c check-threads", C),

@@ -1,7 +1,8 @@
 //! Charsets and encodings, and the strings that they name.
 mod tables;
 
-use crate::checks::{Wanted, code_of, holds, holds_at, put, put_shown, read_given};
+use crate::checks::{Wanted, holds, holds_at, put, put_shown, read_given};
+use crate::common::code_of;
 use postscript::compact1::char_set::{CharSet0, CharSet1, CharSet2, Range1, Range2};
 use postscript::compact1::index::get_standard_string;
 use postscript::compact1::{CharSet, Encoding};

@@ -1,6 +1,7 @@
 //! How a test fails, and the bytes and texts that tests compare.
 ghost use Rattle.std.specs.Prelude.{IsTrue};
 
+use crate::common::decoded;
 use postscript::{Result, Tape, Value, Walue};
 use std::alloc::Global;
 use std::fmt::Display;
@@ -37,14 +38,6 @@ pub fn is_text<R: Abort>(rt: &R, found: &str, wanted: &str, place: &str) {
     }
 }
 
-/// The code of an error, 0 if there is none.
-pub fn code_of<T: Drop>(outcome: Result<T>) -> u8 {
-    match outcome {
-        Ok(_) => 0,
-        Err(e) => e.code(),
-    }
-}
-
 /// The value at the start of bytes.
 pub fn read<V: Value>(alloc: Global, bytes: &[u8]) -> Result<V> {
     Cursor::new(bytes).take(alloc)
@@ -67,13 +60,7 @@ pub fn put_shown<R: Abort, D: Display>(rt: &R, text: &mut String, word: &str, va
 
 /// The bytes that hex digits with spaces spell.
 pub fn bytes_of<R: Abort>(rt: &R, alloc: Global, digits: &str) -> Vec<u8> {
-    let mut plain = Vec::new(alloc);
-    for digit in digits.as_bytes() {
-        if *digit != b' ' {
-            plain.push(*digit).expect(rt, "memory");
-        }
-    }
-    hex::decode(alloc, plain.as_slice()).expect(rt, "hex digits")
+    decoded(alloc, digits).expect(rt, "hex digits")
 }
 
 /// Bytes with one of them changed.

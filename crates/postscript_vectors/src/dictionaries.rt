@@ -1,5 +1,6 @@
 //! Dictionaries: their operators, their operations, and the map that they make.
-use crate::checks::{Wanted, code_of, holds, holds_at, put_shown, read};
+use crate::checks::{Wanted, holds, holds_at, put_shown, read};
+use crate::common::code_of;
 use crate::errors::is_named;
 use crate::tapes::{Trouble, TroubledTape};
 use postscript::compact1::{Operand, Operands, Operation, Operations, Operator};

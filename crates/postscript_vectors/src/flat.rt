@@ -1,5 +1,6 @@
 //! Flattened code, and desubroutinized code (no calls).
-use crate::checks::{bytes_of, code_of, holds};
+use crate::checks::{bytes_of, holds};
+use crate::common::code_of;
 use crate::programs::{DOUBLING, routines_of, told};
 use postscript::Result;
 use postscript::type2::{Charstring, Program, Subroutines};

@@ -1,5 +1,6 @@
 //! Fonts, their summaries and their errors.
-use crate::checks::{bytes_of, changed, code_of, holds, holds_at, is_text, put, put_shown, read};
+use crate::checks::{bytes_of, changed, holds, holds_at, is_text, put, put_shown, read};
+use crate::common::{TWO_DICTIONARIES, code_of};
 use crate::tapes::{Trouble, TroubledTape};
 use postscript::compact1::{FontSet, Header};
 use postscript::{Result, Tape};
@@ -16,9 +17,6 @@ pub const OF_FONT: &str =
 /// The smallest font after three other bytes.
 const BEHIND: &str =
     "ffffff 01000401000101010241000101 0106a3118da912000000000001010102 0e8d130000";
-
-pub const TWO_DICTIONARIES: &str =
-    "010004010000 00020101060ba5118dab12a5118dab12 0000 0000 00010101020e8d130000";
 
 const OWN_CHAR_SET: &str = "010004010000 0001010108a111a90f8da712 0000 0000 00010101020e8d130000";
 

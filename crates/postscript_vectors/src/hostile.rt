@@ -1,5 +1,6 @@
 //! Hostile fonts and tapes.
-use crate::checks::{bytes_of, changed, code_of, holds, read};
+use crate::checks::{bytes_of, changed, holds, read};
+use crate::common::code_of;
 use crate::fonts::{FONT, OF_FONT, told, told_on};
 use crate::tapes::{Trouble, TroubledTape};
 use postscript::Tape;

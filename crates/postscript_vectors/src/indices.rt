@@ -1,5 +1,6 @@
 //! INDEX structures, and the results of parsing their items.
-use crate::checks::{Wanted, code_of, holds, holds_at, read, read_given};
+use crate::checks::{Wanted, holds, holds_at, read, read_given};
+use crate::common::code_of;
 use crate::tapes::{Trouble, TroubledTape};
 use postscript::compact1::index::{CharStrings, Dictionaries, Names, Strings, Subroutines};
 use postscript::compact1::{Index, Offset, Operations, Operator};

@@ -1,6 +1,7 @@
 //! Fonts that lack Private DICTs or local subroutines, by both readings.
 use crate::checks::{changed, holds_at, is_text, put_shown, read};
-use crate::fonts::{FONT, TWO_DICTIONARIES, is_told, told};
+use crate::common::TWO_DICTIONARIES;
+use crate::fonts::{FONT, is_told, told};
 use postscript::Result;
 use postscript::compact1::{FontSet, Operations, Operator};
 use std::alloc::Global;

@@ -1,22 +1,18 @@
-//! Tests of the library against outside vectors, and the tapes and charstrings that they read.
+//! Tests of the port against outside vectors, and the tapes and charstrings that they read. Tests of other crates use the
+//! modules `common` and `synthetic`, which are public.
 #![tactic(auto)]
 
-#[cfg(test)]
-mod accents;
 #[cfg(test)]
 mod char_sets;
 #[cfg(test)]
 mod checks;
+pub mod common;
 #[cfg(test)]
 mod decimals;
 #[cfg(test)]
 mod dictionaries;
 #[cfg(test)]
 mod errors;
-#[cfg(test)]
-mod examples;
-#[cfg(test)]
-mod files;
 #[cfg(test)]
 mod flat;
 #[cfg(test)]
@@ -28,11 +24,7 @@ mod in_place;
 #[cfg(test)]
 mod indices;
 #[cfg(test)]
-mod layout_files;
-#[cfg(test)]
 mod lenient;
-#[cfg(test)]
-mod outlines;
 #[cfg(test)]
 mod parts;
 #[cfg(test)]
@@ -42,21 +34,9 @@ mod programs;
 #[cfg(test)]
 mod readings;
 #[cfg(test)]
-mod recipes;
-#[cfg(test)]
 mod sessions;
-#[cfg(test)]
-mod sfnt;
-#[cfg(test)]
-mod sfnt_write;
-#[cfg(test)]
-mod shaping;
 #[cfg(test)]
 mod starts;
 pub mod synthetic;
 #[cfg(test)]
 mod tapes;
-#[cfg(test)]
-mod views;
-#[cfg(test)]
-mod writing;

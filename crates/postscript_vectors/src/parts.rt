@@ -1,5 +1,6 @@
 //! The smallest parts of a font.
-use crate::checks::{Wanted, code_of, holds, holds_at, read};
+use crate::checks::{Wanted, holds, holds_at, read};
+use crate::common::code_of;
 use postscript::Tape;
 use postscript::compact1::{Header, Offset};
 use std::alloc::Global;

@@ -6,7 +6,8 @@ mod paths;
 mod steps;
 mod storage;
 
-use crate::checks::{Wanted, bytes_of, code_of, holds, holds_at, is_text, put, put_shown};
+use crate::checks::{Wanted, bytes_of, holds, holds_at, is_text, put, put_shown};
+use crate::common::code_of;
 use crate::synthetic::charstring;
 use calls::{GLOBAL_CALLS, LONG_LISTS};
 use codes::{LENGTHS, NUMBERS, OPERANDS, OPERATORS};

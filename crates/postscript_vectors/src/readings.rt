@@ -1,5 +1,6 @@
 //! Reading from tapes of every kind.
-use crate::checks::{Wanted, code_of, holds, holds_at, read_given};
+use crate::checks::{Wanted, holds, holds_at, read_given};
+use crate::common::code_of;
 use crate::tapes::{Trouble, TroubledTape};
 use postscript::compact1::char_set::Range1;
 use postscript::tape::{Opaque, ReadSeek, bytes_at, fixed, read_chain, read_many};

@@ -1,6 +1,7 @@
 //! Sessions with faults and with waits. The stored run of `psfont`, its files `stdin` and `stdout`, shows the replies
 //! to lines.
-use crate::checks::{code_of, holds_at};
+use crate::checks::holds_at;
+use crate::common::code_of;
 use psfont_session::{session, session_within};
 use std::alloc::Global;
 use std::cell::Cell;

@@ -1,6 +1,5 @@
 //! Each example once.
-use crate::checks::holds;
-use crate::programs::routines_of;
+use crate::checks::{bytes_of, holds};
 use postscript::compact1::{FontSet, Operations, Operator as Key};
 use postscript::type2::{Operand, Operator, Program};
 use postscript::{Error, Value};
@@ -110,7 +109,8 @@ fn a_glyph(rt: HostRuntime) {
     let refused = glyph(alloc, &CODE, &[], &[]);
     let is_so = matches!(refused, Err(Error::MissingSubroutine));
     holds(&rt, is_so, "no subroutine");
-    let local = routines_of(&rt, alloc, LINE);
+    let line = bytes_of(&rt, alloc, LINE);
+    let local = Vec::from_array(alloc, [line]).expect(&rt, "memory");
     holds(&rt, draws_it(&rt, alloc, &CODE, &local), "the glyph");
     holds(&rt, is_counted(&rt, alloc, &local), "its operands");
     holds(&rt, is_passed(alloc, &local), "its first operation");

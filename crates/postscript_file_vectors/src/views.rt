@@ -1,9 +1,9 @@
 //! Fonts in place: a CID-keyed one, one with its own encoding, and fonts in which only a part is bad.
 pub mod rows;
 
-use crate::checks::{bytes_of, changed, code_of, holds, holds_at, is_text, put_shown};
-use crate::fonts::TWO_DICTIONARIES;
+use crate::checks::{bytes_of, changed, holds, holds_at, is_text, put_shown};
 use postscript::compact1::FontSet;
+use postscript_vectors::common::{TWO_DICTIONARIES, code_of};
 use postscript_view::{Advance, AdvanceWithin, FdSelect, FontView};
 use rows::{
     BROKEN, CID, CIDS_OF_LETTERS, CODES, FALLING, FITTING, GLYPHS, LASTS, MATRICES, PLAIN, RANGE,

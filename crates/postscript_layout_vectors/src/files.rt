@@ -1,6 +1,6 @@
 //! Whole files written with layout tables.
 use crate::checks::{bytes_of, holds_at};
-use crate::files::{choice, tables_of};
+use postscript_file_vectors::small_file::{CFF, choice, tables_of};
 use postscript_files::Face;
 use postscript_layout::closure;
 use postscript_sfnt_write::{Table, file_of};
@@ -9,8 +9,6 @@ use std::alloc::Global;
 use std::process::Abort;
 
 /// Tags, as numbers of four bytes.
-const CFF: u32 = 0x43464620;
-
 const GPOS: u32 = 0x47504f53;
 
 const GSUB: u32 = 0x47535542;
@@ -43,7 +41,7 @@ fn put<'t, R: Abort>(rt: &R, tables: &mut Vec<Table<'t>>, tag: u32, bytes: &'t [
 
 /// A file of the glyphs `.notdef`, A, grave and Agrave, with a `GSUB` and a `GPOS` table.
 fn file<R: Abort>(rt: &R, alloc: Global) -> Vec<u8> {
-    let given = tables_of(rt, alloc, 0, "");
+    let given = tables_of(alloc, 0, "").expect(rt, "tables");
     let (gpos, gsub) = (bytes_of(rt, alloc, PAIRS), bytes_of(rt, alloc, RULES));
     let mut tables = Vec::new(alloc);
     for table in &given {

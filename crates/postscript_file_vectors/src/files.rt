@@ -1,77 +1,16 @@
 //! Whole files written: desubroutinized, and with only some characters.
 use crate::checks::{bytes_of, holds, holds_at, is_text};
-use crate::writing::ACCENTED;
+use crate::small_file::{CFF, CHARS, CMAP, HHEA, MAXP, METRICS, NAME, choice, tables_of};
 use postscript_files::{Choice, Face, Given, flat_file, subset_file};
 use postscript_sfnt::{FontFile, glyphs};
-use postscript_sfnt_write::{Mapping, Table, cmap, file_of};
+use postscript_sfnt_write::{Table, file_of};
 use postscript_view::FontView;
 use std::alloc::Global;
 use std::process::Abort;
 
-/// Tags, as numbers of four bytes.
-const CFF: u32 = 0x43464620;
-
-const CMAP: u32 = 0x636d6170;
-
-const HHEA: u32 = 0x68686561;
-
-const HMTX: u32 = 0x686d7478;
-
-const MAXP: u32 = 0x6d617870;
-
-const NAME: u32 = 0x6e616d65;
-
-/// A, grave and Agrave.
-const CHARS: [(u32, u16); 3] = [(0x41, 1), (0x60, 2), (0xc0, 3)];
-
-/// The advances 500, 600, 300 and 610, and the bearings 0, 10, -20 and 30.
-const METRICS: &str = "01f40000 0258000a 012cffec 0262001e";
-
-/// Tables in the order of their tags, after `CFF ` and `cmap`. `hhea` and `maxp` end with the number of glyphs.
-const TABLES: [(u32, &str); 4] = [
-    (
-        HHEA,
-        "00010000 0000000000000000 0000000000000000 0000000000000000 000000000000 0004",
-    ),
-    (HMTX, METRICS),
-    (MAXP, "00005000 0004"),
-    (NAME, "0a0b0c0d0e"),
-];
-
-/// The tables of a font of four glyphs. The table with the tag `changed` has other bytes.
-pub fn tables_of<R: Abort>(rt: &R, alloc: Global, changed: u32, digits: &str) -> Vec<Given> {
-    let mut pairs = Vec::new(alloc);
-    for (char, glyph) in CHARS {
-        pairs.push(Mapping { char, glyph }).expect(rt, "memory");
-    }
-    let mut map = cmap(alloc, pairs.as_slice()).expect(rt, "a map");
-    if changed == CMAP {
-        map = bytes_of(rt, alloc, digits);
-    }
-    let mut tables = Vec::new(alloc);
-    let font = bytes_of(rt, alloc, ACCENTED);
-    tables
-        .push(Given {
-            tag: CFF,
-            bytes: font,
-        })
-        .expect(rt, "memory");
-    tables
-        .push(Given {
-            tag: CMAP,
-            bytes: map,
-        })
-        .expect(rt, "memory");
-    for (tag, text) in TABLES {
-        let bytes = bytes_of(rt, alloc, if tag == changed { digits } else { text });
-        tables.push(Given { tag, bytes }).expect(rt, "memory");
-    }
-    tables
-}
-
 /// A file of the font, without the table of a tag.
 fn file<R: Abort>(rt: &R, alloc: Global, changed: u32, digits: &str, without: u32) -> Vec<u8> {
-    let given = tables_of(rt, alloc, changed, digits);
+    let given = tables_of(alloc, changed, digits).expect(rt, "tables");
     let mut tables = Vec::new(alloc);
     for table in &given {
         if table.tag != without {
@@ -84,19 +23,6 @@ fn file<R: Abort>(rt: &R, alloc: Global, changed: u32, digits: &str, without: u3
         }
     }
     file_of(alloc, tables.as_slice()).expect(rt, "a file")
-}
-
-/// The choice of characters, with copies of tables.
-pub fn choice<'t>(chars: &'t [u32], retain_gids: bool, copied: &'t [u32]) -> Choice<'t> {
-    Choice {
-        chars,
-        glyphs: &[],
-        unmapped: &[],
-        lenient: false,
-        retain_gids,
-        copied,
-        given: &[],
-    }
 }
 
 /// Characters, whether glyphs keep their numbers, and of the new file: the glyphs of A, grave and Agrave, the `hmtx`

@@ -1,5 +1,6 @@
 //! Fonts written: of all glyphs, and of some.
 use crate::checks::{bytes_of, holds, holds_at, is_text};
+use crate::small_file::ACCENTED;
 use crate::views::rows::{CID, PLAIN, SELECTIONS};
 use crate::views::{codes_of, joined, told};
 use postscript::compact1::FontSet;
@@ -185,11 +186,6 @@ fn an_index_written(rt: HostRuntime) {
     let wanted = bytes_of(&rt, alloc, "0003 01 01030304 0a0b0c");
     holds(&rt, written == wanted, "an INDEX");
 }
-
-/// A font of `.notdef`, A, grave, and a `seac` glyph of both: `3 4 65 193 endchar`.
-pub const ACCENTED: &str = "010004040001020001000246000102000100181d0000002e0f1d00000035 \
-    111d000000021d000000591200000000000022007c00ab00040200010002000a00120018 \
-    0e959515bd06bd070e9f9f15c706c7070e8e8fccf7550e9214";
 
 /// A glyph of a font has an outline of `segments` segments.
 fn draws<R: Abort>(rt: &R, alloc: Global, bytes: &[u8], glyph: usize, segments: usize) {
