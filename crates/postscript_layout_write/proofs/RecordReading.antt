@@ -3,10 +3,11 @@ use Rattle.std.proofs.Common.{◌≡◌, refl, sym, ap, subst, ◌∙◌, inl, i
 use Rattle.std.proofs.lemmas.List.{get_or_append_left}
 use Rattle.postscript_layout.specs.Numbers.{long, word}
 use Rattle.postscript_layout_write.specs.Holds.{Holds}
-use Rattle.postscript_layout_write.specs.Records.{AreRecords, HasRecord, Puts, Stands}
+use Rattle.postscript_layout_write.specs.Records.{AddsRecord, AreRecords, HasRecord, Puts, Stands}
+use Rattle.postscript_layout_write.specs.Sets.{Places}
 use Rattle.postscript_layout_write.specs.Text.{array_text, uint16}
 use Rattle.postscript_layout_write.proofs.Firsts.{nat_cases}
-use Rattle.postscript_layout_write.proofs.Holding.{holds-array, holds-first, holds-second, length-array}
+use Rattle.postscript_layout_write.proofs.Holding.{holds-array, holds-first, holds-in, holds-second, length-array}
 use Rattle.postscript_layout_write.proofs.Longs.{holds-long, holds-two}
 use Rattle.postscript_layout_write.proofs.Rows.{append-at}
 
@@ -38,35 +39,46 @@ pub records-none : (tag : ℕ → ℕ) (Is : ℕ → List ℕ → ℕ → Type 0
 records-none tag Is base bytes = record { many = refl; each = λ j less. absurd (omega (arith, less)) }
 
 -- the numbers of a record
-abbrev pub record_of : (tag offset : ℕ) → List ℕ
+abbrev record_of : (tag offset : ℕ) → List ℕ
 record_of tag offset = tag / 65536 ∷ tag % 65536 ∷ offset ∷ []
 
-pub records-more : (tag : ℕ → ℕ) (Is : ℕ → List ℕ → ℕ → Type 0) (base n : ℕ) (numbers bytes newnumbers newbytes : List ℕ) (value offset : ℕ) →
-    AreRecords tag Is base n numbers bytes → value ≡ tag n → value < 4294967296 → offset ≡ base + length bytes → offset < 65536 →
-    newnumbers ≡ numbers ++ record_of value offset → Puts (Is n) bytes newbytes → AreRecords tag Is base (n + 1) newnumbers newbytes
-records-more tag Is base n numbers bytes newnumbers newbytes value offset are same low place small is puts =
-    subst (λ (xs : List ℕ). AreRecords tag Is base (n + 1) xs newbytes) (sym is) (record {
-      many = (let many = are.many in omega (arith, many, length-append numbers (record_of value offset)));
+-- a table that was written is placed
+stands-placed : (Is : List ℕ → ℕ → Type 0) (text old new : List ℕ) (place : ℕ) → Stands Is text 0 → Places text old new place → Stands Is new place
+stands-placed Is text old new place s p = record {
+  within = λ t at h. subst (Is t) (omega arith) (s.within t (at + place) (holds-in h p.there));
+}
+
+pub records-more : (tag : ℕ → ℕ) (Is : ℕ → List ℕ → ℕ → Type 0) (base n : ℕ) (numbers bytes newnumbers newbytes : List ℕ) (value from : ℕ) (text written before : List ℕ) →
+    AreRecords tag Is base n numbers bytes → value ≡ tag n → value < 4294967296 → from ≡ base → text ≡ written → before ≡ [] → Puts (Is n) before written →
+    AddsRecord value from text numbers bytes newnumbers newbytes → AreRecords tag Is base (n + 1) newnumbers newbytes
+records-more tag Is base n numbers bytes newnumbers newbytes value from text written before are same low start copy none puts adds =
+    subst (λ (xs : List ℕ). AreRecords tag Is base (n + 1) xs newbytes) (sym adds.record_is) (record {
+      many = (let many = are.many in omega (arith, many, length-append numbers (record_of value (from + adds.place))));
       each = λ j less. elim (nat_cases j n) [
-        | inl early ↦ subst (λ (xs : List ℕ). HasRecord (tag j) (Is j) base j (numbers ++ record_of value offset) xs) (sym puts.bytes)
-            (record-on (tag j) (Is j) base j numbers bytes (record_of value offset) puts.more (let many = are.many in omega (arith, many, early)) (are.each j early))
+        | inl early ↦ subst (λ (xs : List ℕ). HasRecord (tag j) (Is j) base j (numbers ++ record_of value (from + adds.place)) xs) (sym adds.placed.bytes)
+            (record-on (tag j) (Is j) base j numbers bytes (record_of value (from + adds.place)) adds.placed.more
+            (let many = are.many in omega (arith, many, early)) (are.each j early))
         | inr late ↦ (let last : n ≡ j = omega (arith, less, late) in
-            subst (λ k. HasRecord (tag k) (Is k) base k (numbers ++ record_of value offset) newbytes) last here)
+            subst (λ k. HasRecord (tag k) (Is k) base k (numbers ++ record_of value (from + adds.place)) newbytes) last here)
       ];
     })
   where
-    at : (k x : ℕ) → get_or (record_of value offset) k 0 ≡ x → get_or (numbers ++ record_of value offset) (n * 3 + k) 0 ≡ x
-    at k x e = append-at numbers (record_of value offset) 0 (n * 3) k are.many ∙ e
+    at : (k x : ℕ) → get_or (record_of value (from + adds.place)) k 0 ≡ x → get_or (numbers ++ record_of value (from + adds.place)) (n * 3 + k) 0 ≡ x
+    at k x e = append-at numbers (record_of value (from + adds.place)) 0 (n * 3) k are.many ∙ e
 
-    here : HasRecord (tag n) (Is n) base n (numbers ++ record_of value offset) newbytes
+    table : Stands (Is n) text 0
+    table = subst (λ (xs : List ℕ). Stands (Is n) xs 0) (sym copy) (subst (Stands (Is n) written) (ap length none) puts.stands)
+
+    here : HasRecord (tag n) (Is n) base n (numbers ++ record_of value (from + adds.place)) newbytes
     here = record {
       tag_small = subst (λ w. w < 4294967296) same low;
-      high = ap (λ i. get_or (numbers ++ record_of value offset) i 0) {x = n * 3} {y = n * 3 + 0} (omega arith) ∙ at 0 (tag n / 65536) (ap (λ w. w / 65536) same);
+      high = ap (λ i. get_or (numbers ++ record_of value (from + adds.place)) i 0) {x = n * 3} {y = n * 3 + 0} (omega arith)
+          ∙ at 0 (tag n / 65536) (ap (λ w. w / 65536) same);
       low = at 1 (tag n % 65536) (ap (λ w. w % 65536) same);
-      place = length bytes;
-      offset = at 2 (base + length bytes) place;
-      small = subst (λ w. w < 65536) place small;
-      stands = puts.stands;
+      place = adds.place;
+      offset = at 2 (base + adds.place) (ap (λ w. w + adds.place) start);
+      small = subst (λ w. w + adds.place < 65536) start adds.small;
+      stands = stands-placed (Is n) text bytes newbytes adds.place table adds.placed;
     }
 
 -- records behind the first numbers of a list

@@ -3,6 +3,7 @@ use Rattle.std.specs.Prelude.{◌≡◌, ◌⊎◌, ℕ, ◌+◌, ◌*◌, ◌/�
 use Rattle.postscript_layout.specs.Numbers.{word}
 use Rattle.postscript_layout_write.specs.Features.{KeepsLanguage}
 use Rattle.postscript_layout_write.specs.Holds.{Holds}
+use Rattle.postscript_layout_write.specs.Sets.{Places}
 use Rattle.postscript_layout_write.specs.Text.{array_text}
 
 -- a table with a property is at a place of the bytes, wherever the bytes are
@@ -29,6 +30,13 @@ pub record HasRecord (tag : ℕ) (Is : List ℕ → ℕ → Type 0) (base j : �
 pub record AreRecords (tag : ℕ → ℕ) (Is : ℕ → List ℕ → ℕ → Type 0) (base count : ℕ) (numbers bytes : List ℕ) : Type 0 where
   pub many : length numbers ≡ count * 3
   pub each : (j : ℕ) → j < count → HasRecord (tag j) (Is j) base j numbers bytes
+
+-- a record with a tag and a table is added
+pub record AddsRecord (tag base : ℕ) (table numbers bytes newnumbers newbytes : List ℕ) : Type 0 where
+  pub place : ℕ
+  pub record_is : newnumbers ≡ numbers ++ (tag / 65536 ∷ tag % 65536 ∷ (base + place) ∷ [])
+  pub small : base + place < 65536
+  pub placed : Places table bytes newbytes place
 
 -- a list: its first numbers, its records, and the tables
 unfoldable pub records_text : (head numbers bytes : List ℕ) → List ℕ

@@ -11,7 +11,7 @@ use crate::error::{Error, Result};
 use crate::languages::put_scripts;
 use crate::limit::{pay, pay_all};
 use crate::numbers::{long, word};
-use crate::records::{Records, push_record, put_records};
+use crate::records::{Records, put_records};
 use crate::renumbering::new_numbers;
 use crate::rules::read_glyphs;
 use crate::script_lists::{named, parameters_size};
@@ -113,26 +113,23 @@ fn put_feature(
 /// Collects kept features.
 fn features_of(alloc: Global, table: &[u8], kept: &[u16], limit: &mut u64) -> Result<Records>
     requires few { length kept.now < 65536 }
-    ensures records { IfOk result (λ records. AreRecords (λ j. the_long table.now (the_word table.now 6 + 2 + slice_index kept.now j * 6)) (λ j. KeepsFeature table.now (the_long table.now (the_word table.now 6 + 2 + slice_index kept.now j * 6)) (the_named table.now (the_word table.now 6) (the_word table.now 6 + 2) (slice_index kept.now j))) (2 + length kept.now * 6) (length kept.now) records.numbers.items records.bytes.items) }
+    ensures records { IfOk result (λ records. AreRecords (λ j. the_long table.now (the_word table.now 6 + 2 + slice_index kept.now j * 6)) (λ j. KeepsFeature table.now (the_long table.now (the_word table.now 6 + 2 + slice_index kept.now j * 6)) (the_named table.now (the_word table.now 6) (the_word table.now 6 + 2) (slice_index kept.now j))) (2 + length kept.now * 6) (length kept.now) records.numbers.items records.tables.bytes.items) }
     ensures spends { limit.new ≤ limit.old }
     ensures why { IfErr result (λ e. Fails limit.new e) }
 {
     let list = word(table, 6);
     let count = kept.len();
-    let mut records = Vec::new(alloc);
-    let mut bytes = Vec::new(alloc);
+    let mut records = Records::new(alloc, &[])?;
     for j in 0..count {
         pay(limit)?;
         let i = kept[j] as usize;
         let tag = long(table, list + 2 + i * 6);
-        push_record(&mut records, tag, 2 + count * 6, bytes.len())?;
         let feature = named(table, list, list + 2, i);
-        put_feature(alloc, &mut bytes, table, tag, feature, limit)?;
+        let mut text = Vec::new(alloc);
+        put_feature(alloc, &mut text, table, tag, feature, limit)?;
+        records.add(tag, 2 + count * 6, &text)?;
     }
-    Ok(Records {
-        numbers: records,
-        bytes,
-    })
+    Ok(records)
 }
 
 /// Appends a feature list with the kept features.
@@ -196,9 +193,10 @@ fn joined(alloc: Global, scripts: &[u8], features: &[u8], table: &[u8]) -> Resul
 /// script list or feature list after the lookup list is kept there, unused; tables of this crate have none there. Feature
 /// variations are dropped.
 ///
-/// A table that several records share is written for each of them. One unit of the limit is paid for each tag, and one
-/// more, for each feature of the old table. One is paid for each script and each language system, and for each feature
-/// index there. One is paid for each kept feature, each of its lookup indices, and each byte of its parameters.
+/// Equal tables of scripts, language systems and features share their bytes, if at most 63 others are between them. For
+/// each feature of the old table, one unit of the limit is paid, and one more for each tag. One is paid for each script,
+/// each language system, and each of its feature indices. One is paid for each kept feature, each of its lookup indices,
+/// and each byte of its parameters.
 ///
 /// # Errors
 ///

@@ -11,7 +11,7 @@ ghost use Rattle.postscript_layout_write.specs.declared.error.Error.TheVariants 
 use crate::error::{Error, Result};
 use crate::limit::pay;
 use crate::numbers::{long, word};
-use crate::records::{Records, push_record, put_records};
+use crate::records::{Records, put_records};
 use crate::script_lists::named;
 use crate::subtables::put_glyphs;
 use std::alloc::Global;
@@ -121,26 +121,24 @@ fn languages_of(
     requires near { script < 2 ^ 29 }
     requires few { length kept.now < 65536 }
     requires exact { AreNumbers kept.now numbers.now }
-    ensures default { IfOk result (λ records. (the_word table.now script ≡ 0) ⊎ Stands (KeepsLanguage kept.now table.now (script + the_word table.now script)) records.bytes.items 0) }
-    ensures records { IfOk result (λ records. AreRecords (λ j. the_long table.now (script + 4 + j * 6)) (λ j. KeepsLanguage kept.now table.now (the_named table.now script (script + 4) j)) (4 + the_word table.now (script + 2) * 6) (the_word table.now (script + 2)) records.numbers.items records.bytes.items) }
+    ensures default { IfOk result (λ records. (the_word table.now script ≡ 0) ⊎ Stands (KeepsLanguage kept.now table.now (script + the_word table.now script)) records.tables.bytes.items 0) }
+    ensures records { IfOk result (λ records. AreRecords (λ j. the_long table.now (script + 4 + j * 6)) (λ j. KeepsLanguage kept.now table.now (the_named table.now script (script + 4) j)) (4 + the_word table.now (script + 2) * 6) (the_word table.now (script + 2)) records.numbers.items records.tables.bytes.items) }
     ensures spends { limit.new ≤ limit.old }
     ensures why { IfErr result (λ e. Fails limit.new e) }
 {
     let count = word(table, script + 2);
-    let mut records = Vec::new(alloc);
-    let mut bytes = Vec::new(alloc);
-    put_default(alloc, &mut bytes, table, script, kept, numbers, limit)?;
+    let mut default = Vec::new(alloc);
+    put_default(alloc, &mut default, table, script, kept, numbers, limit)?;
+    let mut records = Records::new(alloc, &default)?;
     for j in 0..count {
         pay(limit)?;
         let tag = long(table, script + 4 + j * 6);
-        push_record(&mut records, tag, 4 + count * 6, bytes.len())?;
         let language = named(table, script, script + 4, j);
-        put_language(alloc, &mut bytes, table, language, kept, numbers, limit)?;
+        let mut text = Vec::new(alloc);
+        put_language(alloc, &mut text, table, language, kept, numbers, limit)?;
+        records.add(tag, 4 + count * 6, &text)?;
     }
-    Ok(Records {
-        numbers: records,
-        bytes,
-    })
+    Ok(records)
 }
 
 /// Appends a script.
@@ -184,25 +182,22 @@ fn scripts_of(
 ) -> Result<Records>
     requires few { length kept.now < 65536 }
     requires exact { AreNumbers kept.now numbers.now }
-    ensures records { IfOk result (λ records. AreRecords (λ i. the_long table.now (the_word table.now 4 + 2 + i * 6)) (λ i. KeepsScript kept.now table.now (the_named table.now (the_word table.now 4) (the_word table.now 4 + 2) i)) (2 + the_word table.now (the_word table.now 4) * 6) (the_word table.now (the_word table.now 4)) records.numbers.items records.bytes.items) }
+    ensures records { IfOk result (λ records. AreRecords (λ i. the_long table.now (the_word table.now 4 + 2 + i * 6)) (λ i. KeepsScript kept.now table.now (the_named table.now (the_word table.now 4) (the_word table.now 4 + 2) i)) (2 + the_word table.now (the_word table.now 4) * 6) (the_word table.now (the_word table.now 4)) records.numbers.items records.tables.bytes.items) }
     ensures spends { limit.new ≤ limit.old }
     ensures why { IfErr result (λ e. Fails limit.new e) }
 {
     let list = word(table, 4);
     let count = word(table, list);
-    let mut records = Vec::new(alloc);
-    let mut bytes = Vec::new(alloc);
+    let mut records = Records::new(alloc, &[])?;
     for i in 0..count {
         pay(limit)?;
         let tag = long(table, list + 2 + i * 6);
-        push_record(&mut records, tag, 2 + count * 6, bytes.len())?;
         let script = named(table, list, list + 2, i);
-        put_script(alloc, &mut bytes, table, script, kept, numbers, limit)?;
+        let mut text = Vec::new(alloc);
+        put_script(alloc, &mut text, table, script, kept, numbers, limit)?;
+        records.add(tag, 2 + count * 6, &text)?;
     }
-    Ok(Records {
-        numbers: records,
-        bytes,
-    })
+    Ok(records)
 }
 
 /// Appends the script list.

@@ -12,5 +12,5 @@ returns-clause-done c =
     let kept = c.args.kept.now in
     let records = c.in_ok-records.records in
     puts-text (KeepsFeatures kept table (word table 6)) c.args.out.now.items c.put_records.new.out.items
-    (records_text (length kept ∷ []) records.numbers.items records.bytes.items) c.in_ok-put_records.ensures
-    (features-read kept table (word table 6) records.numbers.items records.bytes.items c.requires.few c.in_ok-records.ensures.records)
+    (records_text (length kept ∷ []) records.numbers.items records.tables.bytes.items) c.in_ok-put_records.ensures
+    (features-read kept table (word table 6) records.numbers.items records.tables.bytes.items c.requires.few c.in_ok-records.ensures.records)

@@ -22,7 +22,7 @@ returns-clause-done c =
           (is_some (λ none. w.if-word-eq0.false (c.word.ensures.exact ∙ none)))
     ] in
     puts-text (KeepsScript kept table script) c.args.out.now.items c.put_records.new.out.items
-    (records_text (default ∷ word table (script + 2) ∷ []) records.numbers.items records.bytes.items)
-    (c.in_ok-put_records.ensures ∙ ap (λ n. c.args.out.now.items ++ records_text (default ∷ n ∷ []) records.numbers.items records.bytes.items) count)
-    (script-read kept table script default records.numbers.items records.bytes.items is (omega (arith, count)) c.in_ok-records.ensures.default
+    (records_text (default ∷ word table (script + 2) ∷ []) records.numbers.items records.tables.bytes.items)
+    (c.in_ok-put_records.ensures ∙ ap (λ n. c.args.out.now.items ++ records_text (default ∷ n ∷ []) records.numbers.items records.tables.bytes.items) count)
+    (script-read kept table script default records.numbers.items records.tables.bytes.items is (omega (arith, count)) c.in_ok-records.ensures.default
     c.in_ok-records.ensures.records)

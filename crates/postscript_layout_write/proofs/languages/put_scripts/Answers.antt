@@ -14,6 +14,6 @@ returns-clause-done c =
     let records = c.in_ok-records.records in
     let count : c.word-count.result ≡ word table list = c.word-count.ensures.exact ∙ ap (word table) c.word.ensures.exact in
     puts-text (KeepsScripts kept table list) c.args.out.now.items c.put_records.new.out.items
-    (records_text (word table list ∷ []) records.numbers.items records.bytes.items)
-    (c.in_ok-put_records.ensures ∙ ap (λ n. c.args.out.now.items ++ records_text (n ∷ []) records.numbers.items records.bytes.items) count)
-    (scripts-read kept table list records.numbers.items records.bytes.items (subst (λ n. n < 65536) count c.word-count.ensures.small) c.in_ok-records.ensures.records)
+    (records_text (word table list ∷ []) records.numbers.items records.tables.bytes.items)
+    (c.in_ok-put_records.ensures ∙ ap (λ n. c.args.out.now.items ++ records_text (n ∷ []) records.numbers.items records.tables.bytes.items) count)
+    (scripts-read kept table list records.numbers.items records.tables.bytes.items (subst (λ n. n < 65536) count c.word-count.ensures.small) c.in_ok-records.ensures.records)
