@@ -8,6 +8,7 @@ use Rattle.postscript_view.specs.declared.char_set.CharSetView.{CharSetView}
 use Rattle.postscript_write.specs.Glyphs.{AreGlyphs, IsGlyph, Sources}
 use Rattle.postscript_write.specs.Identified.{AreIdentified, AreRenewed, AreSourcesFor, Identifiers, IsNamedSource}
 use Rattle.postscript_write.specs.Numbered.{AreFew}
+use Rattle.postscript_write.specs.RefusedGlyphs.{IsNamed}
 use Rattle.postscript_write.proofs.Agree.{one_more}
 
 -- each so far is named so, in two bytes
@@ -33,6 +34,15 @@ one_more_told set sources identifiers more identifier i past less renewed many i
     subst (λ n. AreTold set sources more n) end
     (one_more 0 (λ k x. IsNamedSource set (get_or sources (k + 1) None) x × (x < 65536)) identifiers more identifier (i - 1) many is
     (own, low) told)
+
+-- the glyphs so far are named
+pub named_before : (set : CharSetView) (sources : Sources) (identifiers : List ℕ) (i : ℕ) → AreTold set sources identifiers (i - 1) →
+    (k : ℕ) → 0 < k → k < i → IsNamed set (get_or sources k None)
+named_before set sources identifiers i told k some less =
+    let at : k - 1 + 1 ≡ k = omega (arith, some) in
+    let one : IsNamedSource set (get_or sources k None) (get_or identifiers (k - 1) 0) = subst
+    (λ n. IsNamedSource set (get_or sources n None) (get_or identifiers (k - 1) 0)) at (told (k - 1) (omega (arith, some, less))).0 in
+    (one.0, get_or identifiers (k - 1) 0, one.1, one.2)
 
 pub identified : (set : CharSetView) (bytes : List ℕ) (map : Dictionary) (glyphs : ℕ) (sources : Sources) (identifiers : List ℕ) (i : ℕ) →
     IsCharSetOf set bytes map glyphs → AreRenewed sources → AreGlyphs sources glyphs → length sources ≤ i → i ≤ length sources → 1 ≤ i →

@@ -21,7 +21,7 @@ use Rattle.postscript_write.specs.Fonts.{IsMade}
 use Rattle.postscript_write.specs.Glyphs.{AreCodesOf, AreNumbersOf, ShowsPart, ShowsPartFor, IsCodeFor, Sources, run_in}
 use Rattle.postscript_write.specs.Parts.{SameParts}
 use Rattle.postscript_write.specs.Refusals.{NeedsNoName, FontRefusedBy, IsRefusedBy}
-use Rattle.postscript_write.specs.RefusedGlyphs.{IsFaultless}
+use Rattle.postscript_write.specs.RefusedGlyphs.{IsFaultless, IsNamed}
 use Rattle.postscript_write.specs.Sizes.{IsLarge}
 use Rattle.postscript_write.specs.Steps.{IsNotNumbered, IsNotOpened, RefusedBy, RefusedFor}
 use Rattle.postscript_write.specs.declared.error.Error.{Error}
@@ -80,12 +80,14 @@ refused_by font sources numbers flats i TooLarge less h before = absurd h
 
 -- a glyph without a part
 pub partless : (font : FontView) (sources : Sources) (i : ℕ) (e : Error) → i < length sources →
+    ((k : ℕ) → k < i → (number : ℕ) × ShowsPartFor font.bytes.now (view_shown font) (slice_index_or sources k None) number) →
     ((glyph : ℕ) × (slice_index_or sources i None ≡ Some glyph) × (e ≡ MissingPart glyph) × ((part : ℕ) → HasPartNumber font glyph
     part → ⊥)) → IsNotNumbered font.bytes.now (view_shown font) sources e
-partless font sources i e less h =
+partless font sources i e less before h =
     let many : length (parts_shown font.parts.items) ≡ length font.parts.items = length-map font.parts.items part_shown in
     subst (λ e. IsNotNumbered font.bytes.now (view_shown font) sources e) (sym h.2) (record {
       one = (i, less, h.1);
+      before = before;
       partless = λ there number has. h.3 number (record {
         glyph_there = there;
         part_there = subst (λ n. number < n) many has.there;
@@ -122,12 +124,14 @@ names_none P never TooLarge h = tt
 -- a glyph without a name
 pub nameless : (font : FontView) (set : CharSetView) (sources : Sources) (i : ℕ) (e : Error) →
     IsCharSetOf set font.bytes.now font.dictionary (length (items_of font.char_strings)) → i < length sources →
+    ((k : ℕ) → 0 < k → k < i → IsNamed set (slice_index_or sources k None)) →
     ((glyph : ℕ) × (slice_index_or sources i None ≡ Some glyph) × (e ≡ MissingName glyph) × ((identifier : ℕ) → Names set glyph
     identifier → ⊥)) → FontRefusedBy font.bytes.now (view_shown font) sources e
-nameless font set sources i e has less h = subst (λ e. FontRefusedBy font.bytes.now (view_shown font) sources e) (sym h.2) (record {
+nameless font set sources i e has less before h = subst (λ e. FontRefusedBy font.bytes.now (view_shown font) sources e) (sym h.2) (record {
   one = (i, less, h.1);
   set = set;
   has_set = has;
+  before = before;
   nameless = h.3;
 })
 

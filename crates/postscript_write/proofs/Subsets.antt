@@ -3,15 +3,18 @@ use Rattle.std.proofs.Common.{◌≡◌, sym, subst, ◌∙◌, inl, inr, ℕ, �
 use Rattle.std.specs.Prelude.{◌↔◌, Result, Ok, Err, IfOk, IfErr, Vec}
 use Rattle.std.specs.declared.alloc.Global.{Global}
 use Rattle.postscript_view.specs.CharSets.{IsCharSetOf}
+use Rattle.postscript_base.specs.declared.error.Error as causes
 use Rattle.postscript_view.specs.Layout.{IsLaidOut}
 use Rattle.postscript_view.specs.Contents.{View}
+use Rattle.postscript_view.specs.Untold.{NoCharSet}
 use Rattle.postscript_view.specs.Value.{view_shown}
 use Rattle.postscript_view.specs.declared.font.FontView.{FontView}
-use Rattle.postscript_drawing.specs.Components.{glyphs_of}
+use Rattle.postscript_drawing.specs.Components.{HasNoCharSet, glyphs_of}
 use Rattle.postscript_write.specs.Components.{AreClosed, AreKept, IsOpened, IsReached, IsSubset}
 use Rattle.postscript_write.specs.Glyphs.{Sources}
 use Rattle.postscript_write.specs.Making.{Making}
 use Rattle.postscript_write.specs.Refusals.{FontRefusedBy, IsChoiceRefusedBy, IsFirstPast, IsRefusedBy, IsSubsetRefusedBy}
+use Rattle.postscript_write.specs.RefusedGlyphs.{LacksSet}
 use Rattle.postscript_write.specs.Sources.{AreThere, is_kept, kept_of}
 use Rattle.postscript_write.specs.Steps.{IsNotChosen, IsNotClosed, IsNotOpened}
 use Rattle.postscript_write.specs.declared.error.Error.{Error}
@@ -79,15 +82,19 @@ not-opened named choice bytes (MissingName glyph) h = absurd h
 not-opened named choice bytes NoGlyphs h = absurd h
 not-opened named choice bytes TooLarge h = absurd h
 
+-- an opened font without a charset
+lacks-set : (bytes : List ℕ) (font : FontView) (cause : causes.Error) → IsOpened bytes font → HasNoCharSet cause font →
+    LacksSet bytes (view_shown font) cause
+lacks-set bytes font cause opened none = record {
+  none = λ has. none.none has.0 (subst (λ (bs : List ℕ). IsCharSetOf has.0 bs font.dictionary (glyphs_of font)) (sym opened.there) has.1);
+  why = subst (λ (bs : List ℕ). NoCharSet cause bs font.dictionary (glyphs_of font)) opened.there none.why;
+}
+
 -- the font has no char set, or a glyph is named that it does not have
 pub not-closed : (named : List ℕ) (choice : Choice) (bytes : List ℕ) (font : FontView) (e : Error) → IsOpened bytes font →
     IsNotClosed font named e → IsSubsetRefusedBy named choice bytes e
 not-closed named choice bytes font (Refused cause) opened h =
-    λ n. inr (
-      view_shown font,
-      opened.laid,
-      inl (λ has. h n has.0 (subst (λ (bs : List ℕ). IsCharSetOf has.0 bs font.dictionary (glyphs_of font)) (sym opened.there) has.1)),
-    )
+    λ n. inr (view_shown font, opened.laid, inl (lacks-set bytes font cause opened (h n)))
 not-closed named choice bytes font (MissingGlyph glyph) opened h = (view_shown font, opened.laid, h)
 not-closed named choice bytes font (Glyph glyph cause) opened h = absurd h
 not-closed named choice bytes font SeveralFonts opened h = absurd h
@@ -139,11 +146,8 @@ choice-not-opened named bytes TooLarge h = h
 
 pub choice-not-closed : (named bytes : List ℕ) (font : FontView) (e : Error) → IsOpened bytes font → IsNotClosed font named e →
     IsChoiceRefusedBy named bytes e
-choice-not-closed named bytes font (Refused cause) opened h = λ n. inr (
-  view_shown font,
-  opened.laid,
-  λ has. h n has.0 (subst (λ (bs : List ℕ). IsCharSetOf has.0 bs font.dictionary (glyphs_of font)) (sym opened.there) has.1),
-)
+choice-not-closed named bytes font (Refused cause) opened h =
+    λ n. inr (view_shown font, opened.laid, lacks-set bytes font cause opened (h n))
 choice-not-closed named bytes font (MissingGlyph glyph) opened h = (view_shown font, opened.laid, h)
 choice-not-closed named bytes font (Glyph glyph cause) opened h = h
 choice-not-closed named bytes font SeveralFonts opened h = absurd h

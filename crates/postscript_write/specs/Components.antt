@@ -3,14 +3,13 @@ use Rattle.std.specs.Prelude.{◌≡◌, ◌≢◌, ◌⊎◌, ◌↔◌, ℕ, L
 use Rattle.std.specs.List.{Contains}
 use Rattle.std.specs.Option.{MatchOption}
 use Rattle.postscript_drawing.specs.Accents.{IsAccentOf}
-use Rattle.postscript_drawing.specs.Components.{HasCharSet, IsComponent, glyphs_of}
+use Rattle.postscript_drawing.specs.Components.{HasNoCharSet, IsComponent, glyphs_of}
 use Rattle.postscript_drawing.specs.Refused.{IsAccented}
 use Rattle.postscript_drawing.specs.declared.accent.Accent.{Accent}
 use Rattle.postscript_base.specs.declared.error.Error.TheVariants.{Memory}
 use Rattle.postscript_type2.specs.Program.Runs.{Run}
 use Rattle.postscript_view.specs.Layout.{IsLaidOut}
 use Rattle.postscript_view.specs.Value.{view_shown}
-use Rattle.postscript_view.specs.declared.char_set.CharSetView.{CharSetView}
 use Rattle.postscript_view.specs.declared.font.FontView.{FontView}
 use Rattle.postscript_write.specs.Glyphs.{Sources}
 use Rattle.postscript_write.specs.Making.{Making}
@@ -74,7 +73,7 @@ AreKnown font known = (length known ≡ 256) × ((code : ℕ) (found : Option �
 abbrev pub AreComponentsOf : FontView → (from : ℕ) → List ℕ → Type 0
 AreComponentsOf font from components = (glyph : ℕ) → Contains components glyph ↔ IsComponentOf font from glyph
 
--- the components are unknown, since the font has no charset
+-- the components are unknown, since the font has no charset, for this reason
 abbrev pub IsUntold : FontView → Error → Type 0
-IsUntold font (Refused cause) = cause ≢ Memory → (set : CharSetView) → HasCharSet font set → ⊥
+IsUntold font (Refused cause) = cause ≢ Memory → HasNoCharSet cause font
 IsUntold font _ = ⊥

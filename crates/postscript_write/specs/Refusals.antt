@@ -11,7 +11,7 @@ use Rattle.postscript_write.specs.Glyphs.{AreCodesOf, AreNumbersOf, Sources}
 use Rattle.postscript_write.specs.Sizes.{IsLarge}
 use Rattle.postscript_write.specs.declared.error.Error.{Error}
 use Rattle.postscript_write.specs.declared.error.Error.TheVariants.{Refused, Glyph, SeveralFonts, MissingGlyph, MissingPart, MissingName, LongGlyph, NoGlyphs, TooLarge}
-use Rattle.postscript_write.specs.RefusedGlyphs.{IsRefusedFirst, IsPartless, IsNameless, HasSet, HasEncoding, AreSound}
+use Rattle.postscript_write.specs.RefusedGlyphs.{IsRefusedFirst, IsPartless, IsNameless, LacksSet, LacksEncoding, AreSound}
 
 -- With the charstrings of these glyphs the font is too large to write.
 pub record IsTooLarge (bytes : List ℕ) (font : View) (sources : Sources) : Type 0 where
@@ -40,7 +40,7 @@ pub record IsLongGlyph (bytes : List ℕ) (font : View) (sources : Sources) (gly
 -- The meaning of an error for the old font. `TooLarge` means that nothing else is wrong with it.
 abbrev pub FontRefusedBy : List ℕ → View → Sources → Error → Type 0
 FontRefusedBy bytes font sources (Glyph glyph cause) = IsRefusedFirst bytes font sources glyph cause
-FontRefusedBy bytes font sources (Refused cause) = cause ≢ Memory → (HasSet bytes font → ⊥) ⊎ (HasEncoding bytes font → ⊥)
+FontRefusedBy bytes font sources (Refused cause) = cause ≢ Memory → LacksSet bytes font cause ⊎ LacksEncoding bytes font cause
 FontRefusedBy bytes font sources (MissingPart glyph) = IsPartless bytes font sources glyph
 FontRefusedBy bytes font sources (LongGlyph glyph) = IsLongGlyph bytes font sources glyph
 FontRefusedBy bytes font sources (MissingName glyph) = IsNameless bytes font sources glyph
@@ -65,7 +65,7 @@ IsRefusedAs bytes cause = RefusedAs cause (fonts bytes 0) ⊎ RefusedAs cause (v
 abbrev pub IsRefusedBy : ((glyphs : ℕ) → Sources) → List ℕ → Error → Type 0
 IsRefusedBy sources bytes SeveralFonts = HasOtherFonts bytes
 IsRefusedBy sources bytes (Refused cause) = cause ≢ Memory → IsRefusedAs bytes cause
-    ⊎ OfFont bytes (λ old. (HasSet bytes old → ⊥) ⊎ (HasEncoding bytes old → ⊥))
+    ⊎ OfFont bytes (λ old. LacksSet bytes old cause ⊎ LacksEncoding bytes old cause)
 IsRefusedBy sources bytes e = OfFont bytes (λ old. FontRefusedBy bytes old (sources (length old.char_strings)) e)
 
 -- the first named glyph that the font does not have
@@ -81,7 +81,7 @@ abbrev pub IsChoiceRefusedBy : (named bytes : List ℕ) → Error → Type 0
 IsChoiceRefusedBy named bytes NoGlyphs = named ≡ []
 IsChoiceRefusedBy named bytes (MissingGlyph glyph) = OfFont bytes (λ old. IsFirstPast named (length old.char_strings) glyph)
 IsChoiceRefusedBy named bytes SeveralFonts = HasOtherFonts bytes
-IsChoiceRefusedBy named bytes (Refused cause) = cause ≢ Memory → IsRefusedAs bytes cause ⊎ OfFont bytes (λ old. HasSet bytes old → ⊥)
+IsChoiceRefusedBy named bytes (Refused cause) = cause ≢ Memory → IsRefusedAs bytes cause ⊎ OfFont bytes (λ old. LacksSet bytes old cause)
 IsChoiceRefusedBy named bytes _ = ⊥
 
 -- The meaning of an error of a subset: for the named glyphs, for the bytes, or for the font with the kept glyphs.

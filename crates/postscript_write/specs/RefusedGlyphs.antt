@@ -6,10 +6,11 @@ use Rattle.postscript_type2.specs.Program.Runs.{fault_of}
 use Rattle.postscript_view.specs.CharSets.{IsCharSetOf}
 use Rattle.postscript_view.specs.Encodings.{IsEncodingOf}
 use Rattle.postscript_view.specs.Naming.{Names}
+use Rattle.postscript_view.specs.Untold.{NoCharSet, NoEncoding}
 use Rattle.postscript_view.specs.Contents.{View, PrivateDict}
 use Rattle.postscript_view.specs.declared.char_set.CharSetView.{CharSetView}
 use Rattle.postscript_view.specs.declared.encoding.EncodingView.{EncodingView}
-use Rattle.postscript_write.specs.Glyphs.{AreNumbersOf, ShowsPart, Sources, run_in}
+use Rattle.postscript_write.specs.Glyphs.{AreNumbersOf, ShowsPart, ShowsPartFor, Sources, run_in}
 
 -- the run of a glyph with the part of this number fails with this error
 pub record IsRunRefused (font : View) (glyph number : ℕ) (cause : causes.Error) : Type 0 where
@@ -48,16 +49,22 @@ IsRefusedFirst bytes font sources glyph cause = (numbers : List ℕ) × AreNumbe
 abbrev pub IsOneOf : Sources → (glyph : ℕ) → Type 0
 IsOneOf sources glyph = (place : ℕ) × (place < length sources) × (slice_index_or sources place None ≡ Some glyph)
 
--- a glyph of the list that has no part
+-- the first glyph of the list that has no part
 pub record IsPartless (bytes : List ℕ) (font : View) (sources : Sources) (glyph : ℕ) : Type 0 where
   pub one : IsOneOf sources glyph
+  pub before : (i : ℕ) → i < one.0 → (number : ℕ) × ShowsPartFor bytes font (slice_index_or sources i None) number
   pub partless : glyph < length font.char_strings → (number : ℕ) → ShowsPart bytes font glyph number → ⊥
 
--- a glyph of the list that has no SID or CID in the charset
+-- the charset has a SID or CID for a glyph of the list
+abbrev pub IsNamed : CharSetView → Option ℕ → Type 0
+IsNamed set source = (glyph identifier : ℕ) × (source ≡ Some glyph) × Names set glyph identifier
+
+-- the first glyph of the list, after `.notdef`, that has no SID or CID in the charset
 pub record IsNameless (bytes : List ℕ) (font : View) (sources : Sources) (glyph : ℕ) : Type 0 where
   pub one : IsOneOf sources glyph
   pub set : CharSetView
   pub has_set : IsCharSetOf set bytes font.tables.dictionary (length font.char_strings)
+  pub before : (i : ℕ) → 0 < i → i < one.0 → IsNamed set (slice_index_or sources i None)
   pub nameless : (identifier : ℕ) → Names set glyph identifier → ⊥
 
 -- the font has a charset; it has an encoding
@@ -66,6 +73,16 @@ HasSet bytes font = (set : CharSetView) × IsCharSetOf set bytes font.tables.dic
 
 abbrev pub HasEncoding : List ℕ → View → Type 0
 HasEncoding bytes font = (encoding : EncodingView) × IsEncodingOf encoding bytes font.tables.dictionary
+
+-- The font has no charset, for this reason.
+pub record LacksSet (bytes : List ℕ) (font : View) (cause : causes.Error) : Type 0 where
+  pub none : HasSet bytes font → ⊥
+  pub why : NoCharSet cause bytes font.tables.dictionary (length font.char_strings)
+
+-- The font has no encoding, for this reason.
+pub record LacksEncoding (bytes : List ℕ) (font : View) (cause : causes.Error) : Type 0 where
+  pub none : HasEncoding bytes font → ⊥
+  pub why : NoEncoding cause bytes font.tables.dictionary
 
 -- Each of these glyphs has its part, and its run does not fail.
 abbrev pub AreSound : List ℕ → View → Sources → Type 0

@@ -1,10 +1,9 @@
 -- The meaning of the errors of single steps of writing.
 use Rattle.std.specs.Prelude.{◌≡◌, ◌≢◌, ℕ, List, Option, Some}
-use Rattle.postscript_drawing.specs.Components.{HasCharSet, glyphs_of}
+use Rattle.postscript_drawing.specs.Components.{HasNoCharSet, glyphs_of}
 use Rattle.postscript_base.specs.declared.error.Error.TheVariants.{Memory}
 use Rattle.postscript_write.specs.Glyphs.{Sources}
 use Rattle.postscript_view.specs.Contents.{View}
-use Rattle.postscript_view.specs.declared.char_set.CharSetView.{CharSetView}
 use Rattle.postscript_view.specs.declared.font.FontView.{FontView}
 use Rattle.postscript_write.specs.Refusals.{HasOtherFonts, IsFirstPast, IsRefusedAs}
 use Rattle.postscript_write.specs.RefusedGlyphs.{IsFirstRefused, IsPartless, IsRunRefused}
@@ -20,7 +19,7 @@ IsNotOpened bytes _ = ⊥
 -- finding the glyphs that are reached from the named ones
 abbrev pub IsNotClosed : FontView → (named : List ℕ) → Error → Type 0
 IsNotClosed font named (MissingGlyph glyph) = IsFirstPast named (glyphs_of font) glyph
-IsNotClosed font named (Refused cause) = cause ≢ Memory → (set : CharSetView) → HasCharSet font set → ⊥
+IsNotClosed font named (Refused cause) = cause ≢ Memory → HasNoCharSet cause font
 IsNotClosed font named _ = ⊥
 
 -- choosing the named glyphs
@@ -41,7 +40,7 @@ RefusedBy font sources numbers (Glyph glyph cause) = IsFirstRefused font sources
 RefusedBy font sources numbers (Refused cause) = cause ≡ Memory
 RefusedBy font sources numbers _ = ⊥
 
--- the numbers of the parts: one glyph has no part
+-- the numbers of the parts: this is the first glyph that has no part
 abbrev pub IsNotNumbered : List ℕ → View → Sources → Error → Type 0
 IsNotNumbered bytes font sources (MissingPart glyph) = IsPartless bytes font sources glyph
 IsNotNumbered bytes font sources (Refused cause) = cause ≡ Memory

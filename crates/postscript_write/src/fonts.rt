@@ -12,7 +12,7 @@ ghost use Rattle.postscript_write.specs.Kept.{HasAllInPlace, HasAllKept};
 ghost use Rattle.postscript_write.specs.Making.{IsCutFont, IsFontBy, IsKeptFont};
 ghost use Rattle.postscript_write.specs.Once.{BeginsWithRos, TellsOnce};
 ghost use Rattle.postscript_write.specs.Readings.{HasLenientFont};
-ghost use Rattle.postscript_write.specs.Refusals.{IsChoiceRefusedBy, IsRefusedBy, IsSubsetRefusedBy, NeedsNoName};
+ghost use Rattle.postscript_write.specs.Refusals.{HasOtherFonts, IsChoiceRefusedBy, IsRefusedBy, IsSubsetRefusedBy, NeedsNoName};
 ghost use Rattle.postscript_write.specs.Room.{IsRead};
 ghost use Rattle.postscript_write.specs.SameGlyphs.{GlyphsKept, KeepsGlyphs};
 ghost use Rattle.postscript_write.specs.Selected.{AreLow, SelectsParts};
@@ -38,6 +38,7 @@ fn only_font<'l>(alloc: Global, bytes: &'l [u8]) -> Result<FontView<'l>>
     ensures few { IfOk result (λ font. length (items_of font.char_strings) < 2 ^ 16) }
     ensures one { OnOk result (the_fonts bytes.now 0 ≡ Got 1 0) }
     ensures refused { IfErr result (λ e. IsNotOpened bytes.now e) }
+    ensures several { HasOtherFonts bytes.now → result ≡ Err errors.SeveralFonts }
 {
     if FontView::fonts(bytes)? != 1 {
         return Err(Error::SeveralFonts);
@@ -56,7 +57,7 @@ fn only_font<'l>(alloc: Global, bytes: &'l [u8]) -> Result<FontView<'l>>
 ///
 /// - `Glyph`: the charstring of a glyph fails. The error has the first such glyph and the cause.
 /// - `Refused`: the font, its charset or its encoding is malformed, or out of memory.
-/// - `MissingPart`: FDSelect gives a glyph no Font DICT.
+/// - `MissingPart`: FDSelect gives a glyph no Font DICT. The error has the first such glyph.
 /// - `LongGlyph`: a charstring has more than 65,535 bytes without calls. The error has the first such glyph.
 /// - `SeveralFonts`: the font set does not have exactly one font.
 /// - `TooLarge`: the new charstrings, the names, the strings, and four times the input have 2,000,000,000 bytes or more
@@ -84,6 +85,8 @@ pub fn flat_font(alloc: Global, bytes: &[u8]) -> Result<Vec<u8>>
     ensures lenient { IfOk result (λ flat. HasLenientFont bytes.now → HasLenientFont flat.items) }
     // A success means that the font set has exactly one font.
     ensures one { OnOk result (the_fonts bytes.now 0 ≡ Got 1 0) }
+    // With another number of fonts the error is `SeveralFonts`, whatever else is wrong.
+    ensures several { HasOtherFonts bytes.now → result ≡ Err errors.SeveralFonts }
     // An error is justified by the font set, the font or the first bad glyph, or it is `Memory`.
     ensures refused { IfErr result (λ e. IsRefusedBy the_every bytes.now e) }
     // The error is not `MissingName`: glyphs that keep their numbers need no name.
@@ -110,6 +113,8 @@ pub fn kept_glyphs(alloc: Global, bytes: &[u8], named: &[usize]) -> Result<Vec<u
     ensures kept { IfOk result (λ kept. AreKept named.now bytes.now kept.items) }
     // A success means that the font set has exactly one font.
     ensures one { OnOk result (the_fonts bytes.now 0 ≡ Got 1 0) }
+    // With named glyphs and another number of fonts the error is `SeveralFonts`.
+    ensures several { 0 < length named.now → HasOtherFonts bytes.now → result ≡ Err errors.SeveralFonts }
     // An error is justified by the list, the font set or the font, or it is `Memory`.
     ensures refused { IfErr result (λ e. IsChoiceRefusedBy named.now bytes.now e) }
     // A success means that the font has all named glyphs.
@@ -137,6 +142,7 @@ fn subset_by(alloc: Global, bytes: &[u8], named: &[usize], retain_gids: bool) ->
     ensures lenient { IfOk result (λ flat. HasLenientFont bytes.now → HasLenientFont flat.items) }
     ensures one { OnOk result (the_fonts bytes.now 0 ≡ Got 1 0) }
     ensures refused { IfErr result (λ e. IsSubsetRefusedBy named.now (choice_by retain_gids) bytes.now e) }
+    ensures several { 0 < length named.now → HasOtherFonts bytes.now → result ≡ Err errors.SeveralFonts }
     ensures names { IfErr result (λ e. retain_gids ≡ true → NeedsNoName e) }
     ensures there { OnOk result ((font : View) → IsLaidOut bytes.now 0 font → AreThere named.now (length font.char_strings)) }
     ensures none { named.now ≡ [] → result ≡ Err errors.NoGlyphs }
@@ -168,7 +174,7 @@ fn subset_by(alloc: Global, bytes: &[u8], named: &[usize], retain_gids: bool) ->
 ///
 /// - `NoGlyphs`: `named` is empty.
 /// - `MissingGlyph`: the font has no glyph with this number.
-/// - `MissingName`: the charset has no SID or CID for a kept glyph.
+/// - `MissingName`: the charset has no SID or CID for a kept glyph. The error has the first such glyph.
 /// - The errors of [`flat_font`], but only for the kept glyphs.
 pub fn subset(alloc: Global, bytes: &[u8], named: &[usize]) -> Result<Vec<u8>>
     // Each kept glyph is drawn with the same segments and width as before.
@@ -195,6 +201,8 @@ pub fn subset(alloc: Global, bytes: &[u8], named: &[usize]) -> Result<Vec<u8>>
     ensures lenient { IfOk result (λ flat. HasLenientFont bytes.now → HasLenientFont flat.items) }
     // A success means that the font set has exactly one font.
     ensures one { OnOk result (the_fonts bytes.now 0 ≡ Got 1 0) }
+    // With named glyphs and another number of fonts the error is `SeveralFonts`.
+    ensures several { 0 < length named.now → HasOtherFonts bytes.now → result ≡ Err errors.SeveralFonts }
     // An error is justified by the list, the font or the first bad kept glyph, or is `Memory`.
     ensures refused { IfErr result (λ e. IsSubsetRefusedBy named.now the_chosen bytes.now e) }
     // A success means that the font has all named glyphs.
@@ -239,6 +247,8 @@ pub fn subset_keeping(alloc: Global, bytes: &[u8], named: &[usize]) -> Result<Ve
     ensures lenient { IfOk result (λ flat. HasLenientFont bytes.now → HasLenientFont flat.items) }
     // A success means that the font set has exactly one font.
     ensures one { OnOk result (the_fonts bytes.now 0 ≡ Got 1 0) }
+    // With named glyphs and another number of fonts the error is `SeveralFonts`.
+    ensures several { 0 < length named.now → HasOtherFonts bytes.now → result ≡ Err errors.SeveralFonts }
     // An error is justified by the list, the font or the first bad kept glyph, or is `Memory`.
     ensures refused { IfErr result (λ e. IsSubsetRefusedBy named.now the_keeping bytes.now e) }
     // The error is not `MissingName`: glyphs that keep their numbers need no name.

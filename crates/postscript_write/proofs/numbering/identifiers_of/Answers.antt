@@ -1,12 +1,13 @@
 use Rattle.std.proofs.Common.{ap, [], ◌∷◌, length, length-append, arith}
 use Rattle.postscript_base.specs.Index.Lent.{items_of}
-use Rattle.postscript_write.proofs.Identifying.{identified, one_more_told}
+use Rattle.postscript_write.proofs.Identifying.{identified, named_before, one_more_told}
 use Rattle.postscript_write.proofs.Making.{nameless}
 use Rattle.postscript_write.proofs.numbering.identifiers_of.Goals as goal
 
 pub returns-in-Err-clause-refused : goal.returns-in-Err-clause-refused
 returns-in-Err-clause-refused c =
-    nameless c.args.font.now c.args.set.now c.args.sources.now c.loop-i.i c.in-Err.e c.requires.set (omega arith) c.in-Err.ensures.refused
+    nameless c.args.font.now c.args.set.now c.args.sources.now c.loop-i.i c.in-Err.e c.requires.set (omega arith)
+    (named_before c.args.set.now c.args.sources.now c.loop-i.identifiers.items c.loop-i.i c.loop-i.invariant.each) c.in-Err.ensures.refused
 
 pub loop-i-preserved : goal.loop-i-preserved
 loop-i-preserved c =

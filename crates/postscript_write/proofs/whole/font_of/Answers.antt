@@ -15,12 +15,12 @@ use Rattle.postscript_write.proofs.whole.font_of.Goals as goal
 pub returns-in_err-set-clause-refused : goal.returns-in_err-set-clause-refused
 returns-in_err-set-clause-refused c =
     let error = err_from_is_err_and c.from_residual.result c.from_residual.ensures.1 in
-    rw (error.1, error.2) (λ n. inl (λ has. c.in_err-set.ensures.none has.0 has.1))
+    rw (error.1, error.2) (λ n. inl (record { none = λ has. c.in_err-set.ensures.none has.0 has.1; why = c.in_err-set.ensures.why }))
 
 pub returns-in_err-encoding-clause-refused : goal.returns-in_err-encoding-clause-refused
 returns-in_err-encoding-clause-refused c =
     let error = err_from_is_err_and c.from_residual-in_err-encoding.result c.from_residual-in_err-encoding.ensures.1 in
-    rw (error.1, error.2) (λ n. inr (λ has. c.in_err-encoding.ensures.none has.0 has.1))
+    rw (error.1, error.2) (λ n. inr (record { none = λ has. c.in_err-encoding.ensures.none has.0 has.1; why = c.in_err-encoding.ensures.why }))
 
 pub returns-clause-refused : goal.returns-clause-refused
 returns-clause-refused c =
