@@ -13,8 +13,9 @@
 //! - The file is a subset of the face, for the caller's choice with further glyphs and tables. All clauses of `subset_file`
 //!   are true of it.
 //! - A text of named glyphs has only glyphs of the subset, after any substitutions by the chosen lookups.
-//! - The `GSUB` table substitutes as the old one (`KeepsSubstitutions` of `postscript_layout_write`), the `GPOS` table adjusts
-//!   pairs and attaches marks as the old one (`KeepsPositions`), and the `GDEF` table has the old classes (`KeepsClasses`).
+//! - The `GSUB` table substitutes as the old one (`KeepsRules` of `postscript_layout_write`), the `GPOS` table positions glyphs
+//!   as the old one (`KeepsPositions`, `KeepsFlaggedPositions`), and the `GDEF` table has the old classes (`KeepsClasses`).
+//!   Both tables have all scripts and languages, with the chosen features only (`HasOnlyFeatures`).
 //! - If glyphs keep their numbers, the layout tables are copied, and a text of named glyphs has only glyphs that are the same
 //!   in the new face, after any substitutions.
 //! - `glyphs_with_layout` returns exactly the glyphs that the chosen lookups can make of the named ones.
@@ -23,7 +24,7 @@
 //! # What is not proved
 //!
 //! - That there is enough memory, and which limit suffices.
-//! - What `postscript_layout_write` leaves out, such as contexts by glyphs or by classes, and device tables.
+//! - What `postscript_layout_write` leaves out, such as reverse chaining and device tables.
 #![tactic(auto)]
 
 mod closing;
