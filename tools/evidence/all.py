@@ -41,6 +41,7 @@ SCRIPTS = [
     ("shaped", "/usr/bin/python3 tools/evidence/shaped.py 7 60 FONTS", "psotf"),
     ("kerning", "/usr/bin/python3 tools/evidence/kerning.py 7 60 FONTS", "psotf"),
     ("ligatures", "/usr/bin/python3 tools/evidence/ligatures.py 7 20 FONTS", "psotf"),
+    ("sizes", "/usr/bin/python3 tools/evidence/sizes.py FONTS", "psotf"),
     ("report", "tools/evidence/report.py", "psotf"),
     ("changed_fonts", "python3 tools/evidence/changed_fonts.py --seed 1", "psfont"),
     ("random_programs", "python3 tools/evidence/random_programs.py --seed 1", "psfont"),
