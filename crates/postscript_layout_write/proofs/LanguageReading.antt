@@ -4,7 +4,7 @@ use Rattle.std.specs.Prelude.{◌⊎◌, Option, None, Some, filter_map}
 use Rattle.std.specs.List.{All, cons_option}
 use Rattle.std.proofs.lemmas.List.Elements.{All-cons, All-nil, filter_map-append}
 use Rattle.postscript_layout.specs.Numbers.{long, word, words}
-use Rattle.postscript_layout_write.specs.Features.{KeepsDefault, KeepsLanguage, KeepsScript, KeepsScripts, features_of, has_default, no_default, or_none, required_of}
+use Rattle.postscript_layout_write.specs.Features.{KeepsDefault, KeepsLanguage, KeepsScript, KeepsScripts, features_of, has_default, no_default, or_no_feature, required_of}
 use Rattle.postscript_layout_write.specs.Holds.{Holds}
 use Rattle.postscript_layout_write.specs.Records.{AreRecords, Stands, records_text}
 use Rattle.postscript_layout_write.specs.Renumbering.{new_number}
@@ -16,7 +16,7 @@ use Rattle.postscript_layout_write.proofs.Renumbered.{number-small}
 use Rattle.postscript_layout_write.proofs.RuleReading.{words-read}
 use Rattle.postscript_layout_write.proofs.RuleRows.{words-more}
 
-pub language-read : (kept old : List ℕ) (from required : ℕ) (features : List ℕ) → required ≡ or_none (new_number kept (required_of old from)) → required < 65536 →
+pub language-read : (kept old : List ℕ) (from required : ℕ) (features : List ℕ) → required ≡ or_no_feature (new_number kept (required_of old from)) → required < 65536 →
     features ≡ filter_map (new_number kept) (features_of old from) → length features < 65536 → All (λ n. n < 65536) features →
     (t : List ℕ) (at : ℕ) → Holds (array_text (0 ∷ required ∷ length features ∷ []) ++ array_text features) t at → KeepsLanguage kept old from t at
 language-read kept old from required features same small are few all t at h = record {

@@ -17,14 +17,14 @@ required_of table language = word table (language + 2)
 abbrev pub features_of : List ℕ → (language : ℕ) → List ℕ
 features_of table language = words table (language + 6) (word table (language + 4))
 
-abbrev pub or_none : Option ℕ → ℕ
-or_none None = 0xFFFF
-or_none (Some i) = i
+abbrev pub or_no_feature : Option ℕ → ℕ
+or_no_feature None = 0xFFFF
+or_no_feature (Some i) = i
 
 -- the features of a language system that are kept, in order, under new indices; the lookup order is reserved, and 0
 pub record KeepsLanguage (kept old : List ℕ) (from : ℕ) (new : List ℕ) (to : ℕ) : Type 0 where
   pub order : word new to ≡ 0
-  pub required : required_of new to ≡ or_none (new_number kept (required_of old from))
+  pub required : required_of new to ≡ or_no_feature (new_number kept (required_of old from))
   pub features : features_of new to ≡ filter_map (new_number kept) (features_of old from)
 
 -- "Script table": the default language system, if there is one, and the records of languages
@@ -72,7 +72,7 @@ pub record KeepsFeatures (kept old : List ℕ) (from : ℕ) (new : List ℕ) (to
       KeepsFeature old (long old (from + 2 + slice_index kept j * 6)) (named old from (from + 2) (slice_index kept j)) new (named new to (to + 2) j)
 
 -- The new table has version 1.0, and the same scripts and languages. It has the features with the chosen tags and no others. The lookup list and all
--- bytes behind its beginning are the same.
+-- bytes that follow it are the same.
 pub record HasOnlyFeatures (old tags new : List ℕ) : Type 0 where
   pub version : (word new 0 ≡ 1) × (word new 2 ≡ 0)
   pub scripts : KeepsScripts (chosen_features old tags) old (word old 4) new (word new 4)

@@ -187,11 +187,11 @@ fn joined(alloc: Global, scripts: &[u8], features: &[u8], table: &[u8]) -> Resul
 /// Returns a `GSUB` or `GPOS` table with only the features whose tags are given.
 ///
 /// A tag is a number of four bytes. The new table has version 1.0, with all scripts and languages, even if no feature of
-/// theirs is left. The kept features are in the same order, with the same lookups and parameters, under new indices. If
-/// the required feature of a language system is dropped, the language system has none. The last part is the lookup list
-/// with all bytes of the old table that follow it. So all lookups are kept, even if no feature names them now. An old
-/// script list or feature list after the lookup list is kept there, unused; tables of this crate have none there. Feature
-/// variations are dropped.
+/// theirs is left. The kept features are in the same order, with the same lookups and parameters, under new indices. Only
+/// `size` and tags that begin with `ss` or `cv` have parameters. If the required feature of a language system is dropped,
+/// the language system has none. The last part is the lookup list with all bytes of the old table that follow it. So all
+/// lookups are kept, even if no feature names them now. An old script list or feature list after the lookup list is kept
+/// there, unused; tables of this crate have none there. Feature variations are dropped.
 ///
 /// Equal tables of scripts, language systems and features share their bytes, if at most 63 others are between them. For
 /// each feature of the old table, one unit of the limit is paid, and one more for each tag. One is paid for each script,

@@ -1,7 +1,7 @@
 //! Scripts and language systems with only some of the features.
 ghost use Rattle.std.specs.Prelude.{◌≡◌, ◌⊎◌, ◌+◌, ◌*◌, ◌^◌, ◌<◌, ◌≤◌, length, filter_map, IfErr, IfOk, OnOk};
 ghost use Rattle.postscript_layout.specs.Numbers.{long as the_long, word as the_word};
-ghost use Rattle.postscript_layout_write.specs.Features.{KeepsLanguage, KeepsScript, KeepsScripts, features_of, or_none};
+ghost use Rattle.postscript_layout_write.specs.Features.{KeepsLanguage, KeepsScript, KeepsScripts, features_of, or_no_feature};
 ghost use Rattle.postscript_layout_write.specs.Records.{AreRecords, Puts, PutsDefault, Stands};
 ghost use Rattle.postscript_layout_write.specs.Refusals.{Fails, IsUsedUp};
 ghost use Rattle.postscript_layout_write.specs.Renumbering.{AreNumbers, new_number};
@@ -21,7 +21,7 @@ fn new_required(kept: &[u16], numbers: &[Option<usize>], feature: usize) -> u16
     requires few { length kept.now < 65536 }
     requires exact { AreNumbers kept.now numbers.now }
     requires small { feature < 65536 }
-    ensures { result ≡ or_none (new_number kept.now feature) }
+    ensures { result ≡ or_no_feature (new_number kept.now feature) }
 {
     let _ = kept;
     match numbers[feature] {

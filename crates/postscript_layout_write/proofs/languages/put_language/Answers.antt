@@ -1,7 +1,7 @@
 use Rattle.std.proofs.Common.{◌≡◌, ◌∙◌, ◌<◌, ◌++◌, ◌∷◌, [], ℕ, List, ap, sym, subst, length, rules}
 use Rattle.std.specs.List.{All}
 use Rattle.std.proofs.lemmas.List.{append_assoc}
-use Rattle.postscript_layout_write.specs.Features.{KeepsLanguage, features_of, or_none}
+use Rattle.postscript_layout_write.specs.Features.{KeepsLanguage, features_of, or_no_feature}
 use Rattle.postscript_layout_write.specs.Renumbering.{new_number}
 use Rattle.postscript_layout_write.specs.Text.{array_text}
 use Rattle.postscript_layout_write.proofs.LanguageReading.{all-low, language-read}
@@ -23,6 +23,6 @@ returns-clause-done c =
     ∙ ap (λ (xs : List ℕ). (old ++ array_text (0 ∷ required ∷ c.len.result ∷ [])) ++ array_text xs) c.deref.ensures.value
     ∙ ap (λ n. (old ++ array_text (0 ∷ required ∷ n ∷ [])) ++ array_text features) count
     ∙ append_assoc old head (array_text features))
-    (language-read kept table language required features (c.new_required-required.ensures ∙ ap (λ n. or_none (new_number kept n)) c.word.ensures.exact)
+    (language-read kept table language required features (c.new_required-required.ensures ∙ ap (λ n. or_no_feature (new_number kept n)) c.word.ensures.exact)
     c.new_required-required.type_inv c.in_ok-features.ensures.exact c.in_ok-features.ensures.few
     (subst (λ (xs : List ℕ). All (λ n. n < 65536) xs) (sym c.in_ok-features.ensures.exact) (all-low kept (features_of table language) c.requires.few)))
