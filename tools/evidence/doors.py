@@ -5,7 +5,8 @@
     /usr/bin/python3 tools/evidence/doors.py SEED COUNT WORD.. [--variable VARIABLE..]
 
 Each WORD is a font file, a folder, or an installed Debian package; of the last two, the script takes each .otf file. Each VARIABLE is a file
-with a `CFF2` table, or a package, which is downloaded. COUNT locations and sets of characters are chosen at random from SEED. All four write
+with a `CFF2` table, or a package, which is downloaded. COUNT locations and sets of characters are chosen at random from SEED. All four write:
+
 - of a font with a `CFF ` table: the file without subroutines, and a subset for each set of characters. In every second one, glyphs keep
   their numbers.
 - of a font with a `CFF2` table: the static font at each location. In every second one, the points are rounded.
