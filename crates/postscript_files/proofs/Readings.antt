@@ -1,19 +1,18 @@
 -- Two readings of one face agree.
-use Rattle.std.proofs.Common.{◌≡◌, sym, ap, ◌∙◌, subst, inl, inr, ℕ, ◌+◌, List, drop, arith}
+use Rattle.std.proofs.Common.{◌≡◌, sym, ap, ◌∙◌, subst, inl, inr, ℕ, ◌+◌, List, arith}
 use Rattle.std.proofs.lemmas.Bool.{cases_eq, cases_lt}
 use Rattle.postscript_base.specs.Index.{number_at}
 use Rattle.postscript_sfnt.specs.CharacterMap.{IsGlyphOf, first12, first4, gives12, gives4, glyph6, last12, last4}
 use Rattle.postscript_sfnt.specs.Choice.{IsChosen, place_at}
 use Rattle.postscript_sfnt.specs.Directory.{IsFace, IsTable, IsVersion, collection}
-use Rattle.postscript_sfnt.specs.Lent.{IsFaceOf, IsTableOf, advance_in}
+use Rattle.postscript_sfnt.specs.Lent.{IsFaceOf, IsTableOf}
 use Rattle.postscript_sfnt.specs.Maps.{IsMapAt, Maps}
 use Rattle.postscript_sfnt.specs.Metrics.{advance_of}
 use Rattle.postscript_sfnt.specs.declared.character_map.CharacterMap.{CharacterMap}
 use Rattle.postscript_sfnt.specs.declared.character_map.CharacterMap.TheVariants.{Segments, Groups, Trimmed}
 use Rattle.postscript_sfnt.specs.declared.file.FontFile.{FontFile}
-use Rattle.postscript_files.specs.Faces.{IsBestMap, IsFaceIn, cff_tag, cmap_tag, hhea_tag, hmtx_tag, maxp_tag}
+use Rattle.postscript_files.specs.Faces.{IsBestMap, cff_tag, cmap_tag, hhea_tag, hmtx_tag, maxp_tag}
 use Rattle.postscript_files.specs.Readings.{ReadingsAgree}
-use Rattle.postscript_files.specs.declared.face.Face.{Face}
 use Rattle.postscript_files.proofs.Others.{one-table}
 
 no-collection : (version : ℕ) → IsVersion version → version ≡ collection → ⊥

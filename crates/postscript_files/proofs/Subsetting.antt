@@ -218,6 +218,7 @@ subset-face choice old new pairs origins font made kept is are m has file read =
       };
       ordered = λ all h. in-order choice old new w all h;
       counted = (length origins, counted-so choice old new w);
+      cmap = record { headers = w.cmap.headers; format4 = w.cmap.format4 };
       hhea = subst (λ (xs : List ℕ). KeepsBut 34 old.hhea.now xs)
           (one-table new.file hhea_tag made.hhea.items new.hhea.now has.hhea read.hhea) m.hhea_kept;
       maxp = subst (λ (xs : List ℕ). KeepsBut 4 old.maxp.now xs)

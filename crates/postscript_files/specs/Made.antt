@@ -5,7 +5,8 @@ use Rattle.postscript_sfnt.specs.Lent.{IsTableOf}
 use Rattle.postscript_sfnt.specs.Metrics.{IsGlyphs, IsWord}
 use Rattle.postscript_sfnt.specs.declared.file.FontFile.{FontFile}
 use Rattle.postscript_sfnt_write.specs.Files.{Opens}
-use Rattle.postscript_sfnt_write.specs.Mappings.{AreTold, IsReadable}
+use Rattle.postscript_sfnt_write.specs.Headers.{HaveHeaders}
+use Rattle.postscript_sfnt_write.specs.Mappings.{AreTold, HasFormat4, IsReadable}
 use Rattle.postscript_sfnt_write.specs.Metrics.{CanBeRead, KeepsBut, TellsAdvances, TellsBearings}
 use Rattle.postscript_sfnt_write.specs.declared.mapping.Mapping.{Mapping}
 use Rattle.postscript_sfnt_write.specs.declared.metrics.Metric.{Metric}
@@ -45,6 +46,8 @@ pub record IsMapOf (pairs : List Mapping) (origins cmap : List ℕ) : Type 0 whe
   pub are : AreRenumbered pairs numbers mappings
   pub readable : IsReadable cmap
   pub told : AreTold cmap mappings
+  pub headers : HaveHeaders cmap
+  pub format4 : HasFormat4 cmap
 
 -- a `post` table without names, with the other values of the old one, or zeros
 pub record IsPostOf (file : FontFile) (post : List ℕ) : Type 0 where

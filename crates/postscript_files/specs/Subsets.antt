@@ -7,6 +7,8 @@ use Rattle.postscript_sfnt.specs.Maps.{Maps}
 use Rattle.postscript_sfnt.specs.Metrics.{IsGlyphs, IsWord}
 use Rattle.postscript_sfnt.specs.declared.file.FontFile.{FontFile}
 use Rattle.postscript_sfnt_write.specs.Files.{Opens}
+use Rattle.postscript_sfnt_write.specs.Headers.{HaveHeaders}
+use Rattle.postscript_sfnt_write.specs.Mappings.{HasFormat4}
 use Rattle.postscript_sfnt_write.specs.Metrics.{KeepsBut}
 use Rattle.postscript_sfnt_write.specs.Tables.{IsGiven}
 use Rattle.postscript_sfnt_write.specs.declared.file.Table.{Table}
@@ -113,6 +115,12 @@ IsGivenTag given tag = (i : ℕ) × (table : Given) × (slice_get given i ≡ So
 abbrev pub IsExpected : Choice → (old : FontFile) → (tag : ℕ) → Type 0
 IsExpected choice old tag = IsNeeded tag ⊎ ((tag ≡ post_tag) ⊎ (IsCopied old choice.copied.now tag ⊎ IsGivenTag choice.given.now tag))
 
+-- In `cmap` each subtable has its length, the language 0 and, in format 4, its search fields. One of them has format 4, for the first plane of
+-- Unicode on Windows.
+pub record IsCmap (new : Face) : Type 0 where
+  pub headers : HaveHeaders new.cmap.now
+  pub format4 : HasFormat4 new.cmap.now
+
 -- a face is a subset of another one
 pub record IsSubsetFace (choice : Choice) (old new : Face) : Type 0 where
   pub named : List ℕ
@@ -122,6 +130,7 @@ pub record IsSubsetFace (choice : Choice) (old new : Face) : Type 0 where
   pub characters : AreCharacters choice old new
   pub ordered : (origins : List ℕ) → AreOriginsOf choice old origins → AreInOrder choice old new origins
   pub counted : (count : ℕ) × AreCounted new count
+  pub cmap : IsCmap new
   pub hhea : KeepsBut 34 old.hhea.now new.hhea.now
   pub maxp : KeepsBut 4 old.maxp.now new.maxp.now
   pub post : (post : List ℕ) × IsPost old new post
