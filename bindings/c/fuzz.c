@@ -118,7 +118,7 @@ static void places(const uint8_t *file, size_t length) {
     for (size_t i = 0; i < GLYPHS; i++) {
         int32_t status = known(psf_variable_outline(file, length, 0, coordinates, 2, i, LIMIT, segments, room, &count, &bounds));
         if (status == PSF_OK) holds(count <= room);
-        known(psf_variable_advance(file, length, 0, coordinates, 2, i, &advance));
+        known(psf_variable_advance(file, length, 0, coordinates, 2, i, LIMIT, &advance));
     }
     free(numbers);
     free(segments);

@@ -398,11 +398,13 @@ int32_t psf_variable_outline(const uint8_t *file, size_t length, size_t face, co
 int32_t psf_variable_glyphs(const uint8_t *file, size_t length, size_t face, size_t *count);
 
 /* Returns the advance of a glyph at the given axis values, in whole font units: hmtx plus the HVAR delta, rounded to the nearest
- * unit. A glyph after the last one of hmtx has the last advance. This call has no limit.
+ * unit. A glyph after the last one of hmtx has the last advance.
+ * PSF_LIMIT is a good limit. The HVAR delta costs one unit for each region of the glyph's deltas and each axis: with 4 regions and
+ * 3 axes it costs 12 units. A face without an HVAR table costs none.
  * Errors: PSF_NO_GLYPH for a number above 65535; PSF_NO_TABLE if the face has no hhea or hmtx table; PSF_NO_ADVANCES;
- * PSF_CUT_HVAR, PSF_UNKNOWN_HVAR; PSF_MEMORY. */
+ * PSF_CUT_HVAR, PSF_UNKNOWN_HVAR; PSF_TOO_LONG; PSF_MEMORY. */
 int32_t psf_variable_advance(const uint8_t *file, size_t length, size_t face, const int32_t *coordinates, size_t named,
-                             size_t glyph, int64_t *advance);
+                             size_t glyph, uint64_t limit, int64_t *advance);
 
 /* Writes a whole font file with a CFF table of a face of file[0..length] at the given axis values, to instance[0..room]. It is a static
  * font: its glyphs, metrics, positions and names are those at the location, and it has no tables of variations. If rounded is not 0,

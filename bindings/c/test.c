@@ -447,13 +447,17 @@ static void check_advances(const uint8_t *file, size_t length) {
     size_t glyphs = 7;
     holds(psf_variable_glyphs(file, length, 1, &glyphs) == PSF_NO_FACE && glyphs == 7, "the glyphs of no face");
     holds(psf_variable_glyphs(file, length, 0, &glyphs) == PSF_OK && glyphs == 3, "how many glyphs there are");
-    holds(psf_variable_advance(file, length, 0, place, 0, 1, &advance) == PSF_OK && advance == 600, "the advance at the default");
-    holds(psf_variable_advance(file, length, 0, place, 2, 1, &advance) == PSF_OK && advance == 590, "an advance at a place");
-    holds(psf_variable_advance(file, length, 0, place, 1, 2, &advance) == PSF_OK && advance == 620, "where one axis is named");
-    holds(psf_variable_advance(file, length, 0, places[1], 1, 1, &advance) == PSF_OK && advance == 720, "an advance at an end");
-    holds(psf_variable_advance(file, length, 0, place, 2, 0, &advance) == PSF_OK && advance == 500, "an advance that does not vary");
-    holds(psf_variable_advance(file, length, 0, place, 3, 1, &advance) == PSF_TOO_MANY_COORDINATES, "three axes of an advance");
-    holds(psf_variable_advance(file, length, 0, place, 2, 65536, &advance) == PSF_NO_GLYPH && advance == 500, "no such advance");
+    holds(psf_variable_advance(file, length, 0, place, 0, 1, PSF_LIMIT, &advance) == PSF_OK && advance == 600, "the advance at the default");
+    holds(psf_variable_advance(file, length, 0, place, 2, 1, PSF_LIMIT, &advance) == PSF_OK && advance == 590, "an advance at a place");
+    holds(psf_variable_advance(file, length, 0, place, 1, 2, PSF_LIMIT, &advance) == PSF_OK && advance == 620, "where one axis is named");
+    holds(psf_variable_advance(file, length, 0, places[1], 1, 1, PSF_LIMIT, &advance) == PSF_OK && advance == 720, "an advance at an end");
+    holds(psf_variable_advance(file, length, 0, place, 2, 0, PSF_LIMIT, &advance) == PSF_OK && advance == 500, "an advance that does not vary");
+    holds(psf_variable_advance(file, length, 0, place, 3, 1, PSF_LIMIT, &advance) == PSF_TOO_MANY_COORDINATES, "three axes of an advance");
+    holds(psf_variable_advance(file, length, 0, place, 2, 65536, PSF_LIMIT, &advance) == PSF_NO_GLYPH && advance == 500, "no such advance");
+    /* the HVAR deltas of a glyph have three regions of two axes: six units */
+    holds(psf_variable_advance(file, length, 0, place, 2, 1, 0, &advance) == PSF_TOO_LONG && advance == 500, "an advance past a limit of 0");
+    holds(psf_variable_advance(file, length, 0, place, 2, 1, 5, &advance) == PSF_TOO_LONG && advance == 500, "an advance past the limit");
+    holds(psf_variable_advance(file, length, 0, place, 2, 1, 6, &advance) == PSF_OK && advance == 590, "an advance within the limit");
 }
 
 /* What a call answers of a file with another byte at a place of a table: that of an advance, or of an outline. */
@@ -465,7 +469,7 @@ static int32_t status_with(const uint8_t *file, size_t length, const char *tag, 
     memcpy(spoiled, file, length);
     holds(psf_file_table(file, length, 0, PSF_TAG(tag[0], tag[1], tag[2], tag[3]), &place, &size) == PSF_OK && at < size, "a table");
     spoiled[place + at] = byte;
-    if (asks_advance) return psf_variable_advance(spoiled, length, 0, places[0], 0, 1, &advance);
+    if (asks_advance) return psf_variable_advance(spoiled, length, 0, places[0], 0, 1, PSF_LIMIT, &advance);
     return draw(spoiled, length, places[0], 0, 1, PSF_LIMIT, 5, &d);
 }
 
@@ -504,7 +508,7 @@ static void check_not_variable(const uint8_t *file, size_t length) {
     holds(draw(file, length, &coordinate, 0, 4, PSF_LIMIT, 5, &d) == PSF_NO_GLYPH, "no glyph 4");
     holds(draw(file, length, &coordinate, 0, 3, 5, 5, &d) == PSF_TOO_LONG, "a limit");
     holds(draw(file, 3, &coordinate, 0, 2, PSF_LIMIT, 5, &d) == PSF_CUT_FILE, "a cut file");
-    holds(psf_variable_advance(file, length, 0, &coordinate, 0, 2, &advance) == PSF_NO_TABLE && advance == 7, "no hmtx");
+    holds(psf_variable_advance(file, length, 0, &coordinate, 0, 2, PSF_LIMIT, &advance) == PSF_NO_TABLE && advance == 7, "no hmtx");
 }
 
 /* Whether two files have the same bytes in a table. */
@@ -622,8 +626,8 @@ static void check_instance(const uint8_t *file, size_t length, const uint8_t *pl
         holds(draw(file, length, places[0], 2, glyph, PSF_LIMIT, 5, &was) == PSF_OK, "a glyph at the location");
         holds(draw(written, count, places[0], 0, glyph, PSF_LIMIT, 5, &is) == PSF_OK, "the same glyph of the instance");
         holds(memcmp(&was, &is, sizeof was) == 0, "draws the same");
-        holds(psf_variable_advance(file, length, 0, places[0], 2, glyph, &advance) == PSF_OK
-              && psf_variable_advance(written, count, 0, places[0], 0, glyph, &fixed) == PSF_OK && advance == fixed, "with the same advance");
+        holds(psf_variable_advance(file, length, 0, places[0], 2, glyph, PSF_LIMIT, &advance) == PSF_OK
+              && psf_variable_advance(written, count, 0, places[0], 0, glyph, PSF_LIMIT, &fixed) == PSF_OK && advance == fixed, "with the same advance");
     }
     holds(psf_file_instance(file, length, 0, places[0], 0, 1, 20 * PSF_LIMIT, written, sizeof written, &count, &refusal) == PSF_OK
           && draw(written, count, places[0], 0, 1, PSF_LIMIT, 5, &is) == PSF_OK && is.segments[2].x == 450 * 65536, "a rounded one at the defaults");

@@ -567,6 +567,9 @@ class Variable(Case):
         self.refused(Status.NO_GLYPH, self.font.at()[3].svg_path)
         self.refused(Status.NO_GLYPH, lambda: self.font.at()[65536].advance)
         self.refused(Status.TOO_LONG, VariableFont.from_bytes(self.file, limit=5).at()[1].svg_path)
+        # three regions of two axes cost six units
+        self.refused(Status.TOO_LONG, lambda: VariableFont.from_bytes(self.file, limit=5).at()[1].advance)
+        self.assertEqual(VariableFont.from_bytes(self.file, limit=6).at()[1].advance, 600)
         self.assertEqual((len(self.font), [glyph.advance for glyph in self.font.at()]), (3, [500, 600, 560]))
         self.refused(Status.CFF2_VERSION, VariableFont.from_bytes(self.changed(b"CFF2", 0, 1)).__len__)
         self.refused(Status.NO_TABLE, Font.from_bytes, self.file)

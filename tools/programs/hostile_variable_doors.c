@@ -40,7 +40,7 @@ static double outline(size_t glyph) {
 static double advance(size_t glyph) {
     int64_t units;
     double since = seconds();
-    psf_variable_advance(file, length, 0, asked, axes, glyph, &units);
+    psf_variable_advance(file, length, 0, asked, axes, glyph, PSF_LIMIT, &units);
     return seconds() - since;
 }
 

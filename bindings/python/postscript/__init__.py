@@ -463,7 +463,7 @@ for _name, _arguments in {
         _bytes, _size, _size, POINTER(c_int32), _size, _size, c_uint64, POINTER(_Segment), _size, _sizes, POINTER(_Bounds),
     ],
     "psf_variable_glyphs": [_bytes, _size, _size, _sizes],
-    "psf_variable_advance": [_bytes, _size, _size, POINTER(c_int32), _size, _size, POINTER(c_int64)],
+    "psf_variable_advance": [_bytes, _size, _size, POINTER(c_int32), _size, _size, c_uint64, POINTER(c_int64)],
     "psf_file_instance": [
         _bytes, _size, _size, POINTER(c_int32), _size, c_uint32, c_uint64, _room, _size, _sizes, POINTER(_Refusal),
     ],
@@ -938,8 +938,9 @@ class VariableFont:
         self._view = file if isinstance(file, _View) else _View.of(file)
         #: the index of the face, from 0
         self.face = face
-        #: how many units a glyph may cost, and separately its location: each number and operator costs one unit per byte, a blend one
-        #: more per number on the stack; a location costs one per region, and per axis
+        #: how many units a glyph may cost, and separately its location and its advance: each number and operator costs one unit per
+        #: byte, a blend one more per number on the stack; a location costs one per region, and per axis; an advance costs one for each
+        #: region of the glyph's deltas and each axis
         self.limit = limit
         _outlines(self._view, face)
         #: the axes, in order
@@ -1109,10 +1110,11 @@ class VariableGlyph:
 
     @property
     def advance(self) -> float:
-        """The advance, in font units: `hmtx` plus the `HVAR` delta, rounded to the nearest unit. Further errors: `Status.NO_TABLE`,
-        `NO_ADVANCES`, `CUT_HVAR` and `UNKNOWN_HVAR`."""
+        """The advance, in font units: `hmtx` plus the `HVAR` delta, rounded to the nearest unit. Raises `Status.TOO_LONG` if the deltas
+        of the glyph cost more than the limit of the font. Further errors: `Status.NO_TABLE`, `NO_ADVANCES`, `CUT_HVAR` and
+        `UNKNOWN_HVAR`."""
         advance = c_int64()
-        _checked(_library.psf_variable_advance(*self._lent(), byref(advance)), self.number)
+        _checked(_library.psf_variable_advance(*self._lent(), self.place.font.limit, byref(advance)), self.number)
         return float(advance.value)
 
     @property

@@ -348,6 +348,7 @@ extern "C" {
         coordinates: *const i32,
         named: usize,
         glyph: usize,
+        limit: u64,
         advance: *mut i64,
     ) -> i32;
 }
@@ -573,7 +574,7 @@ pub fn variable_glyphs(file: &[u8], face: usize) -> Result<usize> {
 }
 
 /// The advance of a glyph of a face at a location.
-pub fn variable_advance(file: &[u8], face: usize, coordinates: &[i32], glyph: usize) -> Result<i64> {
+pub fn variable_advance(file: &[u8], face: usize, coordinates: &[i32], glyph: usize, limit: u64) -> Result<i64> {
     let mut advance = 0;
     let status = unsafe {
         psf_variable_advance(
@@ -583,6 +584,7 @@ pub fn variable_advance(file: &[u8], face: usize, coordinates: &[i32], glyph: us
             coordinates.as_ptr(),
             coordinates.len(),
             glyph,
+            limit,
             &mut advance,
         )
     };

@@ -200,8 +200,9 @@ impl<'a> VariableFont<'a> {
         }
     }
 
-    /// Returns how many units a glyph may cost, and separately its location, by default [`crate::LIMIT`]. Each number and operator
-    /// costs one unit per byte, a blend one more per number on the stack. A location costs one unit per region, and per axis.
+    /// Returns how many units a glyph may cost, and separately its location and its advance, by default [`crate::LIMIT`]. Each number
+    /// and operator costs one unit per byte, a blend one more per number on the stack. A location costs one unit per region, and per
+    /// axis. An advance costs one unit for each region of the glyph's deltas and each axis.
     ///
     /// ```
     /// # let bytes = std::fs::read("examples/variable.otf")?;
@@ -303,7 +304,7 @@ impl<'a> Place<'a> {
         let mut segments = Vec::new();
         let font = &self.font;
         let bounds = c::variable_outline(font.file, font.face, &self.coordinates, glyph, font.limit, &mut segments)?;
-        let advance = c::variable_advance(font.file, font.face, &self.coordinates, glyph)?;
+        let advance = c::variable_advance(font.file, font.face, &self.coordinates, glyph, font.limit)?;
         Ok(Outline::at_place(&segments, advance, bounds))
     }
 
@@ -346,9 +347,11 @@ impl<'a> Place<'a> {
     /// # Errors
     ///
     /// [`Error::NoTable`] if the face has no `hhea` or `hmtx` table; [`Error::NoAdvances`]; [`Error::CutHvar`] and
-    /// [`Error::UnknownHvar`]; [`Error::CutAvar`] and [`Error::UnknownAvar`]; [`Error::NoGlyph`] for a number above 65535.
+    /// [`Error::UnknownHvar`]; [`Error::CutAvar`] and [`Error::UnknownAvar`]; [`Error::NoGlyph`] for a number above 65535;
+    /// [`Error::TooLong`] if the deltas of the glyph cost more than the limit of the font.
     pub fn advance(&self, glyph: usize) -> Result<f64> {
-        Ok(c::variable_advance(self.font.file, self.font.face, &self.coordinates, glyph)? as f64)
+        let font = &self.font;
+        Ok(c::variable_advance(font.file, font.face, &self.coordinates, glyph, font.limit)? as f64)
     }
 
     /// Writes a font file with a `CFF ` table of this location: a static font. Its glyphs, metrics, positions and names are those at the

@@ -121,6 +121,8 @@ fn refusals() {
     assert_eq!(place.outline(3).unwrap_err(), Error::NoGlyph);
     assert_eq!(place.advance(65536).unwrap_err(), Error::NoGlyph);
     assert_eq!(font.with_limit(5).at(&[]).unwrap().outline(1).unwrap_err(), Error::TooLong);
+    // three regions of two axes cost six units
+    assert_eq!([5, 6].map(|limit| font.with_limit(limit).at(&[]).unwrap().advance(1)), [Err(Error::TooLong), Ok(600.0)]);
     assert_eq!(Font::from_file(&bytes, 0).unwrap_err(), Error::NoTable);
     assert_eq!(VariableFont::from_file(&bytes[..3], 0).unwrap_err(), Error::CutFile);
 }

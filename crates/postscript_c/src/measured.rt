@@ -2,11 +2,11 @@
 ghost use Rattle.std.specs.Prelude.{◌≡◌, pos, ◌+ℤ◌, IfErr, IfOk};
 ghost use Rattle.std.specs.Int.{saturate_signed, w64};
 ghost use Rattle.postscript_sfnt.specs.Lent.{advance_in};
-ghost use Rattle.postscript_c.specs.Measured.{HasAdvances, HasBadVariations, HasVariations, IsAdded, IsMeasured, LacksAdvances, TellsAdvance, TellsMeasured, TellsMeasuredOf, unmeasured_code, variations_code};
+ghost use Rattle.postscript_c.specs.Measured.{HasAdvances, HasBadVariations, HasSteps, HasVariations, IsAdded, IsMeasured, LacksAdvances, TellsAdvance, TellsMeasured, TellsMeasuredOf, unmeasured_code, variations_code};
 
 use crate::files::file_status;
 use crate::place::{Unplaced, coordinates_at, unplaced_status};
-use crate::status::{NO_ADVANCES, NO_GLYPH, NO_TABLE};
+use crate::status::{NO_ADVANCES, NO_GLYPH, NO_TABLE, TOO_LONG};
 use postscript_sfnt::{Advances, FontFile};
 use postscript_variation::{AdvanceVariations, Error, in_whole};
 use std::alloc::Global;
@@ -24,6 +24,8 @@ pub(crate) enum Unmeasured {
     NoPlace(Unplaced),
     /// The `HVAR` table is malformed.
     BadVariations(Error),
+    /// The variation takes more steps than the limit.
+    TooLong,
 }
 
 /// The status of an error of the `HVAR` table.
@@ -46,6 +48,7 @@ fn unmeasured_status(e: &Unmeasured) -> i32
         Unmeasured::NoAdvances => NO_ADVANCES,
         Unmeasured::NoPlace(cause) => unplaced_status(cause),
         Unmeasured::BadVariations(cause) => variations_status(*cause),
+        Unmeasured::TooLong => TOO_LONG,
     }
 }
 
@@ -82,6 +85,16 @@ fn variations_of<'l>(
     }
 }
 
+/// The number of steps of the variation of the advance width of a glyph.
+fn steps_of(variations: Option<AdvanceVariations<'_>>, glyph: usize) -> u64
+    ensures { HasSteps variations.entry glyph result }
+{
+    match variations {
+        Some(variations) => variations.steps(glyph),
+        None => 0,
+    }
+}
+
 /// The variation of the advance width of a glyph at normalized coordinates.
 fn added(variations: Option<AdvanceVariations<'_>>, glyph: usize, coordinates: &[i16]) -> i64
     ensures { IsAdded variations.entry glyph coordinates.now result }
@@ -102,14 +115,15 @@ fn sum(advances: &Advances<'_>, glyph: u16, more: i64) -> i64
     i64::from(advances.of(glyph)).saturating_add(more)
 }
 
-/// The advance width of a glyph of a face at user coordinates.
+/// The advance width of a glyph of a face at user coordinates, within a limit.
 fn measured(
     alloc: Global,
     file: &FontFile<'_>,
     values: &[i32],
     glyph: usize,
+    limit: u64,
 ) -> Result<i64, Unmeasured>
-    ensures { IsMeasured file.now values.now glyph result }
+    ensures { IsMeasured file.now values.now glyph limit result }
 {
     let Ok(number) = u16::try_from(glyph) else {
         return Err(Unmeasured::NoGlyph);
@@ -118,6 +132,9 @@ fn measured(
     match coordinates_at(alloc, file, values) {
         Ok(coordinates) => match variations_of(file) {
             Ok(variations) => {
+                if limit < steps_of(variations, glyph) {
+                    return Err(Unmeasured::TooLong);
+                }
                 let more = added(variations, glyph, &coordinates);
                 Ok(sum(&advances, number, more))
             }
@@ -140,17 +157,18 @@ fn tell_advance(answer: &Result<i64, Unmeasured>, advance: &mut i64) -> i32
     }
 }
 
-/// Stores the advance width of a glyph of a face at user coordinates.
+/// Stores the advance width of a glyph of a face at user coordinates, within a limit.
 fn tell_measured_of(
     alloc: Global,
     file: &FontFile<'_>,
     values: &[i32],
     glyph: usize,
+    limit: u64,
     advance: &mut i64,
 ) -> i32
-    ensures { TellsMeasuredOf file.now values.now glyph result advance.old advance.new }
+    ensures { TellsMeasuredOf file.now values.now glyph limit result advance.old advance.new }
 {
-    let answer = measured(alloc, file, values, glyph);
+    let answer = measured(alloc, file, values, glyph, limit);
     tell_advance(&answer, advance)
 }
 
@@ -161,12 +179,13 @@ pub(crate) fn tell_measured(
     face: usize,
     values: &[i32],
     glyph: usize,
+    limit: u64,
     advance: &mut i64,
 ) -> i32
-    ensures { TellsMeasured bytes.now face values.now glyph result advance.old advance.new }
+    ensures { TellsMeasured bytes.now face values.now glyph limit result advance.old advance.new }
 {
     match FontFile::read(bytes, face) {
-        Ok(file) => tell_measured_of(alloc, &file, values, glyph, advance),
+        Ok(file) => tell_measured_of(alloc, &file, values, glyph, limit, advance),
         Err(e) => file_status(e),
     }
 }

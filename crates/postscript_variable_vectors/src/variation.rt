@@ -163,6 +163,14 @@ fn variations_of_advances(rt: HostRuntime) {
     }
 }
 
+/// Each delta set of the store has two deltas, and each region two axes: four steps. There is no third delta set.
+#[test]
+fn steps_of_advances(rt: HostRuntime) {
+    let advances = AdvanceVariations::read(HVAR).expect(&rt, "advances");
+    let steps = [advances.steps(0), advances.steps(1), advances.steps(2)];
+    holds(&rt, steps == [4, 4, 0], "steps");
+}
+
 #[test]
 fn variations_of_metrics(rt: HostRuntime) {
     let metrics = MetricVariations::read(MVAR).expect(&rt, "metrics");
