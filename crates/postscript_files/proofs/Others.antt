@@ -12,14 +12,12 @@ use Rattle.postscript_sfnt_write.specs.Tables.{IsGiven}
 use Rattle.postscript_sfnt_write.specs.declared.file.Table.{Table}
 use Rattle.postscript_files.specs.Copies.{HasAll, HasCopy, IsFileOf, NoFileOf}
 use Rattle.postscript_files.specs.Faces.{cff_tag}
-use Rattle.postscript_files.specs.Flats.{AreStaying, IsFlatFont, IsFlatOf, NoFlatOf, Stays, StayingHaveMore, dsig_tag}
+use Rattle.postscript_files.specs.Flats.{AreStaying, IsFlatFont, IsFlatOf, IsFlatRefusedBy, NoFlatOf, Stays, StayingHaveMore, dsig_tag}
 use Rattle.postscript_files.proofs.Twice.{no-twice, twice-tagged}
 use Rattle.postscript_files.specs.Others.{AreListedTo, AreOthers, Has, HasOthers, IsFileWith, IsUnwritten}
 use Rattle.postscript_files.specs.declared.error.Error.{Error}
 use Rattle.postscript_files.specs.declared.error.Error.TheVariants.{Cut, File, Font, Memory, MissingCharacter, MissingTable, NoAdvances, NoMap, Overlap, SameTag, TooLarge}
 use Rattle.postscript_files.specs.declared.error.Error.TheVariants as errors
-use Rattle.postscript_write.specs.Refusals.{IsRefusedBy}
-use Rattle.postscript_write.specs.Sources.{every}
 use Rattle.postscript_write.specs.declared.error.Error.{Error as Refusal}
 
 one-record : (bytes : List ℕ) (start count tag i j : ℕ) → IsFirstOf bytes start count tag i → IsFirstOf bytes start count tag j → i ≡ j
@@ -287,5 +285,5 @@ pub no-cff-so : (bytes : List ℕ) (number : ℕ) (old : FontFile) (e : Error) �
 no-cff-so bytes number old e read h = subst (NoFlatOf bytes number) (sym h.0) (refl, (old, read, h.1))
 
 pub no-font-so : (bytes : List ℕ) (number : ℕ) (old : FontFile) (cff : List ℕ) (e : Error) → IsFaceOf bytes number old →
-    IsTableOf old cff_tag cff → (fault : Refusal) × (e ≡ errors.Font fault) × IsRefusedBy every cff fault → NoFlatOf bytes number e
+    IsTableOf old cff_tag cff → (fault : Refusal) × (e ≡ errors.Font fault) × IsFlatRefusedBy cff fault → NoFlatOf bytes number e
 no-font-so bytes number old cff e read table h = subst (NoFlatOf bytes number) (sym h.1) (old, read, (cff, table, h.2))

@@ -20,16 +20,14 @@ use Rattle.postscript_sfnt_write.specs.Metrics.{KeepsBut}
 use Rattle.postscript_sfnt_write.specs.declared.file.Table.{Table}
 use Rattle.postscript_sfnt_write.specs.declared.mapping.Mapping.{Mapping}
 use Rattle.postscript_write.specs.Drawings.{DrawsTheSame}
-use Rattle.postscript_write.specs.Refusals.{IsSubsetRefusedBy}
 use Rattle.postscript_write.specs.SameGlyphs.{IsSameGlyph}
-use Rattle.postscript_write.specs.Sources.{choice_by}
 use Rattle.postscript_write.specs.declared.error.Error.{Error as Refusal}
 use Rattle.postscript_files.specs.Choices.{AreKeptPairs, IsFirstMissing, IsKept, NoneIsMissing, glyph_of, glyphs_of, named_of}
 use Rattle.postscript_files.specs.Copies.{tagged}
 use Rattle.postscript_files.specs.Faces.{IsBestMap, IsFaceIn, cff_tag, cmap_tag, hhea_tag, hmtx_tag, maxp_tag}
 use Rattle.postscript_files.specs.Listed.{AreParts, HasParts, IsFileOfParts, IsUnmade, NoFileOfParts}
 use Rattle.postscript_files.specs.Made.{AreBytes, HasNoOrigins, IsCutFile, IsHmtxOf, IsMade, IsMapOf}
-use Rattle.postscript_files.specs.Origins.{AreFew, AreOrigins, AreOriginsOf, IsKeptGlyph, IsOrigin, NoOriginsOf}
+use Rattle.postscript_files.specs.Origins.{AreFew, AreOrigins, AreOriginsOf, IsCutRefusedBy, IsKeptGlyph, IsOrigin, NoOriginsOf}
 use Rattle.postscript_files.specs.Subsets.{AreCounted, AreInOrder, AreTablesOf, HasSame, IsSame, IsSubsetFace, IsSubsetFile, IsSubsetFont, IsSubsetOf, KeepsNumber, NoSubsetBy, NoSubsetFrom, NoSubsetOf}
 use Rattle.postscript_files.specs.declared.choice.Choice.{Choice}
 use Rattle.postscript_files.specs.declared.error.Error.{Error}
@@ -511,13 +509,13 @@ no-written-so (Err e) choice old pairs named origins font made kept same is few 
 -- the font of the named glyphs is refused
 pub no-font-so : (e : Error) (choice : Choice) (old : Face) (pairs : List Mapping) (named all : List ℕ) → AreKeptPairs choice old.map pairs →
     named ≡ named_of (glyphs_of choice) pairs → all ≡ named →
-    (fault : Refusal) × (e ≡ errors.Font fault) × IsSubsetRefusedBy all (choice_by choice.retain_gids) old.cff.now fault →
+    (fault : Refusal) × (e ≡ errors.Font fault) × IsCutRefusedBy choice.retain_gids all old.cff.now fault →
     NoSubsetFrom choice old e
 no-font-so e choice old pairs named all kept is same h =
     subst (λ (x : Error). NoSubsetFrom choice old x) (sym h.1) (
       pairs,
       kept,
-      subst (λ (xs : List ℕ). IsSubsetRefusedBy xs (choice_by choice.retain_gids) old.cff.now h.0) (same ∙ is) h.2,
+      subst (λ (xs : List ℕ). IsCutRefusedBy choice.retain_gids xs old.cff.now h.0) (same ∙ is) h.2,
     )
 
 pub no-origins-so : (e : Error) (choice : Choice) (old : Face) (pairs : List Mapping) (named all : List ℕ) →
@@ -536,7 +534,7 @@ no-order e choice old pairs all kept same h = elim h [
   | inr font ↦ subst (λ (x : Error). NoOriginsOf choice old x) (sym font.1) (
     pairs,
     kept,
-    subst (λ (xs : List ℕ). IsSubsetRefusedBy xs (choice_by choice.retain_gids) old.cff.now font.0) same font.2,
+    subst (λ (xs : List ℕ). IsCutRefusedBy choice.retain_gids xs old.cff.now font.0) same font.2,
   )
 ]
 

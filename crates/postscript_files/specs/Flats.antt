@@ -9,9 +9,11 @@ use Rattle.postscript_sfnt_write.specs.Tables.{IsGiven}
 use Rattle.postscript_sfnt_write.specs.declared.file.Table.{Table}
 use Rattle.postscript_write.specs.Drawings.{KeepsDrawings}
 use Rattle.postscript_write.specs.Making.{IsKeptFont}
-use Rattle.postscript_write.specs.Refusals.{IsRefusedBy}
+use Rattle.postscript_write.specs.Refusals.{HasOtherFonts, IsRefusedBy, NeedsNoName}
 use Rattle.postscript_write.specs.SameGlyphs.{KeepsGlyphs}
 use Rattle.postscript_write.specs.Sources.{IsWritten, every}
+use Rattle.postscript_write.specs.declared.error.Error.{Error as Refusal}
+use Rattle.postscript_write.specs.declared.error.Error.TheVariants.{SeveralFonts}
 use Rattle.postscript_files.specs.Copies.{AreTooLarge, HasCopy}
 use Rattle.postscript_files.specs.Faces.{OfFile, cff_tag}
 use Rattle.postscript_files.specs.Sound.{IsSoundFont}
@@ -72,11 +74,17 @@ pub record IsFlatTooLarge (old : FontFile) (font : List ℕ) : Type 0 where
   pub stay : AreStaying old rest
   pub too_large : AreTooLarge (first ∷ rest)
 
+-- why a `CFF ` table is not written without subroutines, as `flat_font` says
+pub record IsFlatRefusedBy (cff : List ℕ) (e : Refusal) : Type 0 where
+  pub why : IsRefusedBy every cff e
+  pub names : NeedsNoName e
+  pub several : HasOtherFonts cff → e ≡ SeveralFonts
+
 -- why no such file is written
 abbrev pub NoFlatOf : (bytes : List ℕ) → (number : ℕ) → Error → Type 0
 NoFlatOf bytes number (File e) = NoFace e bytes number
 NoFlatOf bytes number (MissingTable tag) = (tag ≡ cff_tag) × OfFile bytes number (λ old. HasNoTable old cff_tag)
-NoFlatOf bytes number (Font e) = OfFile bytes number (λ old. (cff : List ℕ) × IsTableOf old cff_tag cff × IsRefusedBy every cff e)
+NoFlatOf bytes number (Font e) = OfFile bytes number (λ old. (cff : List ℕ) × IsTableOf old cff_tag cff × IsFlatRefusedBy cff e)
 NoFlatOf bytes number Memory = Unit {0}
 NoFlatOf bytes number Overlap = OfFile bytes number (λ old. StayingHaveMore old (length bytes))
 NoFlatOf bytes number TooLarge = OfFile bytes number (λ old. (cff font : List ℕ) × IsTableOf old cff_tag cff × IsFlatFont cff font

@@ -13,13 +13,12 @@ use Rattle.postscript_sfnt_write.specs.declared.metrics.Metric.{Metric}
 use Rattle.postscript_view.specs.declared.font.FontView.{FontView}
 use Rattle.postscript_write.specs.Components.{AreKept, IsOpened}
 use Rattle.postscript_write.specs.Drawings.{DrawsKept, DrawsTheSame}
-use Rattle.postscript_write.specs.Refusals.{IsSubsetRefusedBy}
 use Rattle.postscript_write.specs.SameGlyphs.{GlyphsKept, IsSameGlyph}
-use Rattle.postscript_write.specs.Sources.{choice_by, chosen}
+use Rattle.postscript_write.specs.Sources.{chosen}
 use Rattle.postscript_write.specs.declared.error.Error.{Error as Refusal}
 use Rattle.postscript_files.specs.Faces.{IsFaceIn, post_tag}
 use Rattle.postscript_files.specs.Measures.{metric_in}
-use Rattle.postscript_files.specs.Origins.{IsOrigin}
+use Rattle.postscript_files.specs.Origins.{IsCutRefusedBy, IsOrigin}
 use Rattle.postscript_files.specs.Renumbered.{AreNumbersOf, AreRenumbered, AreSmall}
 use Rattle.postscript_files.specs.Subsets.{IsSubsetFace}
 use Rattle.postscript_files.specs.declared.choice.Choice.{Choice}
@@ -81,7 +80,7 @@ pub record IsMade (face : Face) (pairs : List Mapping) (origins : List ℕ) (mad
 -- why the origins are not found
 abbrev pub HasNoOrigins : (retain : Bool) → (named cff : List ℕ) → Error → Type 0
 HasNoOrigins retain named cff e = (e ≡ errors.Memory)
-    ⊎ ((fault : Refusal) × (e ≡ errors.Font fault) × IsSubsetRefusedBy named (choice_by retain) cff fault)
+    ⊎ ((fault : Refusal) × (e ≡ errors.Font fault) × IsCutRefusedBy retain named cff fault)
 
 -- A file that opens, and whose face is a subset of this one however it is read.
 pub record IsCutFile (choice : Choice) (old : Face) (file : List ℕ) : Type 0 where

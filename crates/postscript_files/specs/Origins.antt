@@ -7,8 +7,9 @@ use Rattle.postscript_drawing.specs.Components.{glyphs_of as glyphs_in}
 use Rattle.postscript_sfnt_write.specs.declared.mapping.Mapping.{Mapping}
 use Rattle.postscript_view.specs.declared.font.FontView.{FontView}
 use Rattle.postscript_write.specs.Components.{AreKept, IsOpened}
-use Rattle.postscript_write.specs.Refusals.{IsRefusedAs, IsSubsetRefusedBy}
+use Rattle.postscript_write.specs.Refusals.{IsRefusedAs, IsSubsetRefusedBy, NeedsNoName}
 use Rattle.postscript_write.specs.Sources.{choice_by}
+use Rattle.postscript_write.specs.declared.error.Error.{Error as Refusal}
 use Rattle.postscript_write.specs.declared.error.Error.TheVariants as refusals
 use Rattle.postscript_files.specs.Choices.{AreKeptPairs, IsKept, glyphs_of, named_of}
 use Rattle.postscript_files.specs.declared.choice.Choice.{Choice}
@@ -53,6 +54,11 @@ IsKeptGlyph choice face glyph = (pairs : List Mapping) × (kept : List ℕ) × A
 abbrev pub HasGlyphs : Face → (count : ℕ) → Type 0
 HasGlyphs face count = (font : FontView) × IsOpened face.cff.now font × (count ≡ glyphs_in font)
 
+-- why a font with only these glyphs is not written, as `subset` says, or `subset_keeping` if glyphs keep their numbers
+pub record IsCutRefusedBy (retain : Bool) (named cff : List ℕ) (e : Refusal) : Type 0 where
+  pub why : IsSubsetRefusedBy named (choice_by retain) cff e
+  pub names : retain ≡ true → NeedsNoName e
+
 -- why a font is not opened
 abbrev pub IsUnopened : (cff : List ℕ) → Error → Type 0
 IsUnopened cff e = (e ≡ errors.Memory)
@@ -62,5 +68,5 @@ IsUnopened cff e = (e ≡ errors.Memory)
 abbrev pub NoOriginsOf : Choice → Face → Error → Type 0
 NoOriginsOf choice face Memory = Unit {0}
 NoOriginsOf choice face (Font e) = (pairs : List Mapping) × AreKeptPairs choice face.map pairs
-    × IsSubsetRefusedBy (named_of (glyphs_of choice) pairs) (choice_by choice.retain_gids) face.cff.now e
+    × IsCutRefusedBy choice.retain_gids (named_of (glyphs_of choice) pairs) face.cff.now e
 NoOriginsOf choice face _ = ⊥

@@ -20,14 +20,13 @@ use Rattle.postscript_write.specs.Components.{IsOpened, IsSubset}
 use Rattle.postscript_write.specs.Drawings.{DrawsKept, DrawsTheSame}
 use Rattle.postscript_write.specs.Kept.{HasAllInPlace, HasAllKept}
 use Rattle.postscript_write.specs.Making.{IsFontBy}
-use Rattle.postscript_write.specs.Refusals.{IsSubsetRefusedBy}
 use Rattle.postscript_write.specs.SameGlyphs.{GlyphsKept, IsSameGlyph}
 use Rattle.postscript_write.specs.Sources.{AreThere, choice_by}
 use Rattle.postscript_files.specs.Choices.{AreKeptPairs, IsFirstOf, IsKept, NoneIsMissing, glyphs_of, named_of}
 use Rattle.postscript_files.specs.Copies.{AreTooLarge, HasCopy, IsListed, tagged}
 use Rattle.postscript_files.specs.Faces.{IsFaceIn, IsNeeded, NoFaceIn, cff_tag, cmap_tag, hhea_tag, hmtx_tag, maxp_tag, post_tag}
 use Rattle.postscript_files.specs.Measures.{bearing_in}
-use Rattle.postscript_files.specs.Origins.{AreOriginsOf, IsKeptGlyph, IsOrigin}
+use Rattle.postscript_files.specs.Origins.{AreOriginsOf, IsCutRefusedBy, IsKeptGlyph, IsOrigin}
 use Rattle.postscript_files.specs.Sound.{IsSoundFont}
 use Rattle.postscript_files.specs.declared.choice.Choice.{Choice}
 use Rattle.postscript_files.specs.declared.choice.Given.{Given}
@@ -206,7 +205,7 @@ NoSubsetFrom choice old Cut = length old.maxp.now < 6
 NoSubsetFrom choice old (MissingCharacter char) = (choice.lenient ≡ false) × IsFirstOf old.map choice.chars.now char
 NoSubsetFrom choice old (SameTag tag) = IsTwice choice old.file tag
 NoSubsetFrom choice old (Font e) = (pairs : List Mapping) × AreKeptPairs choice old.map pairs
-    × IsSubsetRefusedBy (named_of (glyphs_of choice) pairs) (choice_by choice.retain_gids) old.cff.now e
+    × IsCutRefusedBy choice.retain_gids (named_of (glyphs_of choice) pairs) old.cff.now e
 NoSubsetFrom choice old _ = ⊥
 
 -- No subset of the face is written, or its `hhea` table is truncated.

@@ -2,10 +2,8 @@
 ghost use Rattle.std.specs.Prelude.{◌≡◌, ◌≢◌, ℕ, ◌<◌, List, length, OnOk, IfOk, IfErr, IsTrue, ◌↔◌, ◌⊎◌, ◌≤◌, drop};
 ghost use Rattle.std.specs.List.{sum_by};
 ghost use Rattle.postscript_sfnt.specs.Lent.{IsTableOf, tables_of, tag_of};
-ghost use Rattle.postscript_write.specs.Refusals.{IsRefusedBy};
 ghost use Rattle.postscript_write.specs.declared.error.Error.{Error as Refusal};
-ghost use Rattle.postscript_write.specs.Sources.{every as the_every};
-ghost use Rattle.postscript_files.specs.Flats.{IsFlatFont, IsFlatOf, NoFlatOf, StayingHaveMore};
+ghost use Rattle.postscript_files.specs.Flats.{IsFlatFont, IsFlatOf, IsFlatRefusedBy, NoFlatOf, StayingHaveMore};
 ghost use Rattle.postscript_sfnt_write.specs.declared.file.Table.{Table as Table_};
 ghost use Rattle.postscript_files.specs.Others.{AreListedTo, AreOthers, Has, IsFileWith, IsUnwritten};
 ghost use Rattle.postscript_files.specs.declared.error.Error.TheVariants as errors;
@@ -95,7 +93,7 @@ fn size(tables: &[Table<'_>]) -> usize
 /// Returns a `CFF ` table without subroutines.
 fn font_of(alloc: Global, cff: &[u8]) -> Result<Vec<u8>>
     ensures font { IfOk result (λ font. IsFlatFont cff.now font.items) }
-    ensures refused { IfErr result (λ e. (fault : Refusal) × (e ≡ errors.Font fault) × IsRefusedBy the_every cff.now fault) }
+    ensures refused { IfErr result (λ e. (fault : Refusal) × (e ≡ errors.Font fault) × IsFlatRefusedBy cff.now fault) }
 {
     match flat_font(alloc, cff) {
         Ok(font) => Ok(font),

@@ -4,13 +4,12 @@ ghost use Rattle.std.specs.List.{range_with_len};
 ghost use Rattle.postscript_sfnt.specs.Lent.{HasNoTable, IsTableOf};
 ghost use Rattle.postscript_sfnt.specs.Metrics.{IsGlyphs, IsWord};
 ghost use Rattle.postscript_sfnt_write.specs.Metrics.{KeepsBut};
-ghost use Rattle.postscript_write.specs.Refusals.{IsChoiceRefusedBy, IsSubsetRefusedBy};
-ghost use Rattle.postscript_write.specs.Sources.{choice_by};
+ghost use Rattle.postscript_write.specs.Refusals.{IsChoiceRefusedBy};
 ghost use Rattle.postscript_write.specs.declared.error.Error.{Error as Refusal};
 ghost use Rattle.postscript_files.specs.Copies.{IsListed};
 ghost use Rattle.postscript_files.specs.Listed.{Adds, AreCopiedTo, AreGivenTo, AreMade, CountsCopied, CountsGiven, IsFileOfParts, IsUnmade, NoFileOfParts, Puts};
 ghost use Rattle.postscript_files.specs.Made.{AreBytes, HasNoOrigins, IsCutFile, IsHmtxOf, IsMade, IsMapOf, IsPostOf};
-ghost use Rattle.postscript_files.specs.Origins.{AreFew, AreOrigins, IsUnopened};
+ghost use Rattle.postscript_files.specs.Origins.{AreFew, AreOrigins, IsCutRefusedBy, IsUnopened};
 ghost use Rattle.postscript_files.specs.Renumbered.{AreSmall};
 ghost use Rattle.postscript_files.specs.Subsets.{IsCopied, IsGivenTag, IsSubsetFile, IsSubsetFont, IsSubsetOf, NoSubsetBy, NoSubsetFrom, NoSubsetOf};
 ghost use Rattle.postscript_files.specs.declared.error.Error.TheVariants as errors;
@@ -35,7 +34,7 @@ const NO_POST: [u8; 32] = [0; 32];
 /// Writes a font with only these glyphs, which keep their numbers.
 fn font_keeping(alloc: Global, cff: &[u8], named: &[usize]) -> Result<Vec<u8>>
     ensures font { IfOk result (λ font. IsSubsetFont true named.now cff.now font.items) }
-    ensures refused { IfErr result (λ e. (fault : Refusal) × (e ≡ errors.Font fault) × IsSubsetRefusedBy named.now (choice_by true) cff.now fault) }
+    ensures refused { IfErr result (λ e. (fault : Refusal) × (e ≡ errors.Font fault) × IsCutRefusedBy true named.now cff.now fault) }
 {
     match subset_keeping(alloc, cff, named) {
         Ok(font) => Ok(font),
@@ -46,7 +45,7 @@ fn font_keeping(alloc: Global, cff: &[u8], named: &[usize]) -> Result<Vec<u8>>
 /// Writes a font with only these glyphs, which get new numbers.
 fn font_anew(alloc: Global, cff: &[u8], named: &[usize]) -> Result<Vec<u8>>
     ensures font { IfOk result (λ font. IsSubsetFont false named.now cff.now font.items) }
-    ensures refused { IfErr result (λ e. (fault : Refusal) × (e ≡ errors.Font fault) × IsSubsetRefusedBy named.now (choice_by false) cff.now fault) }
+    ensures refused { IfErr result (λ e. (fault : Refusal) × (e ≡ errors.Font fault) × IsCutRefusedBy false named.now cff.now fault) }
 {
     match subset(alloc, cff, named) {
         Ok(font) => Ok(font),
@@ -57,7 +56,7 @@ fn font_anew(alloc: Global, cff: &[u8], named: &[usize]) -> Result<Vec<u8>>
 /// Writes a font with only these glyphs. `retain_gids` is set if they keep their numbers.
 fn font_of(alloc: Global, cff: &[u8], named: &[usize], retain_gids: bool) -> Result<Vec<u8>>
     ensures font { IfOk result (λ font. IsSubsetFont retain_gids named.now cff.now font.items) }
-    ensures refused { IfErr result (λ e. (fault : Refusal) × (e ≡ errors.Font fault) × IsSubsetRefusedBy named.now (choice_by retain_gids) cff.now fault) }
+    ensures refused { IfErr result (λ e. (fault : Refusal) × (e ≡ errors.Font fault) × IsCutRefusedBy retain_gids named.now cff.now fault) }
 {
     if retain_gids {
         font_keeping(alloc, cff, named)

@@ -1,8 +1,7 @@
 use Rattle.std.proofs.Common.{◌≡◌, sym, subst, Bool}
 use Rattle.std.specs.Prelude.{IfErr, IfOk}
-use Rattle.postscript_write.specs.Refusals.{IsSubsetRefusedBy}
-use Rattle.postscript_write.specs.Sources.{choice_by}
 use Rattle.postscript_write.specs.declared.error.Error.{Error as Refusal}
+use Rattle.postscript_files.specs.Origins.{IsCutRefusedBy}
 use Rattle.postscript_files.specs.Subsets.{IsSubsetFont}
 use Rattle.postscript_files.specs.declared.error.Error.TheVariants as errors
 use Rattle.postscript_files.proofs.subset.font_of.Goals as goal
@@ -15,7 +14,7 @@ returns-then-retain_gids-clause-font c =
 pub returns-then-retain_gids-clause-refused : goal.returns-then-retain_gids-clause-refused
 returns-then-retain_gids-clause-refused c =
     subst (λ (retain : Bool). IfErr c.font_keeping.result (λ e. (fault : Refusal) × (e ≡ errors.Font fault)
-    × IsSubsetRefusedBy c.args.named.now (choice_by retain) c.args.cff.now fault)) (sym c.if-retain_gids.true) c.font_keeping.ensures.refused
+    × IsCutRefusedBy retain c.args.named.now c.args.cff.now fault)) (sym c.if-retain_gids.true) c.font_keeping.ensures.refused
 
 pub returns-else-retain_gids-clause-font : goal.returns-else-retain_gids-clause-font
 returns-else-retain_gids-clause-font c =
@@ -25,4 +24,4 @@ returns-else-retain_gids-clause-font c =
 pub returns-else-retain_gids-clause-refused : goal.returns-else-retain_gids-clause-refused
 returns-else-retain_gids-clause-refused c =
     subst (λ (retain : Bool). IfErr c.font_anew.result (λ e. (fault : Refusal) × (e ≡ errors.Font fault)
-    × IsSubsetRefusedBy c.args.named.now (choice_by retain) c.args.cff.now fault)) (sym c.if-retain_gids.false) c.font_anew.ensures.refused
+    × IsCutRefusedBy retain c.args.named.now c.args.cff.now fault)) (sym c.if-retain_gids.false) c.font_anew.ensures.refused
