@@ -62,7 +62,7 @@ IsAdded (Some variations) glyph coordinates added =
     ((total : ℤ) × AdvanceVariesBy variations glyph coordinates total × (added ≡ in_whole total))
     ⊎ (HasNoAdvance variations glyph × (added ≡ pos 0))
 
--- The steps of this variation: one for each delta of the glyph and each axis. Without a table `HVAR` there are none.
+-- The steps of this variation: one for each delta of the glyph and each axis. Without an `HVAR` table there are none.
 abbrev pub HasSteps : Option AdvanceVariations → (glyph steps : ℕ) → Type 0
 HasSteps None glyph steps = steps ≡ 0
 HasSteps (Some variations) glyph steps = TakesSteps variations glyph steps
