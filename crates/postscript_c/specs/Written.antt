@@ -1,5 +1,5 @@
 -- Written fonts, for C.
-use Rattle.std.specs.Prelude.{◌≡◌, ◌≢◌, ◌⊎◌, ℕ, ℤ, pos, List, [], length, Result, Ok, Err, IfOk, IfErr, OnOk, Vec}
+use Rattle.std.specs.Prelude.{◌≡◌, ◌≢◌, ◌⊎◌, ℕ, ◌<◌, ℤ, pos, List, [], length, Result, Ok, Err, IfOk, IfErr, OnOk, Vec}
 use Rattle.std.specs.declared.alloc.Global.{Global}
 use Rattle.postscript_base.specs.Error.{code}
 use Rattle.postscript_c.specs.Fitting.{FirstFits, TellsFits}
@@ -15,7 +15,7 @@ use Rattle.postscript_write.specs.Glyphs.{Sources}
 use Rattle.postscript_write.specs.Making.{IsKeptFont, Making}
 use Rattle.postscript_write.specs.Once.{BeginsWithRos, TellsOnce}
 use Rattle.postscript_write.specs.Readings.{HasLenientFont}
-use Rattle.postscript_write.specs.Refusals.{IsRefusedBy, IsSubsetRefusedBy}
+use Rattle.postscript_write.specs.Refusals.{HasOtherFonts, IsRefusedBy, IsSubsetRefusedBy, NeedsNoName}
 use Rattle.postscript_write.specs.SameGlyphs.{GlyphsKept, KeepsGlyphs}
 use Rattle.postscript_write.specs.Selected.{SelectsParts}
 use Rattle.postscript_write.specs.Sizes.{HasShortCodes, IsSmall}
@@ -78,13 +78,16 @@ pub record IsSound (bytes flat : List ℕ) : Type 0 where
   pub lenient : HasLenientFont bytes → HasLenientFont flat
   pub one : fonts bytes 0 ≡ Got 1 0
 
--- the font with all glyphs, or why there is none
+-- The font with all glyphs, or why there is none. The error is not that a glyph has no name. If the font set does not have exactly one font,
+-- the error says so.
 pub record IsFlat (bytes : List ℕ) (answer : Result (Vec ℕ Global) Error) : Type 0 where
   pub drawn : IfOk answer (λ flat. KeepsDrawings every bytes flat.items)
   pub same : IfOk answer (λ flat. KeepsGlyphs every bytes flat.items)
   pub written : IfOk answer (λ flat. IsWritten IsKeptFont every bytes flat.items)
   pub sound : IfOk answer (λ flat. IsSound bytes flat.items)
   pub refused : IfErr answer (λ e. IsRefusedBy every bytes e)
+  pub names : IfErr answer NeedsNoName
+  pub several : HasOtherFonts bytes → answer ≡ Err SeveralFonts
 
 -- The font with the named glyphs and their components, or why there is none. If it is written, the old font has the named glyphs, and each
 -- glyph in the list of `kept_glyphs` has its number by `numbers`. Naming no glyph is an error.
@@ -96,5 +99,6 @@ pub record IsSubset (is_made : Making) (numbers : (named bytes flat : List ℕ) 
   pub kept : IfOk answer (λ flat. numbers named bytes flat.items)
   pub sound : IfOk answer (λ flat. IsSound bytes flat.items)
   pub refused : IfErr answer (λ e. IsSubsetRefusedBy named sources bytes e)
+  pub several : 0 < length named → HasOtherFonts bytes → answer ≡ Err SeveralFonts
   pub there : OnOk answer ((font : View) → IsLaidOut bytes 0 font → AreThere named (length font.char_strings))
   pub some : named ≡ [] → answer ≡ Err NoGlyphs
