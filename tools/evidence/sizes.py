@@ -58,7 +58,7 @@ def main(words):
     if not words:
         sys.exit(__doc__)
     ratios, sums = collections.defaultdict(list), collections.Counter()
-    paths = files_of(*words)
+    paths = list(files_of(*words))
     with concurrent.futures.ProcessPoolExecutor() as pool:
         for path, found in zip(paths, pool.map(rows, paths)):
             for text, ours, theirs in found:
