@@ -9,7 +9,7 @@ struct Row {
     used: &'static [u32],
 }
 
-const ROWS: [Row; 10] = [
+const ROWS: [Row; 11] = [
     // no text
     Row {
         text: &[],
@@ -63,6 +63,12 @@ const ROWS: [Row; 10] = [
         text: &[0x628],
         mapped: &[0xfe8f, 0xfe95],
         used: &[0x628, 0xfe8f],
+    },
+    // forms of yeh with hamza above, which has two parts, and not the isolated form of alef
+    Row {
+        text: &[0x626],
+        mapped: &[0x627, 0x64a, 0xfe89, 0xfe8b, 0xfe8d],
+        used: &[0x626, 0x64a, 0xfe89, 0xfe8b],
     },
     // the jamo of a Hangul syllable
     Row {

@@ -41,57 +41,61 @@ mirror-is kept chars char same h =
     let other = any-there is_mirrored kept two.1 in
     mirror both.1 other.0 letter.0 ((same other.0).0 other.1) other.2 ((same letter.0).0 letter.1) letter.2
 
-arabic-is : (kept chars : List ℕ) (char : ℕ) → Same kept chars → is_arabic kept char ≡ true → IsForm chars char
-arabic-is kept chars char same h =
-    let both = and-both (is_arabic_form char) (is_some (compatible char) && has_all kept (compatible char)) h in
-    let two = and-both (is_some (compatible char)) (has_all kept (compatible char)) both.1 in
-    arabic both.0 (some-not (compatible char) two.0)
-    (all-there (has kept) (Contains chars) (λ x t. (same x).0 (has-there kept x t)) (compatible char) two.1)
+-- a list has the characters and their parts
+abbrev Owns : (own chars : List ℕ) → Type 0
+Owns own chars = (char : ℕ) → Contains own char ↔ IsOrParts (Contains chars) char
 
-form-is : (kept chars : List ℕ) (char : ℕ) → Same kept chars → is_form kept char ≡ true → IsForm chars char
-form-is kept chars char same h =
-    elim (or-cases (is_inserted (is_some kept) (list_any is_mark kept) char) ((mirrors kept && is_mirrored char) || is_arabic kept char) h) [
+arabic-is : (own chars : List ℕ) (char : ℕ) → Owns own chars → is_arabic own char ≡ true → IsForm chars char
+arabic-is own chars char owns h =
+    let both = and-both (is_arabic_form char) (is_some (compatible char) && has_all own (compatible char)) h in
+    let two = and-both (is_some (compatible char)) (has_all own (compatible char)) both.1 in
+    arabic both.0 (some-not (compatible char) two.0)
+    (all-there (has own) (IsOrParts (Contains chars)) (λ x t. (owns x).0 (has-there own x t)) (compatible char) two.1)
+
+form-is : (kept own chars : List ℕ) (char : ℕ) → Same kept chars → Owns own chars → is_form kept own char ≡ true → IsForm chars char
+form-is kept own chars char same owns h =
+    elim (or-cases (is_inserted (is_some kept) (list_any is_mark kept) char) ((mirrors kept && is_mirrored char) || is_arabic own char) h) [
       | inl i ↦ inserted-is kept chars char same i
-      | inr r ↦ elim (or-cases (mirrors kept && is_mirrored char) (is_arabic kept char) r) [
+      | inr r ↦ elim (or-cases (mirrors kept && is_mirrored char) (is_arabic own char) r) [
         | inl m ↦ mirror-is kept chars char same m
-        | inr a ↦ arabic-is kept chars char same a
+        | inr a ↦ arabic-is own chars char owns a
       ]
     ]
 
-is-inserted : (kept : List ℕ) (char : ℕ) → is_inserted (is_some kept) (list_any is_mark kept) char ≡ true → is_form kept char ≡ true
-is-inserted kept char h = left-or (is_inserted (is_some kept) (list_any is_mark kept) char) ((mirrors kept && is_mirrored char) || is_arabic kept char) h
+is-inserted : (kept own : List ℕ) (char : ℕ) → is_inserted (is_some kept) (list_any is_mark kept) char ≡ true → is_form kept own char ≡ true
+is-inserted kept own char h = left-or (is_inserted (is_some kept) (list_any is_mark kept) char) ((mirrors kept && is_mirrored char) || is_arabic own char) h
 
-is-other : (kept : List ℕ) (char : ℕ) → ((mirrors kept && is_mirrored char) || is_arabic kept char) ≡ true → is_form kept char ≡ true
-is-other kept char h = right-or (is_inserted (is_some kept) (list_any is_mark kept) char) ((mirrors kept && is_mirrored char) || is_arabic kept char) h
+is-other : (kept own : List ℕ) (char : ℕ) → ((mirrors kept && is_mirrored char) || is_arabic own char) ≡ true → is_form kept own char ≡ true
+is-other kept own char h = right-or (is_inserted (is_some kept) (list_any is_mark kept) char) ((mirrors kept && is_mirrored char) || is_arabic own char) h
 
-is-form : (kept chars : List ℕ) (char : ℕ) → Same kept chars → IsForm chars char → is_form kept char ≡ true
-is-form kept chars char same (space e one there) =
-    is-inserted kept char (left-or (is_some kept && (char == 0x20)) (list_any is_mark kept && (char == 0x25cc))
+is-form : (kept own chars : List ℕ) (char : ℕ) → Same kept chars → Owns own chars → IsForm chars char → is_form kept own char ≡ true
+is-form kept own chars char same owns (space e one there) =
+    is-inserted kept own char (left-or (is_some kept && (char == 0x20)) (list_any is_mark kept && (char == 0x25cc))
     (both-and (is_some kept) (char == 0x20) (there-some kept one ((same one).1 there)) (eq-eqb char 0x20 e)))
-is-form kept chars char same (dotted_circle e mark there is) =
-    is-inserted kept char (right-or (is_some kept && (char == 0x20)) (list_any is_mark kept && (char == 0x25cc))
+is-form kept own chars char same owns (dotted_circle e mark there is) =
+    is-inserted kept own char (right-or (is_some kept && (char == 0x20)) (list_any is_mark kept && (char == 0x25cc))
     (both-and (list_any is_mark kept) (char == 0x25cc) (there-any is_mark kept mark ((same mark).1 there) is) (eq-eqb char 0x25cc e)))
-is-form kept chars char same (mirror is other letter there mirrored here left) =
-    is-other kept char (left-or (mirrors kept && is_mirrored char) (is_arabic kept char) (both-and (mirrors kept) (is_mirrored char)
+is-form kept own chars char same owns (mirror is other letter there mirrored here left) =
+    is-other kept own char (left-or (mirrors kept && is_mirrored char) (is_arabic own char) (both-and (mirrors kept) (is_mirrored char)
     (both-and (list_any is_right_to_left kept) (list_any is_mirrored kept)
     (there-any is_right_to_left kept letter ((same letter).1 here) left) (there-any is_mirrored kept other ((same other).1 there) mirrored)) is))
-is-form kept chars char same (arabic is some all) =
-    is-other kept char (right-or (mirrors kept && is_mirrored char) (is_arabic kept char)
-    (both-and (is_arabic_form char) (is_some (compatible char) && has_all kept (compatible char)) is
-    (both-and (is_some (compatible char)) (has_all kept (compatible char)) (not-some (compatible char) some)
-    (there-all (has kept) (Contains chars) (λ x h. there-has kept x ((same x).1 h)) (compatible char) all))))
+is-form kept own chars char same owns (arabic is some all) =
+    is-other kept own char (right-or (mirrors kept && is_mirrored char) (is_arabic own char)
+    (both-and (is_arabic_form char) (is_some (compatible char) && has_all own (compatible char)) is
+    (both-and (is_some (compatible char)) (has_all own (compatible char)) (not-some (compatible char) some)
+    (there-all (has own) (IsOrParts (Contains chars)) (λ x h. there-has own x ((owns x).1 h)) (compatible char) all))))
 
 -- the base characters
-base-is : (mapped kept chars : List ℕ) → Same kept chars → (char : ℕ) → Contains (base mapped kept) char ↔ IsBase mapped chars char
-base-is mapped kept chars same char = (
-  (λ h. elim (Contains-append_cases kept (filter (is_form kept) mapped) char h) [
+base-is : (mapped kept own chars : List ℕ) → Same kept chars → Owns own chars → (char : ℕ) → Contains (base mapped kept own) char ↔ IsBase mapped chars char
+base-is mapped kept own chars same owns char = (
+  (λ h. elim (Contains-append_cases kept (filter (is_form kept own) mapped) char h) [
     | inl here ↦ inl ((same char).0 here)
-    | inr form ↦ let w = filter-there (is_form kept) mapped char form in inr (w.0, form-is kept chars char same w.1)
+    | inr form ↦ let w = filter-there (is_form kept own) mapped char form in inr (w.0, form-is kept own chars char same owns w.1)
   ]),
   (λ h. elim h [
-    | inl here ↦ Contains-append_left kept (filter (is_form kept) mapped) char ((same char).1 here)
-    | inr form ↦ Contains-append_right kept (filter (is_form kept) mapped) char
-        (there-filter (is_form kept) mapped char form.0 (is-form kept chars char same form.1))
+    | inl here ↦ Contains-append_left kept (filter (is_form kept own) mapped) char ((same char).1 here)
+    | inr form ↦ Contains-append_right kept (filter (is_form kept own) mapped) char
+        (there-filter (is_form kept own) mapped char form.0 (is-form kept own chars char same owns form.1))
   ]),
 )
 
@@ -180,11 +184,17 @@ is-composed mapped all known Is char knows (between whole is long some fewer eac
     (there-all (has (letters whole)) (Contains (letters whole)) (λ x h. there-has (letters whole) x h) (letters char) each)))))
 
 -- the characters that a shaper may use
-pub are-used : (mapped chars kept forms all parts known used : List ℕ) → IsPermutation chars kept → forms ≡ base mapped kept →
+pub are-used : (mapped chars kept whole own forms all parts known used : List ℕ) → IsPermutation chars kept → whole ≡ with_parts kept →
+    IsPermutation whole own → forms ≡ base mapped kept own →
     IsPermutation forms all → parts ≡ with_parts all → IsPermutation parts known →
     used ≡ forms ++ filter (is_composed (compose mapped all) known (filter is_long all)) mapped → AreUsed mapped chars used
-are-used mapped chars kept forms all parts known used p e q f r g char =
-    let bases = base-is mapped kept chars (same-from chars kept p) in
+are-used mapped chars kept whole own forms all parts known used p u v e q f r g char =
+    let has-kept = same-from chars kept p in
+    let turned = same-from whole own v in
+    let wholes : (x : ℕ) → Contains whole x ↔ IsOrParts (Contains chars) x =
+    λ x. subst (λ (xs : List ℕ). Contains xs x ↔ IsOrParts (Contains chars) x) (sym u) (known-is kept (Contains chars) has-kept x) in
+    let owns : Owns own chars = λ x. ((λ h. (wholes x).0 ((turned x).0 h)), (λ h. (turned x).1 ((wholes x).1 h))) in
+    let bases = base-is mapped kept own chars has-kept owns in
     let forms-are : (x : ℕ) → Contains forms x ↔ IsBase mapped chars x =
     λ x. subst (λ (xs : List ℕ). Contains xs x ↔ IsBase mapped chars x) (sym e) (bases x) in
     let same = same-from forms all q in

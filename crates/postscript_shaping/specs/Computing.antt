@@ -23,15 +23,16 @@ abbrev pub is_some : List ℕ → Bool
 is_some [] = false
 is_some (x ∷ xs) = true
 
-abbrev pub is_arabic : (kept : List ℕ) → (char : ℕ) → Bool
-is_arabic kept char = is_arabic_form char && (is_some (compatible char) && has_all kept (compatible char))
+abbrev pub is_arabic : (own : List ℕ) → (char : ℕ) → Bool
+is_arabic own char = is_arabic_form char && (is_some (compatible char) && has_all own (compatible char))
 
-abbrev pub is_form : (kept : List ℕ) → (char : ℕ) → Bool
-is_form kept char = is_inserted (is_some kept) (list_any is_mark kept) char || ((mirrors kept && is_mirrored char) || is_arabic kept char)
+-- `own` has the kept characters and their parts
+abbrev pub is_form : (kept own : List ℕ) → (char : ℕ) → Bool
+is_form kept own char = is_inserted (is_some kept) (list_any is_mark kept) char || ((mirrors kept && is_mirrored char) || is_arabic own char)
 
 -- the kept characters, and their forms in the font
-abbrev pub base : (mapped kept : List ℕ) → List ℕ
-base mapped kept = kept ++ filter (is_form kept) mapped
+abbrev pub base : (mapped kept own : List ℕ) → List ℕ
+base mapped kept own = kept ++ filter (is_form kept own) mapped
 
 abbrev pub with_parts : (chars : List ℕ) → List ℕ
 with_parts chars = chars ++ flat_map parts chars

@@ -67,27 +67,27 @@ fn is_inserted(some: bool, marks: bool, char: u32) -> bool
     (some && char == SPACE) || (marks && char == DOTTED_CIRCLE)
 }
 
-/// Returns whether a character is an Arabic presentation form of kept characters.
-fn is_arabic(kept: &[u32], char: u32) -> bool
-    requires { IsNonDecreasing kept.now }
-    ensures { result ≡ the_arabic kept.now char }
+/// Returns whether a character is an Arabic presentation form of kept characters. `own` has these and their parts.
+fn is_arabic(own: &[u32], char: u32) -> bool
+    requires { IsNonDecreasing own.now }
+    ensures { result ≡ the_arabic own.now char }
 {
     if !is_arabic_form(char) {
         return false;
     }
     let parts = compatible(char);
-    !parts.is_empty() && has_all(kept, parts)
+    !parts.is_empty() && has_all(own, parts)
 }
 
-/// Returns whether a shaper may use a character as a form of kept ones.
-fn is_form(kept: &[u32], traits: Traits, char: u32) -> bool
-    requires order { IsNonDecreasing kept.now }
-    requires traits { AreTraits kept.now traits }
-    ensures { result ≡ the_form kept.now char }
+/// Returns whether a shaper may use a character as a form of kept ones. `own` has these and their parts.
+fn is_form(_kept: &[u32], own: &[u32], traits: Traits, char: u32) -> bool
+    requires order { IsNonDecreasing own.now }
+    requires traits { AreTraits _kept.now traits }
+    ensures { result ≡ the_form _kept.now own.now char }
 {
     is_inserted(traits.some, traits.marks, char)
         || (traits.mirrors && is_mirrored(char))
-        || is_arabic(kept, char)
+        || is_arabic(own, char)
 }
 
 /// Adds the forms of a font for kept characters.
@@ -95,30 +95,32 @@ fn put_forms(
     all: &mut Vec<u32>,
     mapped: &[u32],
     kept: &[u32],
+    own: &[u32],
     traits: Traits,
 ) -> Result<(), AllocError>
-    requires order { IsNonDecreasing kept.now }
+    requires order { IsNonDecreasing own.now }
     requires traits { AreTraits kept.now traits }
-    ensures { OnOk result (all.new.items ≡ all.old.items ++ filter (the_form kept.now) mapped.now) }
+    ensures { OnOk result (all.new.items ≡ all.old.items ++ filter (the_form kept.now own.now) mapped.now) }
 {
     for char in mapped {
-        if is_form(kept, traits, *char) {
+        if is_form(kept, own, traits, *char) {
             all.push(*char)?;
         }
     }
     Ok(())
 }
 
-/// Returns the kept characters, and their forms in a font.
+/// Returns the kept characters, and their forms in a font. `own` has the kept characters and their parts.
 pub(crate) fn with_forms(
     alloc: Global,
     mapped: &[u32],
     kept: &[u32],
+    own: &[u32],
 ) -> Result<Vec<u32>, AllocError>
-    requires { IsNonDecreasing kept.now }
-    ensures { IfOk result (λ all. all.items ≡ the_base mapped.now kept.now) }
+    requires { IsNonDecreasing own.now }
+    ensures { IfOk result (λ all. all.items ≡ the_base mapped.now kept.now own.now) }
 {
     let mut all = Vec::from_slice(alloc, kept)?;
-    put_forms(&mut all, mapped, kept, traits_of(kept))?;
+    put_forms(&mut all, mapped, kept, own, traits_of(kept))?;
     Ok(all)
 }

@@ -14,7 +14,7 @@ use std::alloc::{AllocError, Global};
 /// - U+0020, which is drawn for characters that shapers hide, if the text is not empty;
 /// - U+25CC, which is inserted before a mark without a base, if the text has a mark;
 /// - mirrored characters such as brackets, if the text has one, and has a letter that is written from right to left;
-/// - Arabic presentation forms of characters of the text;
+/// - Arabic presentation forms of characters of the text, also of those that can be decomposed, such as alef with hamza above;
 /// - the characters that these can be decomposed to, in one or more steps;
 /// - if one of these, such as a combining mark or a jamo, can be composed with a character before it: the characters that can
 ///   be composed.
@@ -29,7 +29,9 @@ pub fn shaped(alloc: Global, mapped: &[u32], chars: &[u32]) -> Result<Vec<u32>, 
     ensures { IfOk result (λ all. AreUsed mapped.now chars.now all.items) }
 {
     let kept = sorted(alloc, chars)?;
-    let forms = with_forms(alloc, mapped, &kept)?;
+    let whole = with_parts(alloc, &kept)?;
+    let own = sorted(alloc, &whole)?;
+    let forms = with_forms(alloc, mapped, &kept, &own)?;
     let base = sorted(alloc, &forms)?;
     let parts = with_parts(alloc, &base)?;
     let known = sorted(alloc, &parts)?;
