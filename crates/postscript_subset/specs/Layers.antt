@@ -70,13 +70,18 @@ IsGdef NotChosen file origins left new = ⊥
 IsGdef Kept file origins left new = OfTable file gdef_tag (λ gdef. (0 < word gdef 4) × KeepsGlyphs (are_few origins) gdef origins new)
 IsGdef (Lost e) file origins left new = OfTable file gdef_tag (λ gdef. (0 < word gdef 4) × RefusesGlyphs (are_few origins) e origins left)
 
+-- the table is not lost
+abbrev pub IsNotLost : Outcome → Type 0
+IsNotLost (Lost e) = ⊥
+IsNotLost _ = Unit {0}
+
 -- The outcome for `GSUB`, and the new table. It has only the chosen features, and lookups that use classes or sets of marks if `GDEF` has these. It is
 -- lost if it is refused, or with `GDEF`.
 abbrev pub IsGsub : Outcome → (file : FontFile) → (features : Features) → (lookups origins : List ℕ) → (gdef : Outcome) → (left : ℕ) → (new : List ℕ) → Type 0
 IsGsub Absent file features lookups origins gdef left new = HasNoTable file gsub_tag
 IsGsub NotChosen file features lookups origins gdef left new = ⊥
 IsGsub Kept file features lookups origins gdef left new =
-    OfTable file gsub_tag (λ gsub. OfWhole features new (KeepsRules (have_marks origins gdef) gsub lookups origins))
+    IsNotLost gdef × OfTable file gsub_tag (λ gsub. OfWhole features new (KeepsRules (have_marks origins gdef) gsub lookups origins))
 IsGsub (Lost e) file features lookups origins gdef left new = OfTable file gsub_tag (λ gsub. Refuses e gsub left ⊎ (gdef ≡ Lost e))
 
 -- The outcome for `GPOS`, and the new table. It is chosen if kerning or marks are, and has only the chosen features.
@@ -84,7 +89,7 @@ abbrev pub IsGpos : Outcome → (file : FontFile) → (features : Features) → 
 IsGpos Absent file features origins gdef left new = HasNoTable file gpos_tag
 IsGpos NotChosen file features origins gdef left new = (HavePositions features → ⊥) × OfTable file gpos_tag (λ gpos. Unit {0})
 IsGpos Kept file features origins gdef left new =
-    HavePositions features × OfTable file gpos_tag (λ gpos. OfWhole features new (KeepsPlaces (have_marks origins gdef) gpos origins))
+    HavePositions features × IsNotLost gdef × OfTable file gpos_tag (λ gpos. OfWhole features new (KeepsPlaces (have_marks origins gdef) gpos origins))
 IsGpos (Lost e) file features origins gdef left new =
     HavePositions features × OfTable file gpos_tag (λ gpos. Refuses e gpos left ⊎ (gdef ≡ Lost e))
 
