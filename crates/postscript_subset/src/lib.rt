@@ -19,11 +19,12 @@
 //! - If glyphs keep their numbers, the layout tables are copied, and a text of named glyphs has only glyphs that are the same
 //!   in the new face, after any substitutions.
 //! - `glyphs_with_layout` returns exactly the glyphs that the chosen lookups can make of the named ones.
-//! - A table is absent or lost only for the cause that its outcome names. Each error has its cause.
+//! - The outcome of a table names why it is absent or lost. If `GDEF` is lost, `GSUB` and `GPOS` are not kept. Each error has
+//!   its cause.
 //!
 //! # What is not proved
 //!
-//! - That there is enough memory, and which limit suffices.
+//! - That there is enough memory, which limit suffices, and that a table is lost as `TooLarge` only if it is too large.
 //! - What `postscript_layout_write` leaves out, such as reverse chaining and device tables.
 #![tactic(auto)]
 
