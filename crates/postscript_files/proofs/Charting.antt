@@ -7,7 +7,7 @@ use Rattle.std.proofs.lemmas.List.{get_or-map, length-map}
 use Rattle.std.proofs.lemmas.List.Elements.{Contains-append_cases, Contains-append_right}
 use Rattle.std.proofs.lemmas.Option.{get_or_from_slice_get, slice_get-get_or, slice_get-map, slice_get_within}
 use Rattle.postscript_sfnt.specs.declared.character_map.CharacterMap.{CharacterMap}
-use Rattle.postscript_sfnt_write.specs.Mappings.{IsMapping}
+use Rattle.postscript_sfnt_write.specs.Mappings.{CharsRise, IsMapping}
 use Rattle.postscript_sfnt_write.specs.declared.mapping.Mapping.{Mapping}
 use Rattle.postscript_files.specs.Choices.{AreKeptPairs, IsKept, glyph_of, glyphs_of, named_of}
 use Rattle.postscript_files.specs.Origins.{IsOrigin}
@@ -34,6 +34,15 @@ mapping-from pairs mappings numbers are k m h =
     sym (mapping-there pairs mappings numbers are k (get_or pairs k none) given) ∙ h in
     let same : renumber numbers (get_or pairs k none) ≡ m = cc in
     (get_or pairs k none, given, ap (λ (x : Mapping). x.char) same)
+
+-- mappings with new numbers are in the order of those with old ones
+pub renumbered-rise : (pairs mappings : List Mapping) (numbers : List ℕ) → AreRenumbered pairs numbers mappings → CharsRise pairs →
+    CharsRise mappings
+renumbered-rise pairs mappings numbers are rise i j a b less x y =
+    let first = mapping-from pairs mappings numbers are i a x in
+    let second = mapping-from pairs mappings numbers are j b y in
+    let up = rise i j first.0 second.0 less first.1 second.1 in
+    omega (arith, up, first.2, second.2)
 
 none-more : (one : Mapping) (rest : List Mapping) (char : ℕ) → one.char ≢ char →
     ((k : ℕ) (m : Mapping) → IsMapping rest k m → m.char ≡ char → ⊥) →

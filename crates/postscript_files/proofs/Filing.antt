@@ -21,6 +21,7 @@ use Rattle.postscript_sfnt_write.proofs.Placing.{length-in_file}
 use Rattle.postscript_sfnt_write.proofs.Sums.{adjusts-long, length-uint32, value-uint32, with_none, with_number}
 use Rattle.postscript_files.specs.Copies.{HasAll, IsCopy, IsFileOf, NoFileOf, NoNeighbours}
 use Rattle.postscript_files.specs.Refused.{IsTooMuch}
+use Rattle.postscript_files.specs.Sound.{IsSoundFile}
 use Rattle.postscript_files.specs.declared.error.Error.{Error}
 use Rattle.postscript_files.specs.declared.error.Error.TheVariants.{Cut, File, Font, Memory, MissingCharacter, MissingTable, NoAdvances, NoMap, Overlap, SameTag, TooLarge}
 
@@ -97,9 +98,10 @@ has-all tables sorted face moved it = record {
 }
 
 pub is-file : (tables sorted : List Table) (bytes : List ℕ) → IsPermutation tables sorted → Opens bytes (length sorted) →
-    AreLent bytes sorted → length bytes ≡ size_of sorted → IsFileOf tables bytes
-is-file tables sorted bytes moved opens lent size = record {
+    AreLent bytes sorted → length bytes ≡ size_of sorted → (0 < length sorted → IsSoundFile bytes) → IsFileOf tables bytes
+is-file tables sorted bytes moved opens lent size sound = record {
   opens = subst (Opens bytes) (length_permutation tables sorted moved) opens;
+  sound = subst (λ n. 0 < n → IsSoundFile bytes) (length_permutation tables sorted moved) sound;
   has = λ face read. has-all tables sorted face moved (lent face read);
   size = size ∙ same-size tables sorted moved;
 }
@@ -121,9 +123,10 @@ tags-rise tables up apart i j a b less first second =
 
 pub if-written : (r : Result (Vec ℕ Global) Error) (tables sorted : List Table) → IsPermutation tables sorted →
     IfOk r (λ file. Opens file.items (length sorted)) → IfOk r (λ file. AreLent file.items sorted) →
-    IfOk r (λ file. length file.items ≡ size_of sorted) → IfOk r (λ file. IsFileOf tables file.items)
-if-written (Ok file) tables sorted moved opens lent size = is-file tables sorted file.items moved opens lent size
-if-written (Err e) tables sorted moved opens lent size = tt
+    IfOk r (λ file. length file.items ≡ size_of sorted) → IfOk r (λ file. 0 < length sorted → IsSoundFile file.items) →
+    IfOk r (λ file. IsFileOf tables file.items)
+if-written (Ok file) tables sorted moved opens lent size sound = is-file tables sorted file.items moved opens lent size sound
+if-written (Err e) tables sorted moved opens lent size sound = tt
 
 too-much : (e : Error) (tables sorted : List Table) → IsPermutation tables sorted → IsTooMuch e sorted → NoFileOf e tables
 too-much Memory tables sorted moved h = tt

@@ -186,6 +186,10 @@ pub if-parts : (r : Result (Vec ℕ Global) Error) (choice : Choice) (old : Font
     IfOk r (λ file. IsFileOfParts choice old font made file.items)
 if-parts (Ok file) choice old font made tables all same it is = record {
   opens = (length all, is.opens);
+  sound =
+      let within = slice_get_within tables it.cff.0 it.cff.1 it.cff.2 in
+      let as_many = ap length same in
+      is.sound (omega (arith, within, as_many));
   is = λ new read. has-parts choice old font made tables new it (subst (HasAll new) same (is.has new read));
 }
 if-parts (Err e) choice old font made tables all same it is = tt

@@ -155,6 +155,7 @@ pub file-with : (old : FontFile) (font : List ℕ) (tables : List Table) (bytes 
     AreListedTo old (tables_of old) tables → IsFileOf tables bytes → IsFileWith old font bytes
 file-with old font tables bytes it listed file = record {
   opens = (length tables, file.opens);
+  sound = file.sound it.some;
   is = λ new read. others-in old font tables new it listed (file.has new read);
 }
 
@@ -245,6 +246,7 @@ flat-so (Ok file) bytes number old cff font given read table flat same is = reco
   old = old;
   was = read;
   opens = is.opens;
+  sound = is.sound;
   is = λ new made.
       let h = is.is new made in
       record {

@@ -22,7 +22,7 @@ use Rattle.postscript_sfnt_write.specs.declared.mapping.Mapping.{Mapping}
 use Rattle.postscript_write.specs.Drawings.{DrawsTheSame}
 use Rattle.postscript_write.specs.SameGlyphs.{IsSameGlyph}
 use Rattle.postscript_write.specs.declared.error.Error.{Error as Refusal}
-use Rattle.postscript_files.specs.Choices.{AreKeptPairs, IsFirstMissing, IsKept, NoneIsMissing, glyph_of, glyphs_of, named_of}
+use Rattle.postscript_files.specs.Choices.{AreKeptPairs, AreMappingsOf, IsFirstMissing, IsKept, NoneIsMissing, glyph_of, glyphs_of, named_of}
 use Rattle.postscript_files.specs.Copies.{tagged}
 use Rattle.postscript_files.specs.Faces.{IsBestMap, IsFaceIn, cff_tag, cmap_tag, hhea_tag, hmtx_tag, maxp_tag}
 use Rattle.postscript_files.specs.Listed.{AreParts, HasParts, IsFileOfParts, IsUnmade, NoFileOfParts}
@@ -35,7 +35,7 @@ use Rattle.postscript_files.specs.declared.error.Error.TheVariants.{Cut, File, F
 use Rattle.postscript_files.specs.declared.error.Error.TheVariants as errors
 use Rattle.postscript_files.specs.declared.face.Face.{Face}
 use Rattle.postscript_files.specs.declared.subset.Made.{Made}
-use Rattle.postscript_files.proofs.Charting.{find-char, glyph-named, mapping-from, mapping-there, named-for, numbered}
+use Rattle.postscript_files.proofs.Charting.{find-char, glyph-named, mapping-from, mapping-there, named-for, numbered, renumbered-rise}
 use Rattle.postscript_files.proofs.Counting.{many-glyphs}
 use Rattle.postscript_files.proofs.Few.{few-pairs, two-small}
 use Rattle.postscript_files.proofs.Measuring.{many-metrics, same-advance, same-bearing}
@@ -128,6 +128,29 @@ char-only choice old new w char i some maps =
       | inr none ↦ absurd (let e = told.lost none in omega (arith, e, some))
     ]
 
+-- the mappings of the table are those of its best map
+are-mappings : (choice : Choice) (old new : Face) (w : Known choice old new) → AreMappingsOf new.map w.cmap.mappings
+are-mappings choice old new w = record {
+  rise = renumbered-rise w.pairs w.cmap.mappings w.cmap.numbers w.cmap.are w.kept.rise;
+  each = λ k m here.
+      let from = mapping-from w.pairs w.cmap.mappings w.cmap.numbers w.cmap.are k m here in
+      let kept : IsKept choice old.map m.char from.0.glyph =
+      subst (λ c. IsKept choice old.map c from.0.glyph) from.2 (w.kept.each k from.0 from.1) in
+      let new-one = char-kept choice old new w m.char from.0.glyph kept in
+      let is : new-one.0 ≡ m.glyph = (char-in choice old new w m.char new-one.0 new-one.2).given k m here refl in
+      record {
+        unicode = kept.has.unicode;
+        maps = subst (Maps new.map m.char) is new-one.2;
+        some = subst (λ n. 0 < n) is new-one.1;
+      };
+  all = λ char glyph has.
+      let told = char-in choice old new w char glyph has.maps in
+      elim (find-char w.cmap.mappings char) [
+        | inl h ↦ (h.0, h.1, h.2, h.3, sym (told.given h.0 h.1 h.2 h.3))
+        | inr none ↦ absurd (let e = told.lost none in let some = has.some in omega (arith, e, some))
+      ];
+}
+
 counted-so : (choice : Choice) (old new : Face) (w : Known choice old new) → AreCounted new (length w.origins)
 counted-so choice old new w = record {
   font = λ view laid. many-glyphs choice.retain_gids (named_of (glyphs_of choice) w.pairs) old.cff.now new.cff.now w.origins w.font w.are view laid;
@@ -216,7 +239,14 @@ subset-face choice old new pairs origins font made kept is are m has file read =
       };
       ordered = λ all h. in-order choice old new w all h;
       counted = (length origins, counted-so choice old new w);
-      cmap = record { headers = w.cmap.headers; format4 = w.cmap.format4 };
+      cmap = record {
+        headers = w.cmap.headers;
+        format4 = w.cmap.format4;
+        mappings = w.cmap.mappings;
+        are = are-mappings choice old new w;
+        told_in_4 = w.cmap.told_in_4;
+        only = w.cmap.only;
+      };
       hhea = subst (λ (xs : List ℕ). KeepsBut 34 old.hhea.now xs)
           (one-table new.file hhea_tag made.hhea.items new.hhea.now has.hhea read.hhea) m.hhea_kept;
       maxp = subst (λ (xs : List ℕ). KeepsBut 4 old.maxp.now xs)
@@ -345,6 +375,7 @@ if-subset (Ok file) choice old pairs named origins font made kept same is are m 
     subst (λ (xs : List ℕ). AreOrigins choice.retain_gids xs old.cff.now origins) same are in
     record {
       opens = it.opens;
+      sound = it.sound;
       there = opened choice old pairs origins font made file.items
           (some-origin choice.retain_gids named old.cff.now font origins is are) m it;
       is = λ new read.
@@ -357,6 +388,7 @@ pub subset-by : (r : Result (Vec ℕ Global) Error) (choice : Choice) (old : Fac
     IfOk r (λ file. IsSubsetFile choice old file.items)
 subset-by (Ok file) choice old all it = record {
   opens = it.opens;
+  sound = it.sound;
   all = all;
   there = it.there;
   is = it.is;
@@ -369,6 +401,7 @@ subset-so (Ok file) choice bytes number old was it = record {
   old = old;
   was = was;
   opens = it.opens;
+  sound = it.sound;
   all = it.all;
   there = it.there;
   is = it.is;

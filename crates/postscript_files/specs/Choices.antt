@@ -27,6 +27,13 @@ pub record AreKeptPairs (choice : Choice) (map : CharacterMap) (pairs : List Map
   pub all : (char glyph : ℕ) → IsKept choice map char glyph →
       (i : ℕ) × (pair : Mapping) × IsMapping pairs i pair × (pair.char ≡ char) × (pair.glyph ≡ glyph)
 
+-- these are all characters of Unicode that a map has a glyph for, each with its glyph, in ascending order
+pub record AreMappingsOf (map : CharacterMap) (mappings : List Mapping) : Type 0 where
+  pub rise : CharsRise mappings
+  pub each : (i : ℕ) (mapping : Mapping) → IsMapping mappings i mapping → HasGlyph map mapping.char mapping.glyph
+  pub all : (char glyph : ℕ) → HasGlyph map char glyph →
+      (i : ℕ) × (mapping : Mapping) × IsMapping mappings i mapping × (mapping.char ≡ char) × (mapping.glyph ≡ glyph)
+
 -- the map has no glyph for a character, or the number is no character of Unicode
 abbrev pub IsMissing : CharacterMap → (char : ℕ) → Type 0
 IsMissing map char = (0x110000 ≤ char) ⊎ Maps map char 0

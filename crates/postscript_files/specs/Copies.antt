@@ -7,6 +7,7 @@ use Rattle.postscript_sfnt.specs.declared.file.FontFile.{FontFile}
 use Rattle.postscript_sfnt_write.specs.Files.{Opens}
 use Rattle.postscript_sfnt_write.specs.Tables.{IsGiven, size_of}
 use Rattle.postscript_sfnt_write.specs.declared.file.Table.{Table}
+use Rattle.postscript_files.specs.Sound.{IsSoundFile}
 use Rattle.postscript_files.specs.declared.error.Error.{Error}
 use Rattle.postscript_files.specs.declared.error.Error.TheVariants.{Memory, SameTag, TooLarge}
 
@@ -27,9 +28,10 @@ pub record HasAll (face : FontFile) (tables : List Table) : Type 0 where
   pub only : (i : ℕ) → i < tables_of face → (k : ℕ) × (table : Table) × IsGiven tables k table × (table.tag ≡ tag_of face i)
   pub counted : tables_of face ≡ length tables
 
--- A file with one face of version "OTTO", which has copies of these tables only.
+-- A file with one face of version "OTTO", which has copies of these tables only. It is sound if it has a table.
 pub record IsFileOf (tables : List Table) (bytes : List ℕ) : Type 0 where
   pub opens : Opens bytes (length tables)
+  pub sound : 0 < length tables → IsSoundFile bytes
   pub has : (face : FontFile) → IsFaceOf bytes 0 face → HasAll face tables
   pub size : length bytes ≡ size_of tables
 

@@ -16,7 +16,7 @@ use Rattle.postscript_write.specs.declared.error.Error.{Error as Refusal}
 use Rattle.postscript_write.specs.declared.error.Error.TheVariants.{SeveralFonts}
 use Rattle.postscript_files.specs.Copies.{AreTooLarge, HasCopy}
 use Rattle.postscript_files.specs.Faces.{OfFile, cff_tag}
-use Rattle.postscript_files.specs.Sound.{IsSoundFont}
+use Rattle.postscript_files.specs.Sound.{IsSoundFile, IsSoundFont}
 use Rattle.postscript_files.specs.declared.error.Error.{Error}
 use Rattle.postscript_files.specs.declared.error.Error.TheVariants.{File, Font, Memory, MissingTable, Overlap, TooLarge}
 
@@ -46,11 +46,12 @@ pub record IsFlatFace (old new : FontFile) : Type 0 where
   pub others : (tag : ℕ) (table : List ℕ) → Stays tag → IsTableOf old tag table → HasCopy new tag table
   pub only : (i : ℕ) → i < tables_of new → (tag_of new i ≡ cff_tag) ⊎ (Stays (tag_of new i) × (HasNoTable old (tag_of new i) → ⊥))
 
--- The old file has the face. The new file has one face, of version "OTTO", and it is such a face however it is read.
+-- The old file has the face. The new file is sound. It has one face, of version "OTTO", and it is such a face however it is read.
 pub record IsFlatOf (bytes : List ℕ) (number : ℕ) (file : List ℕ) : Type 0 where
   pub old : FontFile
   pub was : IsFaceOf bytes number old
   pub opens : (count : ℕ) × Opens file count
+  pub sound : IsSoundFile file
   pub is : (new : FontFile) → IsFaceOf file 0 new → IsFlatFace old new
 
 -- The list has the tables of a face that are copied, each once. If two records have a tag, its table is that of the first one.

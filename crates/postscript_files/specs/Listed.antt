@@ -9,6 +9,7 @@ use Rattle.postscript_sfnt_write.specs.declared.file.Table.{Table}
 use Rattle.postscript_files.specs.Copies.{AreTooLarge, HasCopy, IsListed, tagged}
 use Rattle.postscript_files.specs.Faces.{IsNeeded, cff_tag, cmap_tag, hhea_tag, hmtx_tag, maxp_tag, post_tag}
 use Rattle.postscript_files.specs.Others.{Has}
+use Rattle.postscript_files.specs.Sound.{IsSoundFile}
 use Rattle.postscript_files.specs.Subsets.{IsExpected, IsTwice, given_tag, times}
 use Rattle.postscript_files.specs.declared.choice.Choice.{Choice}
 use Rattle.postscript_files.specs.declared.choice.Given.{Given}
@@ -102,7 +103,8 @@ pub record HasParts (choice : Choice) (old : FontFile) (font : List ℕ) (made :
   pub given : (i : ℕ) (table : Given) → slice_get choice.given.now i ≡ Some table → HasCopy new table.tag table.bytes.items
   pub only : (i : ℕ) → i < tables_of new → IsExpected choice old (tag_of new i)
 
--- a file with these tables only
+-- a sound file with these tables only
 pub record IsFileOfParts (choice : Choice) (old : FontFile) (font : List ℕ) (made : Made) (bytes : List ℕ) : Type 0 where
   pub opens : (count : ℕ) × Opens bytes count
+  pub sound : IsSoundFile bytes
   pub is : (new : FontFile) → IsFaceOf bytes 0 new → HasParts choice old font made new

@@ -6,7 +6,7 @@ use Rattle.postscript_sfnt.specs.Metrics.{IsGlyphs, IsWord}
 use Rattle.postscript_sfnt.specs.declared.file.FontFile.{FontFile}
 use Rattle.postscript_sfnt_write.specs.Files.{Opens}
 use Rattle.postscript_sfnt_write.specs.Headers.{HaveHeaders}
-use Rattle.postscript_sfnt_write.specs.Mappings.{AreTold, HasFormat4, IsReadable}
+use Rattle.postscript_sfnt_write.specs.Mappings.{AreTold, AreToldIn4, FitFormat4, HasFormat4, HasOnlyFormat4, IsReadable, in_segments}
 use Rattle.postscript_sfnt_write.specs.Metrics.{CanBeRead, KeepsBut, TellsAdvances, TellsBearings}
 use Rattle.postscript_sfnt_write.specs.declared.mapping.Mapping.{Mapping}
 use Rattle.postscript_sfnt_write.specs.declared.metrics.Metric.{Metric}
@@ -20,6 +20,7 @@ use Rattle.postscript_files.specs.Faces.{IsFaceIn, post_tag}
 use Rattle.postscript_files.specs.Measures.{metric_in}
 use Rattle.postscript_files.specs.Origins.{IsCutRefusedBy, IsOrigin}
 use Rattle.postscript_files.specs.Renumbered.{AreNumbersOf, AreRenumbered, AreSmall}
+use Rattle.postscript_files.specs.Sound.{IsSoundFile}
 use Rattle.postscript_files.specs.Subsets.{IsSubsetFace}
 use Rattle.postscript_files.specs.declared.choice.Choice.{Choice}
 use Rattle.postscript_files.specs.declared.error.Error.{Error}
@@ -47,6 +48,8 @@ pub record IsMapOf (pairs : List Mapping) (origins cmap : List ℕ) : Type 0 whe
   pub told : AreTold cmap mappings
   pub headers : HaveHeaders cmap
   pub format4 : HasFormat4 cmap
+  pub told_in_4 : AreToldIn4 cmap (in_segments mappings)
+  pub only : FitFormat4 mappings → HasOnlyFormat4 cmap
 
 -- a `post` table without names, with the other values of the old one, or zeros
 pub record IsPostOf (file : FontFile) (post : List ℕ) : Type 0 where
@@ -82,8 +85,9 @@ abbrev pub HasNoOrigins : (retain : Bool) → (named cff : List ℕ) → Error �
 HasNoOrigins retain named cff e = (e ≡ errors.Memory)
     ⊎ ((fault : Refusal) × (e ≡ errors.Font fault) × IsCutRefusedBy retain named cff fault)
 
--- A file that opens, and whose face is a subset of this one however it is read.
+-- A sound file that opens, and whose face is a subset of this one however it is read.
 pub record IsCutFile (choice : Choice) (old : Face) (file : List ℕ) : Type 0 where
   pub opens : (count : ℕ) × Opens file count
+  pub sound : IsSoundFile file
   pub there : (new : Face) × IsFaceIn file 0 new
   pub is : (new : Face) → IsFaceIn file 0 new → IsSubsetFace choice old new

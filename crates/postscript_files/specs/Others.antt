@@ -10,6 +10,7 @@ use Rattle.postscript_files.specs.Faces.{cff_tag}
 use Rattle.postscript_files.specs.declared.error.Error.{Error}
 use Rattle.postscript_files.specs.declared.error.Error.TheVariants.{Memory, Overlap, TooLarge}
 use Rattle.postscript_files.specs.Flats.{IsFlatTooLarge, Stays, StayingHaveMore, dsig_tag}
+use Rattle.postscript_files.specs.Sound.{IsSoundFile}
 
 -- there is a table with the tag
 abbrev pub Has : List Table → (tag : ℕ) → Type 0
@@ -35,6 +36,7 @@ pub record HasOthers (old : FontFile) (font : List ℕ) (new : FontFile) : Type 
 
 pub record IsFileWith (old : FontFile) (font bytes : List ℕ) : Type 0 where
   pub opens : (count : ℕ) × Opens bytes count
+  pub sound : IsSoundFile bytes
   pub is : (new : FontFile) → IsFaceOf bytes 0 new → HasOthers old font new
 
 -- why no file with this `CFF ` table is written, if the tables that are copied may have this number of bytes

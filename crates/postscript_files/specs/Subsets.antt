@@ -8,7 +8,7 @@ use Rattle.postscript_sfnt.specs.Metrics.{IsGlyphs, IsWord}
 use Rattle.postscript_sfnt.specs.declared.file.FontFile.{FontFile}
 use Rattle.postscript_sfnt_write.specs.Files.{Opens}
 use Rattle.postscript_sfnt_write.specs.Headers.{HaveHeaders}
-use Rattle.postscript_sfnt_write.specs.Mappings.{HasFormat4}
+use Rattle.postscript_sfnt_write.specs.Mappings.{AreToldIn4, FitFormat4, HasFormat4, HasOnlyFormat4, in_segments}
 use Rattle.postscript_sfnt_write.specs.Metrics.{KeepsBut}
 use Rattle.postscript_sfnt_write.specs.Tables.{IsGiven}
 use Rattle.postscript_sfnt_write.specs.declared.file.Table.{Table}
@@ -22,12 +22,12 @@ use Rattle.postscript_write.specs.Kept.{HasAllInPlace, HasAllKept}
 use Rattle.postscript_write.specs.Making.{IsFontBy}
 use Rattle.postscript_write.specs.SameGlyphs.{GlyphsKept, IsSameGlyph}
 use Rattle.postscript_write.specs.Sources.{AreThere, choice_by}
-use Rattle.postscript_files.specs.Choices.{AreKeptPairs, IsFirstOf, IsKept, NoneIsMissing, glyphs_of, named_of}
+use Rattle.postscript_files.specs.Choices.{AreKeptPairs, AreMappingsOf, IsFirstOf, IsKept, NoneIsMissing, glyphs_of, named_of}
 use Rattle.postscript_files.specs.Copies.{AreTooLarge, HasCopy, IsListed, tagged}
 use Rattle.postscript_files.specs.Faces.{IsFaceIn, IsNeeded, NoFaceIn, cff_tag, cmap_tag, hhea_tag, hmtx_tag, maxp_tag, post_tag}
 use Rattle.postscript_files.specs.Measures.{bearing_in}
 use Rattle.postscript_files.specs.Origins.{AreOriginsOf, IsCutRefusedBy, IsKeptGlyph, IsOrigin}
-use Rattle.postscript_files.specs.Sound.{IsSoundFont}
+use Rattle.postscript_files.specs.Sound.{IsSoundFile, IsSoundFont}
 use Rattle.postscript_files.specs.declared.choice.Choice.{Choice}
 use Rattle.postscript_files.specs.declared.choice.Given.{Given}
 use Rattle.postscript_files.specs.declared.error.Error.{Error}
@@ -115,10 +115,15 @@ abbrev pub IsExpected : Choice → (old : FontFile) → (tag : ℕ) → Type 0
 IsExpected choice old tag = IsNeeded tag ⊎ ((tag ≡ post_tag) ⊎ (IsCopied old choice.copied.now tag ⊎ IsGivenTag choice.given.now tag))
 
 -- In `cmap` each subtable has its length, the language 0 and, in format 4, its search fields. One of them has format 4, for the first plane of
--- Unicode on Windows.
+-- Unicode on Windows. Those of format 4 map the characters of the best map below U+FFFF, to the same glyphs, or none if these characters
+-- form more than 8,000 segments. Each has format 4 if this has room for all characters of the best map.
 pub record IsCmap (new : Face) : Type 0 where
   pub headers : HaveHeaders new.cmap.now
   pub format4 : HasFormat4 new.cmap.now
+  pub mappings : List Mapping
+  pub are : AreMappingsOf new.map mappings
+  pub told_in_4 : AreToldIn4 new.cmap.now (in_segments mappings)
+  pub only : FitFormat4 mappings → HasOnlyFormat4 new.cmap.now
 
 -- a face is a subset of another one
 pub record IsSubsetFace (choice : Choice) (old new : Face) : Type 0 where
@@ -137,20 +142,22 @@ pub record IsSubsetFace (choice : Choice) (old new : Face) : Type 0 where
   pub given : (i : ℕ) (table : Given) → slice_get choice.given.now i ≡ Some table → HasCopy new.file table.tag table.bytes.items
   pub only : (i : ℕ) → i < tables_of new.file → IsExpected choice old.file (tag_of new.file i)
 
--- The old file has the face, with all characters that are asked for unless missing ones are left out. The new file has one face, of
--- version "OTTO", which opens, and it is such a subset however it is opened.
+-- The old file has the face, with all characters that are asked for unless missing ones are left out. The new file is sound. It has one
+-- face, of version "OTTO", which opens, and it is such a subset however it is opened.
 pub record IsSubsetOf (choice : Choice) (bytes : List ℕ) (number : ℕ) (file : List ℕ) : Type 0 where
   pub old : Face
   pub was : IsFaceIn bytes number old
   pub opens : (count : ℕ) × Opens file count
+  pub sound : IsSoundFile file
   pub all : choice.lenient ≡ false → NoneIsMissing old.map choice.chars.now
   pub there : (new : Face) × IsFaceIn file 0 new
   pub is : (new : Face) → IsFaceIn file 0 new → IsSubsetFace choice old new
 
--- The face has all characters that are asked for, unless missing ones are left out. The new file has one face, of version "OTTO", which
--- opens, and it is a subset of this face however it is opened.
+-- The face has all characters that are asked for, unless missing ones are left out. The new file is sound. It has one face, of version
+-- "OTTO", which opens, and it is a subset of this face however it is opened.
 pub record IsSubsetFile (choice : Choice) (old : Face) (file : List ℕ) : Type 0 where
   pub opens : (count : ℕ) × Opens file count
+  pub sound : IsSoundFile file
   pub all : choice.lenient ≡ false → NoneIsMissing old.map choice.chars.now
   pub there : (new : Face) × IsFaceIn file 0 new
   pub is : (new : Face) → IsFaceIn file 0 new → IsSubsetFace choice old new

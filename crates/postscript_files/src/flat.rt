@@ -147,7 +147,7 @@ fn with_font(alloc: Global, most: usize, face: &FontFile<'_>, font: &[u8]) -> Re
 /// - `TooLarge`: the new file would have 4,096 tables or more, or 2^32 bytes or more.
 /// - `Memory`: out of memory.
 pub fn flat_file(alloc: Global, file: &[u8], number: usize) -> Result<Vec<u8>>
-    // The new file has one face: the font without calls, and copies of all other tables.
+    // The new file is sound, with one face: the font without calls, and copies of all other tables.
     ensures flat { IfOk result (λ flat. IsFlatOf file.now number flat.items) }
     // An error is justified by the file, the missing table, the font, or the size of the tables.
     ensures refused { IfErr result (λ e. NoFlatOf file.now number e) }

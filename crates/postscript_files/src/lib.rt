@@ -6,13 +6,15 @@
 //!
 //! # What is proved
 //!
-//! Each call is safe and ends, on all bytes. A file that is written has one face, which opens.
+//! Each call is safe and ends, on all bytes. A file that is written has one face, which opens. Its records are
+//! sorted, its checksums are right, and only zeros are between its tables.
 //!
 //! - `flat_file`: the `CFF ` table is one that `postscript_write::flat_font` writes, so each glyph is drawn as before and
 //!   keeps its name or CID. All other tables but `DSIG` are copied byte for byte, apart from `checkSumAdjustment` in
 //!   `head`. There are no other tables.
 //! - `subset_file`: the best map has a glyph for each kept character, and no glyph for other characters. This glyph is
-//!   drawn as the old one. It has the same name or CID, the same advance width and the same left side bearing. `CFF `,
+//!   drawn as the old one. It has the same name or CID, the same advance width and the same left side bearing. A subtable of
+//!   format 4 has the same glyphs for the characters below U+FFFF, or none if these form more than 8,000 segments. `CFF `,
 //!   `maxp`, `hhea` and `hmtx` have the same number of glyphs. Tables of the choice are copied byte for byte, apart from
 //!   `checkSumAdjustment`. There are no other tables. New glyph `i` is the old glyph at index `i` of the list that
 //!   [`Face::origins`] returns.

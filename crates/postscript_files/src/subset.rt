@@ -360,7 +360,7 @@ pub fn subset_file(
     number: usize,
     choice: &Choice<'_>,
 ) -> Result<Vec<u8>>
-    // The new file opens, and has exactly the kept characters, glyphs and tables.
+    // The new file is sound and opens, and has exactly the kept characters, glyphs and tables.
     ensures subset { IfOk result (λ new. IsSubsetOf choice.now file.now number new.items) }
     // An error is justified by the file, the face, a missing character, the font, a repeated tag, or the sizes of the tables.
     ensures refused { IfErr result (λ e. NoSubsetOf choice.now file.now number e) }
@@ -376,7 +376,7 @@ impl Face<'_> {
     ///
     /// As for [`subset_file`], and `NoAdvances` if the `hhea` table is truncated. That of an opened face never is.
     pub fn subset(&self, alloc: Global, choice: &Choice<'_>) -> Result<Vec<u8>>
-        // The new file opens, and has exactly the kept characters, glyphs and tables.
+        // The new file is sound and opens, and has exactly the kept characters, glyphs and tables.
         ensures subset { IfOk result (λ new. IsSubsetFile choice.now self.now new.items) }
         // An error is justified by a missing character, the font, a truncated table, a repeated tag, or the sizes of the tables.
         ensures refused { IfErr result (λ e. NoSubsetBy choice.now self.now e) }

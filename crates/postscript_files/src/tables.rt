@@ -1,8 +1,9 @@
 //! Files of tables.
-ghost use Rattle.std.specs.Prelude.{◌≡◌, ℕ, ◌≤◌, length, IfOk, IfErr, IfSome, IfNone, MatchOption};
+ghost use Rattle.std.specs.Prelude.{◌≡◌, ℕ, ◌<◌, ◌≤◌, length, IfOk, IfErr, IfSome, IfNone, MatchOption};
 ghost use Rattle.postscript_sfnt.specs.Lent.{HasNoTable, IsTableOf};
 ghost use Rattle.postscript_files.specs.Copies.{HasNeighbours, IsFileOf, NoFileOf, NoNeighbours, tagged};
 ghost use Rattle.postscript_files.specs.Refused.{IsTooMuch};
+ghost use Rattle.postscript_files.specs.Sound.{IsSoundFile};
 ghost use Rattle.postscript_sfnt_write.specs.Files.{AreLent, Opens};
 ghost use Rattle.postscript_sfnt_write.specs.Tables.{TagsRise, size_of};
 ghost use Rattle.postscript_files.specs.declared.error.Error.TheVariants as errors;
@@ -38,6 +39,7 @@ fn written(alloc: Global, tables: &[Table<'_>]) -> Result<Vec<u8>>
     ensures opens { IfOk result (λ file. Opens file.items (length tables.now)) }
     ensures lent { IfOk result (λ file. AreLent file.items tables.now) }
     ensures size { IfOk result (λ file. length file.items ≡ size_of tables.now) }
+    ensures sound { IfOk result (λ file. 0 < length tables.now → IsSoundFile file.items) }
     ensures refused { IfErr result (λ e. IsTooMuch e tables.now) }
 {
     match file_of(alloc, tables) {

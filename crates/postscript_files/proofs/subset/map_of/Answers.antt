@@ -1,5 +1,5 @@
 use Rattle.std.proofs.Common.{◌≡◌, ℕ, List, subst}
-use Rattle.postscript_sfnt_write.specs.Mappings.{AreTold}
+use Rattle.postscript_sfnt_write.specs.Mappings.{AreTold, AreToldIn4, FitFormat4, HasOnlyFormat4, in_segments}
 use Rattle.postscript_sfnt_write.specs.declared.mapping.Mapping.{Mapping}
 use Rattle.postscript_files.specs.Renumbered.{AreRenumbered}
 use Rattle.postscript_files.proofs.subset.map_of.Goals as goal
@@ -17,4 +17,6 @@ returns-in-Ok-clause-map c =
       told = subst (λ (ms : List Mapping). AreTold cmap ms) same c.in-Ok.ensures.told;
       headers = c.in-Ok.ensures.headers;
       format4 = c.in-Ok.ensures.format4;
+      told_in_4 = subst (λ (ms : List Mapping). AreToldIn4 cmap (in_segments ms)) same c.in-Ok.ensures.told_in_4;
+      only = subst (λ (ms : List Mapping). FitFormat4 ms → HasOnlyFormat4 cmap) same c.in-Ok.ensures.only;
     }

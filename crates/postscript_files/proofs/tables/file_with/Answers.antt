@@ -23,7 +23,7 @@ returns-clause-file c =
     (subst (λ (xs : List Table). IsPermutation xs c.sort_by_key.new.self.items) c.in_ok-sorted.ensures.items
     c.in_ok-sort_by_key.ensures.permutation) in
     if-written c.written.result c.args.tables.now c.as_slice-in-None.result.now moved c.written.ensures.opens c.written.ensures.lent
-    c.written.ensures.size
+    c.written.ensures.size c.written.ensures.sound
 
 pub returns-clause-refused : goal.returns-clause-refused
 returns-clause-refused c =
