@@ -246,6 +246,8 @@ subset-face choice old new pairs origins font made kept is are m has file read =
         are = are-mappings choice old new w;
         told_in_4 = w.cmap.told_in_4;
         only = w.cmap.only;
+        records = w.cmap.records;
+        ascend = w.cmap.ascend;
       };
       hhea = subst (λ (xs : List ℕ). KeepsBut 34 old.hhea.now xs)
           (one-table new.file hhea_tag made.hhea.items new.hhea.now has.hhea read.hhea) m.hhea_kept;

@@ -8,6 +8,7 @@ use Rattle.postscript_sfnt_write.specs.Files.{Opens}
 use Rattle.postscript_sfnt_write.specs.Headers.{HaveHeaders}
 use Rattle.postscript_sfnt_write.specs.Mappings.{AreTold, AreToldIn4, FitFormat4, HasFormat4, HasOnlyFormat4, IsReadable, in_segments}
 use Rattle.postscript_sfnt_write.specs.Metrics.{CanBeRead, KeepsBut, TellsAdvances, TellsBearings}
+use Rattle.postscript_sfnt_write.specs.Records.{AllAscend, HasRecords}
 use Rattle.postscript_sfnt_write.specs.declared.mapping.Mapping.{Mapping}
 use Rattle.postscript_sfnt_write.specs.declared.metrics.Metric.{Metric}
 use Rattle.postscript_view.specs.declared.font.FontView.{FontView}
@@ -50,6 +51,8 @@ pub record IsMapOf (pairs : List Mapping) (origins cmap : List ℕ) : Type 0 whe
   pub format4 : HasFormat4 cmap
   pub told_in_4 : AreToldIn4 cmap (in_segments mappings)
   pub only : FitFormat4 mappings → HasOnlyFormat4 cmap
+  pub records : HasRecords cmap
+  pub ascend : AllAscend cmap
 
 -- a `post` table without names, with the other values of the old one, or zeros
 pub record IsPostOf (file : FontFile) (post : List ℕ) : Type 0 where

@@ -10,6 +10,7 @@ use Rattle.postscript_sfnt_write.specs.Files.{Opens}
 use Rattle.postscript_sfnt_write.specs.Headers.{HaveHeaders}
 use Rattle.postscript_sfnt_write.specs.Mappings.{AreToldIn4, FitFormat4, HasFormat4, HasOnlyFormat4, in_segments}
 use Rattle.postscript_sfnt_write.specs.Metrics.{KeepsBut}
+use Rattle.postscript_sfnt_write.specs.Records.{AllAscend, HasRecords}
 use Rattle.postscript_sfnt_write.specs.Tables.{IsGiven}
 use Rattle.postscript_sfnt_write.specs.declared.file.Table.{Table}
 use Rattle.postscript_sfnt_write.specs.declared.mapping.Mapping.{Mapping}
@@ -116,7 +117,8 @@ IsExpected choice old tag = IsNeeded tag ⊎ ((tag ≡ post_tag) ⊎ (IsCopied o
 
 -- In `cmap` each subtable has its length, the language 0 and, in format 4, its search fields. One of them has format 4, for the first plane of
 -- Unicode on Windows. Those of format 4 map the characters of the best map below U+FFFF, to the same glyphs, or none if these characters
--- form more than 8,000 segments. Each has format 4 if this has room for all characters of the best map.
+-- form more than 8,000 segments. Each has format 4 if this has room for all characters of the best map. The encoding records are in order,
+-- and so are the segments and groups.
 pub record IsCmap (new : Face) : Type 0 where
   pub headers : HaveHeaders new.cmap.now
   pub format4 : HasFormat4 new.cmap.now
@@ -124,6 +126,8 @@ pub record IsCmap (new : Face) : Type 0 where
   pub are : AreMappingsOf new.map mappings
   pub told_in_4 : AreToldIn4 new.cmap.now (in_segments mappings)
   pub only : FitFormat4 mappings → HasOnlyFormat4 new.cmap.now
+  pub records : HasRecords new.cmap.now
+  pub ascend : AllAscend new.cmap.now
 
 -- a face is a subset of another one
 pub record IsSubsetFace (choice : Choice) (old new : Face) : Type 0 where

@@ -1,23 +1,26 @@
 -- Which map the reader takes of what was written.
 use Rattle.std.proofs.Common.{◌≡◌, refl, sym, ap, subst, ◌∙◌, inl, inr, ℕ, zero, suc, ◌+◌, ◌*◌, ◌/◌, ◌^◌, ◌≤◌, ◌<◌, List, [], ◌∷◌, ◌++◌, length, drop, length-append, length-drop, arith}
+use Rattle.std.specs.Prelude.{◌⊎◌}
+use Rattle.std.proofs.lemmas.Bool.{cases_lt}
 use Rattle.std.proofs.lemmas.List.{append-nil}
 use Rattle.postscript_base.specs.Index.{number_at}
-use Rattle.postscript_sfnt.specs.CharacterMap.{IsGlyphOf, first12, last12, gives12, first4, last4, gives4}
+use Rattle.postscript_sfnt.specs.CharacterMap.{IsGlyphOf, Rise, first12, last12, gives12, first4, last4, gives4}
 use Rattle.postscript_sfnt.specs.Choice.{IsChosen, place_at, rank, rank_at, records_of}
 use Rattle.postscript_sfnt.specs.Maps.{IsMapAt, IsWhole}
 use Rattle.postscript_sfnt.specs.declared.character_map.CharacterMap.{CharacterMap}
 use Rattle.postscript_sfnt.specs.declared.character_map.CharacterMap.TheVariants.{Segments, Groups, Trimmed}
-use Rattle.postscript_sfnt_write.specs.Grouping.{MappingsFit, AreBelow, GroupsFit, IsLarge, IsSmall, encoding_text, end, format12_text, groups, head4_text, large_text, rows_text, small_text}
+use Rattle.postscript_sfnt_write.specs.Grouping.{MappingsFit, AreBelow, GroupsFit, IsGroup, IsLarge, IsSmall, encoding_text, end, format12_text, groups, head4_text, large_text, rows_text, small_text}
 use Rattle.postscript_sfnt_write.specs.Headers.{HasHeader12, HasHeader4, HaveHeaders}
 use Rattle.postscript_sfnt_write.specs.Mappings.{AreTold, AreToldIn4, CharsRise, HasFormat4, HasOnlyFormat4, IsGlyphIn, IsReadable, Tells, in_segments}
 use Rattle.postscript_sfnt_write.specs.Numbers.{uint16, uint32}
+use Rattle.postscript_sfnt_write.specs.Records.{AllAscend, Ascends, HasRecords, IsEnded, IsRecord}
 use Rattle.postscript_sfnt_write.specs.declared.mapping.Group.{Group}
 use Rattle.postscript_sfnt_write.specs.declared.mapping.Mapping.{Mapping}
-use Rattle.postscript_sfnt_write.proofs.Groups.{Say, say}
+use Rattle.postscript_sfnt_write.proofs.Groups.{Gives, Say, group_at, group_below, say}
 use Rattle.postscript_sfnt_write.proofs.Headed.{headed12, headed4, length-format12}
-use Rattle.postscript_sfnt_write.proofs.Mapped.{are12, header12, told_glyph}
+use Rattle.postscript_sfnt_write.proofs.Mapped.{are12, header12, rises, told_glyph}
 use Rattle.postscript_sfnt_write.proofs.Segments.{all_in, in_segments_below, in_segments_rise}
-use Rattle.postscript_sfnt_write.proofs.Mapped4.{Map4, are4, end_rises, length-rows_text, low_groups, low_with_end, map4, without_end}
+use Rattle.postscript_sfnt_write.proofs.Mapped4.{AreLow, Map4, are4, end_in, end_rises, length-rows_text, low_groups, low_with_end, map4, without_end}
 use Rattle.postscript_sfnt_write.proofs.Standing.{Stands, length-uint16, stands_dropped, stands_first, stands_second, uint16_stands, uint32_stands}
 
 -- a record of a platform, an encoding and a place
@@ -50,6 +53,7 @@ whole bytes text e = record { within = omega arith; behind = []; there = e ∙ s
 
 -- two records
 record Two (cmap : List ℕ) : Type 0 where
+  version : number_at cmap 0 2 ≡ 0
   counted : number_at cmap 2 2 ≡ 2
   first : Encoding cmap 4 0 3 20
   second : Encoding cmap 12 3 1 20
@@ -63,6 +67,7 @@ two s =
     let at4 = stands_second (uint16 2) b 2 (length-uint16 2) at2 in
     let at12 = stands_second (encoding_text 0 3 20) (encoding_text 3 1 20) 8 (length-encoding 0 3 20) at4 in
     record {
+      version = uint16_stands 0 (omega arith) (stands_first (uint16 0) a s);
       counted = uint16_stands 2 (omega arith) (stands_first (uint16 2) b at2);
       first = encoding_stands 4 0 3 20 (omega arith) (omega arith) (omega arith)
           (stands_first (encoding_text 0 3 20) (encoding_text 3 1 20) at4);
@@ -125,6 +130,7 @@ small_taken cmap it long =
 
 -- four records
 record Four (cmap : List ℕ) (behind : ℕ) : Type 0 where
+  version : number_at cmap 0 2 ≡ 0
   counted : number_at cmap 2 2 ≡ 4
   first : Encoding cmap 4 0 3 36
   second : Encoding cmap 12 0 4 behind
@@ -144,6 +150,7 @@ four behind small s =
     let at20 = stands_second (encoding_text 0 4 behind) d 8 (length-encoding 0 4 behind) at12 in
     let at28 = stands_second (encoding_text 3 1 36) (encoding_text 3 10 behind) 8 (length-encoding 3 1 36) at20 in
     record {
+      version = uint16_stands 0 (omega arith) (stands_first (uint16 0) a s);
       counted = uint16_stands 4 (omega arith) (stands_first (uint16 4) b at2);
       first = encoding_stands 4 0 3 36 (omega arith) (omega arith) (omega arith) (stands_first (encoding_text 0 3 36) c at4);
       second = encoding_stands 12 0 4 behind (omega arith) (omega arith) small (stands_first (encoding_text 0 4 behind) d at12);
@@ -220,6 +227,8 @@ pub record Answer (cmap : List ℕ) (ms : List Mapping) : Type 0 where
   pub headers : HaveHeaders cmap
   pub format4 : HasFormat4 cmap
   pub told_in_4 : AreToldIn4 cmap (in_segments ms)
+  pub records : HasRecords cmap
+  pub ascend : AllAscend cmap
   pub size : length cmap ≤ 64076 + length ms * 12
 
 tells4 : (table : List ℕ) (ms : List Mapping) (n : ℕ) (map : CharacterMap) → number_at table 0 2 ≡ 4 → number_at table 6 2 / 2 ≡ n →
@@ -257,6 +266,35 @@ tells12 table ms (Trimmed it) format tell cmap at e is char glyph maps =
     let g = ap (λ (xs : List ℕ). number_at xs 0 2) e in
     absurd (omega (arith, f, g, format))
 
+-- the segments or groups of a map are in order
+ascends4 : (table : List ℕ) (n : ℕ) (map : CharacterMap) → number_at table 0 2 ≡ 4 → number_at table 6 2 / 2 ≡ n →
+    Rise (first4 table n) (last4 table) n × IsEnded (first4 table n) (last4 table) n → (cmap : List ℕ) (at : ℕ) → drop at cmap ≡ table →
+    IsMapAt cmap at map → Ascends map
+ascends4 table n (Segments it) format counted rise cmap at e is =
+    let same : it.table.now ≡ table = is.bytes ∙ e in
+    let many : it.count ≡ n = is.counted ∙ ap (λ (xs : List ℕ). number_at xs 6 2 / 2) e ∙ counted in
+    subst (λ (xs : List ℕ). Rise (first4 xs it.count) (last4 xs) it.count × IsEnded (first4 xs it.count) (last4 xs) it.count) (sym same)
+    (subst (λ k. Rise (first4 table k) (last4 table) k × IsEnded (first4 table k) (last4 table) k) (sym many) rise)
+ascends4 table n (Groups it) format counted rise cmap at e is =
+    let f = is.format in
+    let g = ap (λ (xs : List ℕ). number_at xs 0 2) e in
+    absurd (omega (arith, f, g, format))
+ascends4 table n (Trimmed it) format counted rise cmap at e is = tt
+
+ascends12 : (table : List ℕ) (map : CharacterMap) → number_at table 0 2 ≡ 12 →
+    Rise (first12 table) (last12 table) (number_at table 12 4) →
+    (cmap : List ℕ) (at : ℕ) → drop at cmap ≡ table → IsMapAt cmap at map → Ascends map
+ascends12 table (Groups it) format rise cmap at e is =
+    let same : it.table.now ≡ table = is.bytes ∙ e in
+    let many : it.count ≡ number_at table 12 4 = is.counted ∙ ap (λ (xs : List ℕ). number_at xs 12 4) e in
+    subst (λ (xs : List ℕ). Rise (first12 xs) (last12 xs) it.count) (sym same)
+    (subst (λ k. Rise (first12 table) (last12 table) k) (sym many) rise)
+ascends12 table (Segments it) format rise cmap at e is =
+    let f = is.format in
+    let g = ap (λ (xs : List ℕ). number_at xs 0 2) e in
+    absurd (omega (arith, f, g, format))
+ascends12 table (Trimmed it) format rise cmap at e is = tt
+
 -- what segments at an offset tell
 told4 : (cmap : List ℕ) (at : ℕ) (gs : List Group) (ms : List Mapping) → CharsRise ms → AreBelow ms → gs ≡ groups (ms ++ end ∷ []) →
     MappingsFit (ms ++ end ∷ []) → Map4 (drop at cmap) gs → (place : ℕ) → place ≡ at → (map : CharacterMap) → IsMapAt cmap place map →
@@ -267,6 +305,42 @@ told4 cmap at gs ms rise below is fit m place there map stands =
     tells4 (drop at cmap) ms (length gs) map m.format m.counted
     (λ char glyph of. without_end ms char glyph (told_glyph _ _ _ (length gs) gs (ms ++ end ∷ []) char glyph are says fit of))
     cmap place (ap (λ k. drop k cmap) there) stands
+
+-- the group of U+FFFF, without a glyph, is the last one
+last_group : (gs : List Group) (ms : List Mapping) (k i : ℕ) (g : Group) → Say gs ms → AreLow gs → IsGroup gs k g → Gives g 0xffff 0 →
+    i + 1 ≡ length gs → IsGroup gs i g × (g.start ≡ 0xffff) × (g.end ≡ 0xffff)
+last_group gs ms k i g says low there gives last =
+    let from = gives.from in
+    let to = gives.to in
+    let is = gives.is in
+    let below = group_below gs k g there in
+    let small = low.ends k g there in
+    let same : k ≡ i = elim (cases_lt k i) [
+      | inl less ↦
+          let final = group_at gs i (omega (arith, last)) in
+          let apart = says.apart k i g final.0 less there final.1 in
+          let start = low.starts i final.0 final.1 in
+          absurd (omega (arith, to, apart, start))
+      | inr more ↦ omega (arith, more, below, last)
+    ] in (
+      subst (λ n. IsGroup gs n g) same there,
+      omega (arith, from, is),
+      omega (arith, to, small),
+    )
+
+-- segments of low characters are in order
+low_rises : (table : List ℕ) (gs : List Group) (ms : List Mapping) → CharsRise ms → AreBelow ms → gs ≡ groups (ms ++ end ∷ []) →
+    Map4 table gs → Rise (first4 table (length gs)) (last4 table) (length gs) × IsEnded (first4 table (length gs)) (last4 table) (length gs)
+low_rises table gs ms rise below is m =
+    let says : Say gs (ms ++ end ∷ []) = subst (λ xs. Say xs (ms ++ end ∷ [])) (sym is) (say (ms ++ end ∷ []) (end_rises ms rise below)) in
+    let low = low_groups gs (ms ++ end ∷ []) says (low_with_end ms below) in
+    let are = are4 table gs low m in
+    let one = says.all (length ms) end (end_in ms) in (
+      rises _ _ _ (length gs) gs (ms ++ end ∷ []) are says,
+      λ i last.
+          let it = last_group gs (ms ++ end ∷ []) one.i i one.group says low one.there one.gives last in
+          (are.from i one.group it.0 ∙ it.1, are.to i one.group it.0 ∙ it.2),
+    )
 
 -- the record of the first plane of Unicode on Windows
 has_format4 : {cmap : List ℕ} (i at place : ℕ) → 4 + i * 8 ≡ at → i < records_of cmap → Encoding cmap at 3 1 place →
@@ -312,27 +386,49 @@ length-format4 gs selector =
     let rows = length-rows_text gs in
     omega (arith, both, head, rows)
 
-two_headers : {cmap : List ℕ} → Two cmap → HasHeader4 cmap 20 → HaveHeaders cmap
-two_headers {cmap = cmap} it head zero less = inl (subst (HasHeader4 cmap) (sym (placed 0 4 0 3 20 refl it.first)) head)
-two_headers {cmap = cmap} it head (suc zero) less = inl (subst (HasHeader4 cmap) (sym (placed 1 12 3 1 20 refl it.second)) head)
-two_headers {cmap = cmap} it head (suc (suc i)) less = let many = it.counted in absurd (omega (arith, less, many))
+is_record : {cmap : List ℕ} (i at platform encoding place format : ℕ) → 4 + i * 8 ≡ at → Encoding cmap at platform encoding place →
+    number_at cmap place 2 ≡ format → IsRecord cmap i platform encoding format
+is_record {cmap = cmap} i at platform encoding place format e it is = (
+  ap (λ k. number_at cmap k 2) e ∙ it.platform_is,
+  ap (λ k. number_at cmap (k + 2) 2) e ∙ it.encoding_is,
+  ap (λ k. number_at cmap k 2) (placed i at platform encoding place e it) ∙ is,
+)
 
-four_headers : {cmap : List ℕ} (behind : ℕ) → Four cmap behind → HasHeader4 cmap 36 → HasHeader12 cmap behind → HaveHeaders cmap
-four_headers {cmap = cmap} behind it head last zero less =
-    inl (subst (HasHeader4 cmap) (sym (placed 0 4 0 3 36 refl it.first)) head)
-four_headers {cmap = cmap} behind it head last (suc zero) less =
-    inr (subst (HasHeader12 cmap) (sym (placed 1 12 0 4 behind refl it.second)) last)
-four_headers {cmap = cmap} behind it head last (suc (suc zero)) less =
-    inl (subst (HasHeader4 cmap) (sym (placed 2 20 3 1 36 refl it.third)) head)
-four_headers {cmap = cmap} behind it head last (suc (suc (suc zero))) less =
-    inr (subst (HasHeader12 cmap) (sym (placed 3 28 3 10 behind refl it.fourth)) last)
-four_headers {cmap = cmap} behind it head last (suc (suc (suc (suc i)))) less =
-    let many = it.counted in absurd (omega (arith, less, many))
+two_records : {cmap : List ℕ} → Two cmap → number_at cmap 20 2 ≡ 4 → HasRecords cmap
+two_records it is = record {
+  version = it.version;
+  are = inl (record {
+    counted = it.counted;
+    unicode = is_record 0 4 0 3 20 4 refl it.first is;
+    windows = is_record 1 12 3 1 20 4 refl it.second is;
+  });
+}
 
-two_of_format4 : {cmap : List ℕ} → Two cmap → number_at cmap 20 2 ≡ 4 → HasOnlyFormat4 cmap
-two_of_format4 {cmap = cmap} it is zero less = ap (λ k. number_at cmap k 2) (placed 0 4 0 3 20 refl it.first) ∙ is
-two_of_format4 {cmap = cmap} it is (suc zero) less = ap (λ k. number_at cmap k 2) (placed 1 12 3 1 20 refl it.second) ∙ is
-two_of_format4 {cmap = cmap} it is (suc (suc i)) less = let many = it.counted in absurd (omega (arith, less, many))
+four_records : {cmap : List ℕ} (behind : ℕ) → Four cmap behind → number_at cmap 36 2 ≡ 4 → number_at cmap behind 2 ≡ 12 → HasRecords cmap
+four_records behind it is last = record {
+  version = it.version;
+  are = inr (record {
+    counted = it.counted;
+    unicode = is_record 0 4 0 3 36 4 refl it.first is;
+    unicode_full = is_record 1 12 0 4 behind 12 refl it.second last;
+    windows = is_record 2 20 3 1 36 4 refl it.third is;
+    windows_full = is_record 3 28 3 10 behind 12 refl it.fourth last;
+  });
+}
+
+-- what holds at the places of the subtables
+two_places : {cmap : List ℕ} (P : ℕ → Type 0) → Two cmap → P 20 → (i : ℕ) → i < records_of cmap → P (place_at cmap i)
+two_places P it is zero less = subst P (sym (placed 0 4 0 3 20 refl it.first)) is
+two_places P it is (suc zero) less = subst P (sym (placed 1 12 3 1 20 refl it.second)) is
+two_places P it is (suc (suc i)) less = let many = it.counted in absurd (omega (arith, less, many))
+
+four_places : {cmap : List ℕ} (P : ℕ → Type 0) (behind : ℕ) → Four cmap behind → P 36 → P behind → (i : ℕ) → i < records_of cmap →
+    P (place_at cmap i)
+four_places P behind it is last zero less = subst P (sym (placed 0 4 0 3 36 refl it.first)) is
+four_places P behind it is last (suc zero) less = subst P (sym (placed 1 12 0 4 behind refl it.second)) last
+four_places P behind it is last (suc (suc zero)) less = subst P (sym (placed 2 20 3 1 36 refl it.third)) is
+four_places P behind it is last (suc (suc (suc zero))) less = subst P (sym (placed 3 28 3 10 behind refl it.fourth)) last
+four_places P behind it is last (suc (suc (suc (suc i)))) less = let many = it.counted in absurd (omega (arith, less, many))
 
 -- a table of segments has only format 4
 pub small_only : (cmap : List ℕ) (gs : List Group) → length gs < 8002 → IsSmall cmap gs → HasOnlyFormat4 cmap
@@ -340,7 +436,7 @@ small_only cmap gs few text =
     let body = head4_text (length gs) text.selector ++ rows_text gs in
     let s = whole cmap (small_text ++ body) text.text in
     let head = headed4 20 text.selector gs few text.selected text.few_bits (stands_second small_text body 20 length-small s) in
-    two_of_format4 (two (stands_first small_text body s)) head.format
+    two_places (λ place. number_at cmap place 2 ≡ 4) (two (stands_first small_text body s)) head.format
 
 pub small_answer : (cmap : List ℕ) (gs : List Group) (ms : List Mapping) → CharsRise ms → AreBelow ms → gs ≡ groups (ms ++ end ∷ []) →
     length gs < 8002 → MappingsFit (ms ++ end ∷ []) → IsSmall cmap gs → Answer cmap ms
@@ -362,10 +458,13 @@ small_answer cmap gs ms rise below is few fit text =
       told = λ i map chosen at. tells4 (drop 20 cmap) ms (length gs) map m.format m.counted
           (λ char glyph of. without_end ms char glyph (told_glyph _ _ _ (length gs) gs (ms ++ end ∷ []) char glyph are says fit of))
           cmap (place_at cmap i) (ap (λ k. drop k cmap) (taken.alone i chosen)) at;
-      headers = two_headers (two (stands_first small_text body s)) head;
+      headers = two_places (λ place. HasHeader4 cmap place ⊎ HasHeader12 cmap place) (two (stands_first small_text body s)) (inl head);
       format4 = has_format4 1 12 20 refl (omega (arith, records)) (two (stands_first small_text body s)).second head.format;
       told_in_4 = subst (AreToldIn4 cmap) (sym (all_in ms below (subst (λ xs. length xs < 8002) is few)))
           (small_told ms (two (stands_first small_text body s)) (told4 cmap 20 gs ms rise below is fit m));
+      records = two_records (two (stands_first small_text body s)) head.format;
+      ascend = λ i map less. two_places (λ place. IsMapAt cmap place map → Ascends map) (two (stands_first small_text body s))
+          (ascends4 (drop 20 cmap) (length gs) map m.format m.counted (low_rises (drop 20 cmap) gs ms rise below is m) cmap 20 refl) i less;
       size =
           let both = ap length text.text ∙ length-append small_text body in
           let first = length-small in
@@ -410,9 +509,15 @@ large_answer cmap low gs ms rise is low_is low_fit few small less fit fits text 
       told = λ i map chosen at. tells12 (drop behind cmap) ms map h.format
           (λ char glyph of. told_glyph _ _ _ (number_at (drop behind cmap) 12 4) gs ms char glyph are says fit of)
           cmap (place_at cmap i) (ap (λ k. drop k cmap) (taken.alone i chosen)) at;
-      headers = four_headers behind records head4 head12;
+      headers = four_places (λ place. HasHeader4 cmap place ⊎ HasHeader12 cmap place) behind records (inl head4) (inr head12);
       format4 = has_format4 2 20 36 refl (omega (arith, counted4)) records.third head4.format;
       told_in_4 = large_told behind (in_segments ms) records head12.format
           (told4 cmap 36 low (in_segments ms) (in_segments_rise ms rise) (in_segments_below ms) low_is low_fit m);
+      records = four_records behind records head4.format head12.format;
+      ascend = λ i map less. four_places (λ place. IsMapAt cmap place map → Ascends map) behind records
+          (ascends4 (drop 36 cmap) (length low) map m.format m.counted
+          (low_rises (drop 36 cmap) low (in_segments ms) (in_segments_rise ms rise) (in_segments_below ms) low_is m) cmap 36 refl)
+          (ascends12 (drop behind cmap) map h.format (rises _ _ _ (number_at (drop behind cmap) 12 4) gs ms are says) cmap behind refl)
+          i less;
       size = omega (arith, total, few, less);
     }

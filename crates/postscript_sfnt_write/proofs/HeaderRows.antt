@@ -1,7 +1,8 @@
--- Headers of known subtables.
-use Rattle.std.proofs.Common.{refl, ℕ, List, [], ◌∷◌, arith}
+-- Headers of known tables and subtables.
+use Rattle.std.proofs.Common.{refl, inl, ℕ, List, [], ◌∷◌, arith}
 use Rattle.postscript_base.specs.Index.{number_at}
 use Rattle.postscript_sfnt_write.specs.Headers.{HasHeader4, HasHeader12}
+use Rattle.postscript_sfnt_write.specs.Records.{HasRecords}
 
 -- By hand: U+0041 is glyph 1, so there are two segments. They have 4 bytes of searchRange, an entrySelector of 1 and a rangeShift of 0.
 format4 : List ℕ
@@ -36,3 +37,16 @@ format12 =
 has_header12 : HasHeader12 format12 0
 unfolding number_at format12
 has_header12 = record { count = 1; format = refl; reserved = refl; size = refl; language = refl; groups = refl; within = refl }
+
+-- By hand: platform 0 with encoding 3, and platform 3 with encoding 1, with a subtable at offset 20. Of this only the format is listed.
+table : List ℕ
+table =
+    -- version, numTables, and for each record platformID, encodingID, subtableOffset
+    0 ∷ 0 ∷ 0 ∷ 2 ∷ 0 ∷ 0 ∷ 0 ∷ 3 ∷ 0 ∷ 0 ∷ 0 ∷ 20 ∷ 0 ∷ 3 ∷ 0 ∷ 1 ∷ 0 ∷ 0 ∷ 0 ∷ 20 ∷ 0 ∷ 4 ∷ []
+
+has_records : HasRecords table
+unfolding number_at table
+has_records = record {
+  version = refl;
+  are = inl (record { counted = refl; unicode = (refl, refl, refl); windows = (refl, refl, refl) });
+}

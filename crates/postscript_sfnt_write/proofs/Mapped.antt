@@ -3,7 +3,7 @@ use Rattle.std.proofs.Common.{◌≡◌, refl, ap, subst, ◌∙◌, ℕ, zero, 
 use Rattle.std.specs.Prelude.{if◌then◌else◌, nat_lt}
 use Rattle.std.proofs.lemmas.Bool.{lt-ltb}
 use Rattle.postscript_base.specs.Index.{number_at}
-use Rattle.postscript_sfnt.specs.CharacterMap.{Holds, IsFirst, IsGlyphOf, first12, last12, glyph12, gives12}
+use Rattle.postscript_sfnt.specs.CharacterMap.{Holds, IsFirst, IsGlyphOf, Rise, first12, last12, glyph12, gives12}
 use Rattle.postscript_sfnt_write.specs.Grouping.{MappingsFit, GroupFits, GroupsFit, IsGroup, format12_text, group_text, groups_text}
 use Rattle.postscript_sfnt_write.specs.Mappings.{IsGlyphIn, IsMapping}
 use Rattle.postscript_sfnt_write.specs.Numbers.{uint16, uint32}
@@ -69,6 +69,27 @@ told_glyph first last gives count gs ms char glyph are say fit of = record {
       ∙ are.tell one.i one.group char m.glyph one.there
       (record { from = omega (arith, low, e); to = omega (arith, high, e); is = omega (arith, is, e) }) small;
   lost = λ none. of.lost (lacks first last gives count gs ms char are say none);
+}
+
+-- so they are in order
+pub rises : (first last : ℕ → ℕ) (gives : (i char : ℕ) → ℕ) (count : ℕ) (gs : List Group) (ms : List Mapping) →
+    Are first last gives count gs → Say gs ms → Rise first last count
+rises first last gives count gs ms are say = record {
+  whole = λ i less.
+      let many = are.counted in
+      let one = group_at gs i (omega (arith, less, many)) in
+      let from = are.from i one.0 one.1 in
+      let to = are.to i one.0 one.1 in
+      let whole = say.whole i one.0 one.1 in
+      omega (arith, from, to, whole);
+  apart = λ i j less below.
+      let many = are.counted in
+      let one = group_at gs i (omega (arith, less, below, many)) in
+      let other = group_at gs j (omega (arith, below, many)) in
+      let to = are.to i one.0 one.1 in
+      let from = are.from j other.0 other.1 in
+      let apart = say.apart i j one.0 other.0 less one.1 other.1 in
+      omega (arith, from, to, apart);
 }
 
 -- format 12

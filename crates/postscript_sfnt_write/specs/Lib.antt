@@ -4,6 +4,7 @@ pub mod Tables
 pub mod Files
 pub mod Mappings
 pub mod Headers
+pub mod Records
 pub mod Grouping
 pub mod Metrics
 pub mod Layout

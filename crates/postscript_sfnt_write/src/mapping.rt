@@ -2,6 +2,7 @@
 ghost use Rattle.std.specs.Prelude.{◌≡◌, ℕ, ◌+◌, ◌*◌, ◌^◌, ◌<◌, ◌≤◌, [], ◌∷◌, ◌++◌, List, length, IsTrue, ◌↔◌, OnOk, IfOk, IfErr, IfNone, IfSome};
 ghost use Rattle.postscript_sfnt_write.specs.Mappings.{AreTold, AreToldIn4, CharsRise, FitFormat4, HasFormat4, HasOnlyFormat4, IsReadable, RefusesMap, in_segments, low as the_low};
 ghost use Rattle.postscript_sfnt_write.specs.Headers.{HaveHeaders, IsLogarithm};
+ghost use Rattle.postscript_sfnt_write.specs.Records.{AllAscend, HasRecords};
 ghost use Rattle.postscript_sfnt_write.specs.Grouping.{MappingsFit, AreBelow, MappingFits, GroupFits, GroupsFit, IsLarge, IsSmall, encoding_text, end, format12_text, goes_on as the_goes_on, group_of as the_group_of, group_text, grouped, groups as the_groups, groups_text, head4_text, large_text, row_number, row_text, rows_text};
 ghost use Rattle.postscript_sfnt_write.specs.declared.mapping.Mapping.{Mapping};
 
@@ -361,6 +362,8 @@ fn of_both(alloc: Global, mappings: &[Mapping]) -> std::result::Result<Vec<u8>, 
     ensures headers { IfOk result (λ cmap. HaveHeaders cmap.items) }
     ensures format4 { IfOk result (λ cmap. HasFormat4 cmap.items) }
     ensures told_in_4 { IfOk result (λ cmap. AreToldIn4 cmap.items (in_segments mappings.now)) }
+    ensures records { IfOk result (λ cmap. HasRecords cmap.items) }
+    ensures ascend { IfOk result (λ cmap. AllAscend cmap.items) }
     ensures size { IfOk result (λ cmap. length cmap.items ≤ 64076 + length mappings.now * 12) }
 {
     let low = low_segments(alloc, mappings)?;
@@ -387,6 +390,8 @@ fn of_segments(
     ensures format4 { IfOk result (λ cmap. HasFormat4 cmap.items) }
     ensures told_in_4 { IfOk result (λ cmap. AreToldIn4 cmap.items (in_segments mappings.now)) }
     ensures only { IfOk result (λ cmap. HasOnlyFormat4 cmap.items) }
+    ensures records { IfOk result (λ cmap. HasRecords cmap.items) }
+    ensures ascend { IfOk result (λ cmap. AllAscend cmap.items) }
     ensures size { IfOk result (λ cmap. length cmap.items ≤ 64076 + length mappings.now * 12) }
 {
     let table = small(alloc, segments)?;
@@ -438,6 +443,10 @@ pub fn cmap(alloc: Global, mappings: &[Mapping]) -> Result<Vec<u8>>
     ensures told_in_4 { IfOk result (λ cmap. AreToldIn4 cmap.items (in_segments mappings.now)) }
     // If format 4 has room for all characters (`FitFormat4`), each subtable has this format.
     ensures only { IfOk result (λ cmap. FitFormat4 mappings.now → HasOnlyFormat4 cmap.items) }
+    // The encoding records are (0, 3) and (3, 1), perhaps with (0, 4) and (3, 10), in order.
+    ensures records { IfOk result (λ cmap. HasRecords cmap.items) }
+    // In each subtable the segments or groups ascend and do not overlap. Format 4 ends with U+FFFF.
+    ensures ascend { IfOk result (λ cmap. AllAscend cmap.items) }
     // The table has at most 64,076 bytes, and 12 for each character.
     ensures size { IfOk result (λ cmap. length cmap.items ≤ 64076 + length mappings.now * 12) }
     // A success means that the characters are in strictly ascending order.

@@ -19,4 +19,6 @@ returns-in-Ok-clause-map c =
       format4 = c.in-Ok.ensures.format4;
       told_in_4 = subst (λ (ms : List Mapping). AreToldIn4 cmap (in_segments ms)) same c.in-Ok.ensures.told_in_4;
       only = subst (λ (ms : List Mapping). FitFormat4 ms → HasOnlyFormat4 cmap) same c.in-Ok.ensures.only;
+      records = c.in-Ok.ensures.records;
+      ascend = c.in-Ok.ensures.ascend;
     }

@@ -29,5 +29,11 @@ returns-clause-format4 c = (answer c).format4
 pub returns-clause-told_in_4 : goal.returns-clause-told_in_4
 returns-clause-told_in_4 c = (answer c).told_in_4
 
+pub returns-clause-records : goal.returns-clause-records
+returns-clause-records c = (answer c).records
+
+pub returns-clause-ascend : goal.returns-clause-ascend
+returns-clause-ascend c = (answer c).ascend
+
 pub returns-clause-size : goal.returns-clause-size
 returns-clause-size c = (answer c).size
