@@ -1,5 +1,5 @@
 -- The list of the glyphs of a set, and when a set is closed.
-use Rattle.std.proofs.Common.{◌≡◌, sym, subst, ◌∙◌, ap, inl, inr, ℕ, ◌+◌, ◌<◌, List, [], ◌∷◌, ◌++◌, length, get_or, arith, Bool, true, false, length-append}
+use Rattle.std.proofs.Common.{◌≡◌, sym, subst, ◌∙◌, ap, inl, inr, ℕ, ◌+◌, ◌<◌, List, [], ◌∷◌, ◌++◌, length, get_or, arith, Bool, true, false, length-append, ◌≤◌}
 use Rattle.std.specs.List.{Contains}
 use Rattle.std.specs.List.Sorted.{IsStrictlyIncreasing}
 use Rattle.std.proofs.lemmas.List.{get_or_append_left, get_or_push}
@@ -34,6 +34,7 @@ pub record Lists (marks : List Bool) (n : ℕ) (glyphs : List ℕ) : Type 0 wher
   pub only : (glyph : ℕ) → Contains glyphs glyph → get_or marks glyph false ≡ true
   pub below : (glyph : ℕ) → Contains glyphs glyph → glyph < n
   pub rises : IsStrictlyIncreasing glyphs
+  pub few : length glyphs ≤ n
 
 pub lists-none : (marks : List Bool) → Lists marks 0 []
 lists-none marks = record {
@@ -41,6 +42,7 @@ lists-none marks = record {
   only = λ glyph h. (let less = h.1 in absurd (omega (arith, less)));
   below = λ glyph h. (let less = h.1 in absurd (omega (arith, less)));
   rises = rises-none;
+  few = omega arith;
 }
 
 pub lists-set : (marks : List Bool) (n : ℕ) (glyphs : List ℕ) → Lists marks n glyphs → get_or marks n false ≡ true →
@@ -59,6 +61,7 @@ lists-set marks n glyphs l set = record {
     | inr same ↦ omega (arith, same)
   ];
   rises = rises-push glyphs n l.rises l.below;
+  few = (let long = length-append glyphs (n ∷ []) in let few = l.few in omega (arith, long, few));
 }
 
 pub lists-unset : (marks : List Bool) (n : ℕ) (glyphs : List ℕ) → Lists marks n glyphs → get_or marks n false ≡ false →
@@ -72,6 +75,7 @@ lists-unset marks n glyphs l off = record {
   only = l.only;
   below = λ glyph h. (let less = l.below glyph h in omega (arith, less));
   rises = l.rises;
+  few = (let few = l.few in omega (arith, few));
 }
 
 -- The set after some rounds.

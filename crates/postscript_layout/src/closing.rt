@@ -38,6 +38,7 @@ pub(crate) fn listed(alloc: Global, marks: &[bool]) -> Result<Vec<u16>>
     ensures memory { IfErr result (λ e. e ≡ errors.Memory) }
     ensures all { IfOk result (λ glyphs. AreMarked marks.now glyphs.items) }
     ensures rises { IfOk result (λ glyphs. IsStrictlyIncreasing glyphs.items) }
+    ensures few { IfOk result (λ glyphs. length glyphs.items ≤ length marks.now) }
 {
     let mut glyphs = Vec::new(alloc);
     for glyph in 0..marks.len() {
@@ -71,6 +72,8 @@ pub fn closure_over(
     ensures closed { IfOk result (λ closed. IsClosure gsub.now lookups.now glyphs.now closed.items) }
     // The list is strictly ascending.
     ensures rises { IfOk result (λ closed. IsStrictlyIncreasing closed.items) }
+    // There are at most 65,536 glyphs.
+    ensures few { IfOk result (λ closed. length closed.items ≤ 65536) }
     // The limit never grows.
     ensures spends { limit.new ≤ limit.old }
     // An error is `Memory`, or `TooLong` with nothing left of the limit.

@@ -2,9 +2,9 @@
 ghost use Rattle.std.specs.Prelude.{◌^◌, ◌<◌};
 
 use postscript_layout_write::{
-    Error, flagged_left_out, flagged_positions, flagged_positions_left_out, flagged_substitutions,
-    glyph_classes, glyph_definitions, kerning, left_out, positions, positions_left_out,
-    substitutions, with_called,
+    Error, closure_with_called, flagged_left_out, flagged_positions, flagged_positions_left_out,
+    flagged_substitutions, glyph_classes, glyph_definitions, kerning, left_out, positions,
+    positions_left_out, substitutions,
 };
 use std::alloc::{AllocError, Global};
 use std::process::Abort;
@@ -637,20 +637,55 @@ fn called(rt: HostRuntime) {
         3, 8, 42, 48, 5, 0, 1, 8, 1, 8, 1, 14, 1, 1, 1, 1, 4, 1, 1, 0, 2, 1, 0, 0, 6, 0, 1, 8, 2,
         14, 0, 0, 0, 1, 20, 1, 1, 5, 1, 4, 0, 1, 0, 1, 0, 0,
     ];
+    // Chosen lookups and given glyphs, and the lookups that are reached. No lookup makes other glyphs.
+    let rows = [
+        (0, &[1, 5][..], &[0, 2][..]),
+        (0, &[1], &[0, 2]),
+        (0, &[5], &[0]),
+        (1, &[1, 5], &[1]),
+        (2, &[1, 5], &[2, 0]),
+        (2, &[5], &[2, 0]),
+        (2, &[1], &[2]),
+    ];
     for lookups in [&lookups[..], &rules[..]] {
         let gsub = table(rt.alloc(), HEAD, lookups).expect(&rt, "memory");
-        for (given, all) in [(0, &[0, 2][..]), (1, &[1]), (2, &[2, 0])] {
-            let mut limit = 100;
-            let reached = with_called(rt.alloc(), &gsub, &[given], &mut limit).expect(
-                &rt, "lookups",
-            );
-            assert_eq!(rt; reached.as_slice(), all);
+        for (given, glyphs, all) in rows {
+            let mut limit = 50_000;
+            let reached =
+                closure_with_called(rt.alloc(), &gsub, &[given], glyphs, &mut limit).expect(&rt, "lookups");
+            assert_eq!(rt; reached.lookups.as_slice(), all);
+            assert_eq!(rt; reached.glyphs.as_slice(), glyphs);
         }
     }
     let gsub = table(rt.alloc(), HEAD, &lookups).expect(&rt, "memory");
     let mut limit = 3;
-    let long = with_called(rt.alloc(), &gsub, &[0], &mut limit);
-    assert!(rt; long == Err(Error::TooLong) && limit == 0);
+    let long = closure_with_called(rt.alloc(), &gsub, &[0], &[1], &mut limit);
+    assert!(rt; long.err() == Some(Error::TooLong) && limit == 0);
+}
+
+#[test]
+fn reached(rt: HostRuntime) {
+    // Lookup 0 calls lookup 2 for glyph 5, lookup 1 substitutes 5 for 1, and lookup 2 substitutes 7 for 5.
+    let lookups = [
+        3, 8, 34, 54, 5, 0, 1, 8, 3, 1, 1, 12, 0, 2, 1, 1, 5, 1, 0, 1, 8, 1, 6, 4, 1, 1, 1, 1, 0,
+        1, 8, 1, 6, 2, 1, 1, 5,
+    ];
+    let rows = [
+        (&[0, 1][..], 1, &[0, 1, 2][..], &[1, 5, 7][..]),
+        (&[0], 1, &[0], &[1]),
+        (&[0], 5, &[0, 2], &[5, 7]),
+        (&[1], 1, &[1], &[1, 5]),
+        (&[1, 0], 2, &[1, 0], &[2]),
+        (&[2], 5, &[2], &[5, 7]),
+    ];
+    let gsub = table(rt.alloc(), HEAD, &lookups).expect(&rt, "memory");
+    for (chosen, glyph, all, made) in rows {
+        let mut limit = 50_000;
+        let reached =
+            closure_with_called(rt.alloc(), &gsub, chosen, &[glyph], &mut limit).expect(&rt, "lookups");
+        assert_eq!(rt; reached.lookups.as_slice(), all);
+        assert_eq!(rt; reached.glyphs.as_slice(), made);
+    }
 }
 
 #[test]

@@ -9,7 +9,7 @@ use Rattle.std.proofs.lemmas.List.FromFn.{get_or-map-range_with_len, get_or-rang
 use Rattle.postscript_layout.specs.Numbers.{word, long, words}
 use Rattle.postscript_layout.specs.Substitutions.{coverage_of}
 use Rattle.postscript_layout.specs.Substitutions.{set_of as rule_set}
-use Rattle.postscript_layout_write.specs.Contexts.{actions_at, after_at, all_have_formats, context_of, contexts_at, contexts_below, contexts_in, has_format, input_at, parts_of, sets_at}
+use Rattle.postscript_layout_write.specs.Contexts.{actions_at, after_at, all_have_formats, context_of, contexts_at, contexts_in, has_format, input_at, parts_of, sets_at}
 use Rattle.postscript_layout_write.specs.Sequences.{Context, can_apply, covered_of, covers, if_applies, kept_by}
 use Rattle.postscript_layout_write.specs.declared.contexts.Parts.{Parts}
 use Rattle.postscript_layout_write.specs.declared.labels.Role.{Role}
@@ -39,7 +39,7 @@ pub record IsKeptSet (n : ℕ) (set : List ℕ) : Type 0 where
   pub test : ℕ → Bool
   pub is : set ≡ filter test (range_with_len 0 n)
 
-passes-there : (p : ℕ → Bool) (n k : ℕ) → k < n → p k ≡ true → Contains (filter p (range_with_len 0 n)) k
+pub passes-there : (p : ℕ → Bool) (n k : ℕ) → k < n → p k ≡ true → Contains (filter p (range_with_len 0 n)) k
 passes-there p zero k less passes = absurd (omega (arith, less))
 passes-there p (suc m) k less passes =
     let more : filter p (range_with_len 0 (suc m)) ≡ filter p (range_with_len 0 m) ++ (if p m then m ∷ [] else []) =

@@ -60,7 +60,7 @@ module _ (gsub kept : List ℕ) (type s : ℕ) where
       (λ p. labelled gsub kept type s role (word gsub (array + p * 2))) count (λ p. having-same role labels are (word gsub (array + p * 2)))
 
   module _ (labels : Labels) (are : AreLabels gsub kept type s labels) (i : ℕ) where
-    listed-same : (start : List ℕ) → start ≡ labelled gsub kept type s Start i → (parts : Parts) →
+    pub listed-same : (start : List ℕ) → start ≡ labelled gsub kept type s Start i → (parts : Parts) →
         listed_context gsub labels start parts ≡ rule_context gsub kept type s i parts
     listed-same start is parts = same-context (listed_context gsub labels start parts) (rule_context gsub kept type s i parts)
         (having-at-same Before labels.before.items are.before parts.before_at parts.before)

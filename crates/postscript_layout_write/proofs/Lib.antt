@@ -22,6 +22,7 @@ pub mod ContextCollecting
 pub mod ContextReading
 pub mod Labelling
 pub mod Reaching
+pub mod Calling
 pub mod Rows
 pub mod LigatureRows
 pub mod MarkWriting

@@ -4,9 +4,9 @@ use Rattle.std.specs.Prelude.{◌⊎◌, nat_eq, slice_set}
 use Rattle.std.specs.List.{Contains}
 use Rattle.std.proofs.lemmas.Bool.{eqb-true}
 use Rattle.std.proofs.lemmas.List.{get_or_append_left, take_more}
-use Rattle.std.proofs.lemmas.List.Elements.{Contains-append_cases, Contains-append_left, Contains-get_or, Contains-push}
-use Rattle.postscript_layout_write.specs.Calls.{AreReached, Calls}
-use Rattle.postscript_layout_write.specs.Reaching.{AddsOnly, AreNoted, IsFollowed}
+use Rattle.std.proofs.lemmas.List.Elements.{All-contains, All-contains_itself, All-weaker, Contains-append_cases, Contains-append_left, Contains-get_or, Contains-push}
+use Rattle.postscript_layout_write.specs.Calls.{Calls}
+use Rattle.postscript_layout_write.specs.Reaching.{AddsOnly, AreFollowed, AreNoted, IsFollowed}
 use Rattle.postscript_layout_write.specs.RuleSets.{Begins}
 use Rattle.postscript_layout_write.specs.Substituting.{is_chosen}
 use Rattle.postscript_layout_write.proofs.ContextCollecting.{begins-same, begins-trans}
@@ -118,39 +118,38 @@ noted-more marks xs x less noted m is = chosen-more xs x m ∙ by (get_or marks 
         second false t = t
 
 -- lookups whose calls were followed
-pub followed-none : (gsub given before new : List ℕ) → length before ≡ 0 → AddsOnly (λ m. Contains given m) before new → IsFollowed gsub given 0 new
-followed-none gsub given before new empty a = record {
-  holds = a.there;
-  closed = λ k m less calls. absurd (omega (arith, less));
-  least = λ other closed holds i there. elim (a.only i there) [
-    | inl was ↦ (let within = was.1 in absurd (omega (arith, within, empty)))
-    | inr g ↦ holds i g
-  ];
+pub followed-none : (gsub kept given : List ℕ) → IsFollowed gsub kept given 0 given
+followed-none gsub kept given = record {
+  begins = begins-same given;
+  called = λ k m less calls. absurd (omega (arith, less));
+  least = λ other closed holds. holds;
 }
 
-pub followed-more : (gsub given : List ℕ) (k : ℕ) (old new : List ℕ) → k < length old → AddsOnly (Calls gsub (get_or old k 0)) old new →
-    IsFollowed gsub given k old → IsFollowed gsub given (k + 1) new
-followed-more gsub given k old new less a f = record {
-  holds = λ i g. begins-has old new i a.begins (f.holds i g);
-  closed = λ n m below calls. elim (nat_cases n k) [
-    | inl early ↦ begins-has old new m a.begins (f.closed n m early (subst (λ i. Calls gsub i m) (same n (omega (arith, early, less))) calls))
+pub followed-more : (gsub kept given : List ℕ) (k : ℕ) (old new : List ℕ) → k < length old → AddsOnly (Calls gsub kept (get_or old k 0)) old new →
+    IsFollowed gsub kept given k old → IsFollowed gsub kept given (k + 1) new
+followed-more gsub kept given k old new less a f = record {
+  begins = begins-trans given old new f.begins a.begins;
+  called = λ n m below calls. elim (nat_cases n k) [
+    | inl early ↦ begins-has old new m a.begins (f.called n m early (subst (λ i. Calls gsub kept i m) (same n (omega (arith, early, less))) calls))
     | inr late ↦ (let this : n ≡ k = omega (arith, below, late) in
-        a.there m (subst (λ i. Calls gsub i m) (same n (omega (arith, this, less)) ∙ ap (λ i. get_or old i 0) this) calls))
+        a.there m (subst (λ i. Calls gsub kept i m) (same n (omega (arith, this, less)) ∙ ap (λ i. get_or old i 0) this) calls))
   ];
-  least = λ other closed holds i there. elim (a.only i there) [
-    | inl was ↦ f.least other closed holds i was
-    | inr calls ↦ closed (get_or old k 0) i (f.least other closed holds (get_or old k 0) (Contains-get_or old k 0 less)) calls
-  ];
+  least = λ other closed holds.
+      let were = f.least other closed holds in
+      All-weaker (Contains new) (Contains other) (λ i there. elim (a.only i there) [
+        | inl was ↦ All-contains (Contains other) old i were was
+        | inr calls ↦ closed (get_or old k 0) i (All-contains (Contains other) old (get_or old k 0) were (Contains-get_or old k 0 less)) calls
+      ]) new (All-contains_itself new);
 }
   where
     same : (n : ℕ) → n < length old → get_or new n 0 ≡ get_or old n 0
     same n within = ap (λ (xs : List ℕ). get_or xs n 0) a.begins.is ∙ get_or_append_left old a.begins.more 0 n within
 
-pub followed-all : (gsub given : List ℕ) (k : ℕ) (all : List ℕ) → length all ≤ k → IsFollowed gsub given k all → AreReached gsub given all
-followed-all gsub given k all past f = record {
-  holds = f.holds;
-  closed = λ i m there calls. (let within = there.1 in
-      f.closed there.0 m (omega (arith, within, past))
-      (subst (λ n. Calls gsub n m) (sym (any-default all there.0 0 i there.1 ∙ there.2)) calls));
+pub followed-all : (gsub kept given : List ℕ) (k : ℕ) (all : List ℕ) → length all ≤ k → IsFollowed gsub kept given k all → AreFollowed gsub kept given all
+followed-all gsub kept given k all past f = record {
+  begins = f.begins;
+  called = λ i m there calls. (let within = there.1 in
+      f.called there.0 m (omega (arith, within, past))
+      (subst (λ n. Calls gsub kept n m) (sym (any-default all there.0 0 i there.1 ∙ there.2)) calls));
   least = f.least;
 }

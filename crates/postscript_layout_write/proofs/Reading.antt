@@ -1,5 +1,5 @@
 -- Subtables that were written are read as their pairs.
-use Rattle.std.proofs.Common.{◌≡◌, refl, sym, ap, subst, ◌∙◌, inl, inr, ℕ, zero, suc, ◌+◌, ◌*◌, ◌≤◌, ◌<◌, ◌==◌, ◌&&◌, List, [], ◌∷◌, ◌++◌, length, length-append, get_or, arith, Bool, true, false}
+use Rattle.std.proofs.Common.{◌≡◌, refl, sym, ap, subst, ◌∙◌, ℕ, zero, suc, ◌+◌, ◌*◌, ◌≤◌, ◌<◌, ◌==◌, ◌&&◌, List, [], ◌∷◌, ◌++◌, length, length-append, get_or, arith, Bool, true, false}
 use Rattle.std.specs.Prelude.{Option, None, Some, map, nat_eq, nat_lt, if◌then◌else◌}
 use Rattle.std.specs.List.{Contains}
 use Rattle.std.proofs.lemmas.Bool.{eq-eqb, eqb-true, lt-ltb}
@@ -18,7 +18,7 @@ use Rattle.postscript_layout_write.specs.declared.entries.Form.{Form}
 use Rattle.postscript_layout_write.specs.declared.entries.Form.TheVariants.{Advance, First, Both}
 use Rattle.postscript_layout_write.specs.declared.values.Adjustment.{Adjustment}
 use Rattle.postscript_layout_write.specs.declared.values.Values.{Values}
-use Rattle.postscript_layout_write.proofs.Firsts.{nat_cases, Found, first-cases, none_found, some_found}
+use Rattle.postscript_layout_write.proofs.Firsts.{Found, first-cases, none_found, some_found}
 use Rattle.postscript_layout_write.proofs.Holding.{holds-array, holds-first, holds-in, holds-second, holds-word, length-array, length-uint16}
 
 -- an element does not depend on the default

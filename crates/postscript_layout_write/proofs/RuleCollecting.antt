@@ -6,8 +6,6 @@ use Rattle.std.proofs.lemmas.Bool.{le-ltb, lt-ltb}
 use Rattle.std.proofs.lemmas.List.{get_or_append_left, get_or_push}
 use Rattle.std.proofs.lemmas.List.Elements.{Contains-append_left, Contains-push}
 use Rattle.postscript_layout_write.specs.Contexts.{contexts_at}
-use Rattle.postscript_layout_write.specs.Sequences.{Context}
-use Rattle.postscript_layout_write.specs.Coverages.{chained_text}
 use Rattle.postscript_layout_write.specs.Flags.{set_of, uses_set}
 use Rattle.postscript_layout_write.specs.Holds.{Holds}
 use Rattle.postscript_layout_write.specs.Pairs.{flag_of, lookup_at}

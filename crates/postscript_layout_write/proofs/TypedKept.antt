@@ -1,12 +1,11 @@
 -- Lookups that were written with a subtable for each old one are read as before.
 use Rattle.std.proofs.Common.{◌≡◌, refl, sym, ap, subst, ◌∙◌, ℕ, ◌+◌, ◌*◌, ◌<◌, ◌==◌, ◌&&◌, ◌||◌, List, [], ◌++◌, length, get_or, arith, Bool, true, false}
-use Rattle.std.specs.Prelude.{Option, None, Some, is_none, nat_eq, nat_lt, if◌then◌else◌}
-use Rattle.std.specs.List.{range_with_len}
+use Rattle.std.specs.Prelude.{Option, None, Some, nat_eq, nat_lt, if◌then◌else◌}
 use Rattle.std.proofs.lemmas.Bool.{eq-eqb, eqb-true}
 use Rattle.postscript_layout.specs.Numbers.{word, long}
 use Rattle.postscript_layout_write.specs.Attaching.{HasAttaching}
 use Rattle.postscript_layout_write.specs.Cursive.{by_lookup as connection_by_lookup, by_subtable as connected_by, by_subtables as connections_by}
-use Rattle.postscript_layout_write.specs.First.{all_below, first_some}
+use Rattle.postscript_layout_write.specs.First.{first_some}
 use Rattle.postscript_layout_write.specs.Flags.{set_of, uses_set}
 use Rattle.postscript_layout_write.specs.Holds.{Holds}
 use Rattle.postscript_layout_write.specs.Ligatures.{by_lookup as ligature_by_lookup, by_subtable as ligature_by, by_subtables as ligatures_by}

@@ -1,5 +1,5 @@
 -- Labels of the kept glyphs, as they are collected. Only contracts of private functions and proofs name this.
-use Rattle.std.specs.Prelude.{◌≡◌, ℕ, ◌+◌, ◌*◌, ◌<◌, List, ◌∷◌, Option, None, filter, length, map, slice_index, slice_index_or}
+use Rattle.std.specs.Prelude.{◌≡◌, ℕ, ◌+◌, ◌*◌, ◌≤◌, List, ◌∷◌, Option, None, filter, length, map, slice_index, slice_index_or}
 use Rattle.std.specs.List.{range_with_len}
 use Rattle.postscript_layout.specs.Numbers.{word, words}
 use Rattle.postscript_layout_write.specs.ContextRules.{is_label, label_of, rule_of, rule_parts}
@@ -16,7 +16,7 @@ labels_below gsub kept type subtable role count = map (λ k. label_of gsub type 
 
 pub record AreRoleLabels (gsub kept : List ℕ) (type subtable : ℕ) (role : Role) (labels : List (Option ℕ)) : Type 0 where
   pub are : labels ≡ labels_below gsub kept type subtable role (length kept)
-  pub few : length labels < 65536
+  pub few : length labels ≤ 65536
 
 pub record AreLabels (gsub kept : List ℕ) (type subtable : ℕ) (labels : Labels) : Type 0 where
   pub start : AreRoleLabels gsub kept type subtable Start labels.start.items
@@ -24,11 +24,11 @@ pub record AreLabels (gsub kept : List ℕ) (type subtable : ℕ) (labels : Labe
   pub input : AreRoleLabels gsub kept type subtable Input labels.input.items
   pub after : AreRoleLabels gsub kept type subtable After labels.after.items
 
--- labels of fewer than 65,536 glyphs
+-- labels of at most 65,536 glyphs
 pub record AreFew (labels : Labels) : Type 0 where
-  pub before : length labels.before.items < 65536
-  pub input : length labels.input.items < 65536
-  pub after : length labels.after.items < 65536
+  pub before : length labels.before.items ≤ 65536
+  pub input : length labels.input.items ≤ 65536
+  pub after : length labels.after.items ≤ 65536
 
 -- the indices of a label in a list
 abbrev pub having : (labels : List (Option ℕ)) → (number : ℕ) → List ℕ

@@ -26,6 +26,8 @@ pub mod Contexts
 pub mod Coverages
 pub mod Labels
 pub mod Calls
+pub mod Reached
+pub mod Texts
 pub mod Reaching
 pub mod Marks
 pub mod Ligatures

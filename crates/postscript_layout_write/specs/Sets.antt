@@ -1,5 +1,5 @@
 -- Sets of pairs.
-use Rattle.std.specs.Prelude.{◌≡◌, ℕ, ◌+◌, ◌*◌, ◌<◌, ◌≤◌, List, [], ◌∷◌, ◌++◌, None, Some, length, slice_index}
+use Rattle.std.specs.Prelude.{◌≡◌, ℕ, ◌+◌, ◌*◌, ◌<◌, ◌≤◌, List, [], ◌∷◌, ◌++◌, Some, length, slice_index}
 use Rattle.std.specs.List.{All, Contains}
 use Rattle.postscript_layout_write.specs.Entries.{entry, form_of}
 use Rattle.postscript_layout_write.specs.Holds.{Holds}

@@ -1,15 +1,21 @@
 //! The lookups that contexts apply.
-ghost use Rattle.std.specs.Prelude.{◌≡◌, ◌⊎◌, ◌+◌, ◌*◌, ◌^◌, ◌<◌, ◌≤◌, ℕ, Some, false, length, slice_index_or, IfErr, IfOk, IfSome, OnOk};
+ghost use Rattle.std.specs.Prelude.{◌≡◌, ◌⊎◌, ◌+◌, ◌*◌, ◌^◌, ◌<◌, ◌≤◌, ℕ, [], Some, false, length, slice_index_or, IfErr, IfOk, IfSome, OnOk};
 ghost use Rattle.std.specs.List.{Contains};
-ghost use Rattle.postscript_layout_write.specs.Calls.{AreReached, Calls, IsNamedBy, NamesAt, NamesBy, NamesIn, NamesInSet};
+ghost use Rattle.postscript_layout.specs.Numbers.{word as the_word};
+ghost use Rattle.postscript_layout_write.specs.Calls.{AppliesTo, Calls, CallsAt, CallsBy, CallsIn, CallsInSet, IsNamedBy};
+ghost use Rattle.postscript_layout_write.specs.ContextRules.{set_of as the_set};
 ghost use Rattle.postscript_layout_write.specs.Coverages.{IsNear};
-ghost use Rattle.postscript_layout_write.specs.Reaching.{AddsOnly, AreNoted};
-ghost use Rattle.postscript_layout_write.specs.Refusals.{Fails, IsUsedUp};
+ghost use Rattle.postscript_layout_write.specs.Labels.{AreFew, AreLabels};
+ghost use Rattle.postscript_layout_write.specs.Reaching.{AddsOnly, AreFollowed, AreNoted, ListedCalls};
+ghost use Rattle.postscript_layout_write.specs.Refusals.{IsUsedUp};
+ghost use Rattle.postscript_layout_write.specs.Sequences.{Context, can_apply};
 ghost use Rattle.postscript_layout_write.specs.declared.error.Error.TheVariants as errors;
 
+use crate::applying::{context_applies, rule_applies};
 use crate::context_rules::{rule_of, rule_parts, set_of, sets_of};
-use crate::contexts::{Parts, is_contextual, parts_of};
+use crate::contexts::{Parts, Source, is_contextual, parts_of};
 use crate::error::Result;
+use crate::labels::{Labels, labels_of, with_label};
 use crate::limit::{pay, pay_all};
 use crate::numbers::word;
 use crate::rules::{part_at, type_of};
@@ -17,9 +23,9 @@ use std::alloc::Global;
 
 /// Lookups, each once, and a mark for each of them.
 #[derive(Drop)]
-struct Reached {
+pub(crate) struct Lookups {
     marks: Vec<bool>,
-    lookups: Vec<u16>,
+    pub(crate) lookups: Vec<u16>,
     ghost many: { length marks.items ≡ 65536 },
     ghost noted: { AreNoted marks.items lookups.items },
 }
@@ -34,14 +40,14 @@ fn unmarked(alloc: Global, count: usize) -> Result<Vec<bool>>
     Ok(marks)
 }
 
-impl Reached {
+impl Lookups {
     /// Returns no lookups.
-    fn new(alloc: Global) -> Result<Reached>
-        ensures none { IfOk result (λ reached. length reached.lookups.items ≡ 0) }
+    pub(crate) fn new(alloc: Global) -> Result<Lookups>
+        ensures none { IfOk result (λ found. found.lookups.items ≡ []) }
         ensures memory { IfErr result (λ e. e ≡ errors.Memory) }
     {
         let marks = unmarked(alloc, 65536)?;
-        Ok(Reached {
+        Ok(Lookups {
             marks,
             lookups: Vec::new(alloc),
         })
@@ -61,7 +67,7 @@ impl Reached {
     }
 
     /// Adds lookups.
-    fn add_all(&mut self, lookups: &[u16], limit: &mut u64) -> Result<()>
+    pub(crate) fn add_all(&mut self, lookups: &[u16], limit: &mut u64) -> Result<()>
         ensures added { OnOk result (AddsOnly (λ m. Contains lookups.now m) self.old.lookups.items self.new.lookups.items) }
         ensures spends { limit.new ≤ limit.old }
         ensures why { IfErr result (λ e. (e ≡ errors.Memory) ⊎ IsUsedUp limit.new e) }
@@ -74,9 +80,9 @@ impl Reached {
     }
 
     /// Adds the lookups of the actions of a context.
-    fn add_named(&mut self, gsub: &[u8], parts: &Parts, limit: &mut u64) -> Result<()>
-        requires near { IsNear parts.now }
-        ensures added { OnOk result (AddsOnly (λ m. (r : ℕ) × IsNamedBy gsub.now parts.now r m) self.old.lookups.items self.new.lookups.items) }
+    fn add_named(&mut self, gsub: &[u8], parts: Parts, limit: &mut u64) -> Result<()>
+        requires near { IsNear parts }
+        ensures added { OnOk result (AddsOnly (λ m. (r : ℕ) × IsNamedBy gsub.now parts r m) self.old.lookups.items self.new.lookups.items) }
         ensures spends { limit.new ≤ limit.old }
         ensures why { IfErr result (λ e. (e ≡ errors.Memory) ⊎ IsUsedUp limit.new e) }
     {
@@ -87,10 +93,39 @@ impl Reached {
         Ok(())
     }
 
-    /// Adds the lookups that the rules of a set name.
-    fn add_rules(&mut self, gsub: &[u8], kind: usize, set: usize, limit: &mut u64) -> Result<()>
+    /// Adds the lookups that a context calls, if it can apply.
+    fn add_context(
+        &mut self,
+        gsub: &[u8],
+        parts: Parts,
+        applies: bool,
+        limit: &mut u64,
+    ) -> Result<()>
+        requires near { IsNear parts }
+        ensures added { OnOk result ((context : Context) → applies ≡ can_apply context → AddsOnly (AppliesTo gsub.now context parts) self.old.lookups.items self.new.lookups.items) }
+        ensures spends { limit.new ≤ limit.old }
+        ensures why { IfErr result (λ e. (e ≡ errors.Memory) ⊎ IsUsedUp limit.new e) }
+    {
+        if applies {
+            self.add_named(gsub, parts, limit)?;
+        }
+        Ok(())
+    }
+
+    /// Adds the lookups that the rules of a set call, whose first glyphs are given.
+    fn add_rules(
+        &mut self,
+        alloc: Global,
+        gsub: &[u8],
+        kind: usize,
+        labels: &Labels,
+        start: &[u16],
+        set: usize,
+        limit: &mut u64,
+    ) -> Result<()>
         requires near { set < 2 ^ 33 + 65536 }
-        ensures added { OnOk result (AddsOnly (NamesInSet gsub.now kind (Some set)) self.old.lookups.items self.new.lookups.items) }
+        requires few { AreFew labels.now }
+        ensures added { OnOk result (AddsOnly (ListedCalls gsub.now kind labels.now start.now set (the_word gsub.now set)) self.old.lookups.items self.new.lookups.items) }
         ensures spends { limit.new ≤ limit.old }
         ensures why { IfErr result (λ e. (e ≡ errors.Memory) ⊎ IsUsedUp limit.new e) }
     {
@@ -98,109 +133,147 @@ impl Reached {
         for k in 0..count {
             pay(limit)?;
             let parts = rule_parts(gsub, kind, rule_of(gsub, set, k));
-            self.add_named(gsub, &parts, limit)?;
+            let applies = rule_applies(alloc, gsub, labels, start, parts, limit)?;
+            self.add_context(gsub, parts, applies, limit)?;
         }
         Ok(())
     }
 
-    /// Adds the lookups that a set of rules names, unless it is missing.
+    /// Adds the lookups that set `i` of rules calls.
     fn add_set(
         &mut self,
-        gsub: &[u8],
+        alloc: Global,
+        source: &Source<'_>,
         kind: usize,
-        set: Option<usize>,
+        subtable: usize,
+        labels: &Labels,
+        i: usize,
         limit: &mut u64,
     ) -> Result<()>
-        requires near { IfSome set (λ at. at < 2 ^ 33 + 65536) }
-        ensures added { OnOk result (AddsOnly (NamesInSet gsub.now kind set) self.old.lookups.items self.new.lookups.items) }
-        ensures spends { limit.new ≤ limit.old }
-        ensures why { IfErr result (λ e. (e ≡ errors.Memory) ⊎ IsUsedUp limit.new e) }
-    {
-        if let Some(set) = set {
-            self.add_rules(gsub, kind, set, limit)?;
-        }
-        Ok(())
-    }
-
-    /// Adds the lookups that the sets of rules of a subtable name.
-    fn add_sets(&mut self, gsub: &[u8], kind: usize, subtable: usize, limit: &mut u64) -> Result<()>
         requires near { subtable < 2 ^ 33 }
-        ensures added { OnOk result (AddsOnly (NamesBy gsub.now kind subtable false) self.old.lookups.items self.new.lookups.items) }
+        requires few { i < 65536 }
+        requires exact { AreLabels source.now.gsub.now source.now.kept.now kind subtable labels.now }
+        ensures added { OnOk result (AddsOnly (CallsInSet source.now.gsub.now source.now.kept.now kind subtable i (the_set source.now.gsub.now kind subtable i)) self.old.lookups.items self.new.lookups.items) }
         ensures spends { limit.new ≤ limit.old }
         ensures why { IfErr result (λ e. (e ≡ errors.Memory) ⊎ IsUsedUp limit.new e) }
     {
-        let count = word(gsub, sets_of(gsub, kind, subtable));
-        for i in 0..count {
-            pay(limit)?;
-            self.add_set(gsub, kind, set_of(gsub, kind, subtable, i), limit)?;
-        }
+        let Some(set) = set_of(source.gsub, kind, subtable, i) else {
+            return Ok(());
+        };
+        let start = with_label(alloc, &labels.start, i, limit)?;
+        self.add_rules(alloc, source.gsub, kind, labels, &start, set, limit)?;
         Ok(())
     }
 
-    /// Adds the lookups that a subtable at an offset names.
-    fn add_subtable(
+    /// Adds the lookups that the sets of rules of a subtable call.
+    fn add_sets(
         &mut self,
-        gsub: &[u8],
+        alloc: Global,
+        source: &Source<'_>,
         kind: usize,
         subtable: usize,
         limit: &mut u64,
     ) -> Result<()>
         requires near { subtable < 2 ^ 33 }
-        ensures added { OnOk result (AddsOnly (NamesIn gsub.now kind (Some subtable)) self.old.lookups.items self.new.lookups.items) }
+        requires few { length source.now.kept.now ≤ 65536 }
+        ensures added { OnOk result (AddsOnly (CallsBy source.now.gsub.now source.now.kept.now kind subtable false) self.old.lookups.items self.new.lookups.items) }
         ensures spends { limit.new ≤ limit.old }
         ensures why { IfErr result (λ e. (e ≡ errors.Memory) ⊎ IsUsedUp limit.new e) }
     {
-        if word(gsub, subtable) == 3 {
-            self.add_named(gsub, &parts_of(gsub, kind, subtable), limit)?;
-            return Ok(());
+        let labels = labels_of(alloc, source.gsub, kind, subtable, source.kept, limit)?;
+        let count = word(source.gsub, sets_of(source.gsub, kind, subtable));
+        for i in 0..count {
+            pay(limit)?;
+            self.add_set(alloc, source, kind, subtable, &labels, i, limit)?;
         }
-        self.add_sets(gsub, kind, subtable, limit)?;
         Ok(())
     }
 
-    /// Adds the lookups that a subtable names.
+    /// Adds the lookups that a subtable at an offset calls.
+    fn add_subtable(
+        &mut self,
+        alloc: Global,
+        source: &Source<'_>,
+        kind: usize,
+        subtable: usize,
+        limit: &mut u64,
+    ) -> Result<()>
+        requires near { subtable < 2 ^ 33 }
+        requires few { length source.now.kept.now ≤ 65536 }
+        ensures added { OnOk result (AddsOnly (CallsIn source.now.gsub.now source.now.kept.now kind (Some subtable)) self.old.lookups.items self.new.lookups.items) }
+        ensures spends { limit.new ≤ limit.old }
+        ensures why { IfErr result (λ e. (e ≡ errors.Memory) ⊎ IsUsedUp limit.new e) }
+    {
+        if word(source.gsub, subtable) == 3 {
+            let parts = parts_of(source.gsub, kind, subtable);
+            let applies = context_applies(alloc, source, subtable, parts, limit)?;
+            self.add_context(source.gsub, parts, applies, limit)?;
+            return Ok(());
+        }
+        self.add_sets(alloc, source, kind, subtable, limit)?;
+        Ok(())
+    }
+
+    /// Adds the lookups that a subtable calls.
     fn add_part(
         &mut self,
-        gsub: &[u8],
+        alloc: Global,
+        source: &Source<'_>,
         kind: usize,
         part: Option<usize>,
         limit: &mut u64,
     ) -> Result<()>
         requires near { IfSome part (λ at. at < 2 ^ 33) }
-        ensures added { OnOk result (AddsOnly (NamesIn gsub.now kind part) self.old.lookups.items self.new.lookups.items) }
+        requires few { length source.now.kept.now ≤ 65536 }
+        ensures added { OnOk result (AddsOnly (CallsIn source.now.gsub.now source.now.kept.now kind part) self.old.lookups.items self.new.lookups.items) }
         ensures spends { limit.new ≤ limit.old }
         ensures why { IfErr result (λ e. (e ≡ errors.Memory) ⊎ IsUsedUp limit.new e) }
     {
         if let Some(subtable) = part {
-            self.add_subtable(gsub, kind, subtable, limit)?;
+            self.add_subtable(alloc, source, kind, subtable, limit)?;
         }
         Ok(())
     }
 
-    /// Adds the lookups that a lookup of contexts names.
-    fn add_contexts(&mut self, gsub: &[u8], lookup: usize, limit: &mut u64) -> Result<()>
+    /// Adds the lookups that a lookup of contexts calls.
+    fn add_contexts(
+        &mut self,
+        alloc: Global,
+        source: &Source<'_>,
+        lookup: usize,
+        limit: &mut u64,
+    ) -> Result<()>
         requires near { lookup < 2 ^ 31 }
-        ensures added { OnOk result (AddsOnly (λ m. (j : ℕ) × NamesAt gsub.now lookup j m) self.old.lookups.items self.new.lookups.items) }
+        requires few { length source.now.kept.now ≤ 65536 }
+        ensures added { OnOk result (AddsOnly (λ m. (j : ℕ) × CallsAt source.now.gsub.now source.now.kept.now lookup j m) self.old.lookups.items self.new.lookups.items) }
         ensures spends { limit.new ≤ limit.old }
         ensures why { IfErr result (λ e. (e ≡ errors.Memory) ⊎ IsUsedUp limit.new e) }
     {
-        let kind = type_of(gsub, lookup);
-        let count = word(gsub, lookup + 4);
+        let kind = type_of(source.gsub, lookup);
+        let count = word(source.gsub, lookup + 4);
         for j in 0..count {
             pay(limit)?;
-            let part = part_at(gsub, lookup, kind, j);
-            self.add_part(gsub, kind, part, limit)?;
+            let part = part_at(source.gsub, lookup, kind, j);
+            self.add_part(alloc, source, kind, part, limit)?;
         }
         Ok(())
     }
 
-    /// Adds the lookups that lookup `i` calls.
-    fn follow(&mut self, gsub: &[u8], i: usize, limit: &mut u64) -> Result<()>
+    /// Adds the lookups that lookup `i` calls, in contexts that can apply to the kept glyphs.
+    fn follow(
+        &mut self,
+        alloc: Global,
+        source: &Source<'_>,
+        i: usize,
+        limit: &mut u64,
+    ) -> Result<()>
         requires small { i < 65536 }
-        ensures added { OnOk result (AddsOnly (Calls gsub.now i) self.old.lookups.items self.new.lookups.items) }
+        requires few { length source.now.kept.now ≤ 65536 }
+        ensures added { OnOk result (AddsOnly (Calls source.now.gsub.now source.now.kept.now i) self.old.lookups.items self.new.lookups.items) }
         ensures spends { limit.new ≤ limit.old }
         ensures why { IfErr result (λ e. (e ≡ errors.Memory) ⊎ IsUsedUp limit.new e) }
     {
+        let gsub = source.gsub;
         let list = word(gsub, 8);
         if i >= word(gsub, list) {
             return Ok(());
@@ -208,40 +281,30 @@ impl Reached {
         let lookup = list + word(gsub, list + 2 + i * 2);
         pay_all(limit, word(gsub, lookup + 4))?;
         if is_contextual(gsub, lookup) {
-            self.add_contexts(gsub, lookup, limit)?;
+            self.add_contexts(alloc, source, lookup, limit)?;
         }
         Ok(())
     }
-}
 
-/// Returns lookups of a `GSUB` table, and all lookups that their contexts call, directly or by other lookups, each once.
-///
-/// These are the lookups to choose for [`substitutions`](crate::substitutions), and for the closure of glyphs over them.
-/// Contexts are those of lookups of type 5 or 6 whose subtables all have format 1, 2 or 3.
-///
-/// One unit of the limit is paid for each given lookup, each lookup that is returned, and each subtable, set of rules, rule and
-/// action of it.
-///
-/// # Errors
-///
-/// - `TooLong`: the search costs more than the limit.
-/// - `Memory`: out of memory.
-pub fn with_called(alloc: Global, gsub: &[u8], lookups: &[u16], limit: &mut u64) -> Result<Vec<u16>>
-    // Exactly the given lookups, and those that they call, directly or by others.
-    ensures reached { IfOk result (λ all. AreReached gsub.now lookups.now all.items) }
-    // The limit never grows.
-    ensures spends { limit.new ≤ limit.old }
-    // `TooLong` leaves nothing of the limit. The only other error is `Memory`.
-    ensures why { IfErr result (λ e. (e ≡ errors.Memory) ⊎ IsUsedUp limit.new e) }
-{
-    let mut reached = Reached::new(alloc)?;
-    reached.add_all(lookups, limit)?;
-    let mut k = 0;
-    while k < reached.lookups.len() {
-        pay(limit)?;
-        let i = reached.lookups[k] as usize;
-        reached.follow(gsub, i, limit)?;
-        k += 1;
+    /// Adds the lookups that the lookups call, directly or by others, in contexts that can apply to the kept glyphs.
+    pub(crate) fn follow_all(
+        &mut self,
+        alloc: Global,
+        source: &Source<'_>,
+        limit: &mut u64,
+    ) -> Result<()>
+        requires few { length source.now.kept.now ≤ 65536 }
+        ensures followed { OnOk result (AreFollowed source.now.gsub.now source.now.kept.now self.old.lookups.items self.new.lookups.items) }
+        ensures spends { limit.new ≤ limit.old }
+        ensures why { IfErr result (λ e. (e ≡ errors.Memory) ⊎ IsUsedUp limit.new e) }
+    {
+        let mut k = 0;
+        while k < self.lookups.len() {
+            pay(limit)?;
+            let i = self.lookups[k] as usize;
+            self.follow(alloc, source, i, limit)?;
+            k += 1;
+        }
+        Ok(())
     }
-    Ok(reached.lookups)
 }

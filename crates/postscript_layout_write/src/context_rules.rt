@@ -125,7 +125,7 @@ impl Part {
     ) -> Result<()>
         requires array { array < 2 ^ 35 }
         requires count { count < 65536 }
-        requires few { length labels.now < 65536 }
+        requires few { length labels.now ≤ 65536 }
         ensures added { OnOk result (AddsSets (having_at gsub.now labels.now array count) self.old tables.old.bytes.items self.new tables.new.bytes.items) }
         ensures spends { limit.new ≤ limit.old }
         ensures why { IfErr result (λ e. Fails limit.new e) }

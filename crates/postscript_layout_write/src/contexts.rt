@@ -141,7 +141,7 @@ pub(crate) fn is_some_glyph(glyphs: &[u16]) -> bool
 }
 
 /// Whether both are true.
-fn both(first: bool, second: bool) -> bool
+pub(crate) fn both(first: bool, second: bool) -> bool
     ensures { result ≡ (first && second) }
 {
     first && second

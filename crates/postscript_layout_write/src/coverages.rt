@@ -107,7 +107,7 @@ pub(crate) fn covered_of(
     limit: &mut u64,
 ) -> Result<Vec<u16>>
     requires near { coverage < 2 ^ 36 }
-    requires few { length kept.now < 65536 }
+    requires few { length kept.now ≤ 65536 }
     ensures exact { IfOk result (λ numbers. numbers.items ≡ the_covered table.now kept.now coverage) }
     ensures spends { limit.new ≤ limit.old }
     ensures why { IfErr result (λ e. (e ≡ errors.Memory) ⊎ IsUsedUp limit.new e) }

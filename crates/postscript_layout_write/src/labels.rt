@@ -158,7 +158,7 @@ fn role_labels(
     limit: &mut u64,
 ) -> Result<Vec<Option<usize>>>
     requires near { subtable < 2 ^ 33 }
-    requires few { length kept.now < 65536 }
+    requires few { length kept.now ≤ 65536 }
     ensures exact { IfOk result (λ labels. AreRoleLabels gsub.now kept.now kind subtable role labels.items) }
     ensures spends { limit.new ≤ limit.old }
     ensures why { IfErr result (λ e. (e ≡ errors.Memory) ⊎ IsUsedUp limit.new e) }
@@ -191,7 +191,7 @@ pub(crate) fn labels_of(
     limit: &mut u64,
 ) -> Result<Labels>
     requires near { subtable < 2 ^ 33 }
-    requires few { length kept.now < 65536 }
+    requires few { length kept.now ≤ 65536 }
     ensures exact { IfOk result (λ labels. AreLabels gsub.now kept.now kind subtable labels) }
     ensures spends { limit.new ≤ limit.old }
     ensures why { IfErr result (λ e. (e ≡ errors.Memory) ⊎ IsUsedUp limit.new e) }
@@ -225,7 +225,7 @@ pub(crate) fn with_label(
     number: usize,
     limit: &mut u64,
 ) -> Result<Vec<u16>>
-    requires few { length labels.now < 65536 }
+    requires few { length labels.now ≤ 65536 }
     ensures exact { IfOk result (λ set. set.items ≡ having labels.now number) }
     ensures spends { limit.new ≤ limit.old }
     ensures why { IfErr result (λ e. (e ≡ errors.Memory) ⊎ IsUsedUp limit.new e) }

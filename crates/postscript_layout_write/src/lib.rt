@@ -28,8 +28,9 @@
 //! It also has the contexts of the old one whose sets of glyphs all have kept glyphs, with the same actions and in the same
 //! order (specs/Contexts.antt). In both tables each rule of a context by glyphs or by classes (formats 1 and 2) is a context
 //! of its own (specs/ContextRules.antt). All are written as chained contexts by sets of glyphs (format 3). A lookup keeps
-//! them only if all of its subtables have one of the three formats. `with_called` returns the lookups that contexts
-//! apply, which have to be chosen too (specs/Calls.antt).
+//! them only if all of its subtables have one of the three formats. `closure_with_called` returns the lookups that contexts
+//! call, which have to be chosen too, and the glyphs that all of these can make of given ones: the least lists that lead to
+//! no others (specs/Calls.antt, specs/Reached.antt). Text keeps to these glyphs (`laws::text_stays`).
 //!
 //! `with_features` returns such a table with only some of its features. The scripts and languages are the same, and the
 //! lookups have the same bytes (`HasOnlyFeatures` in specs/Features.antt).
@@ -55,6 +56,7 @@
 #![tactic(auto)]
 
 mod anchors;
+mod applying;
 mod called;
 mod cells;
 mod classes;
@@ -68,6 +70,7 @@ mod features;
 mod forms;
 mod labels;
 mod languages;
+pub mod laws;
 mod leaving;
 mod left_positions;
 mod ligatures;
@@ -80,6 +83,7 @@ mod pieces;
 mod position_contexts;
 mod positioning;
 mod ranges;
+mod reached;
 mod records;
 mod renumbering;
 mod row_subtables;
@@ -93,7 +97,6 @@ mod subtables;
 mod typed;
 mod values;
 
-pub use called::with_called;
 pub use classes::glyph_classes;
 pub use definitions::glyph_definitions;
 pub use error::{Error, Result};
@@ -101,4 +104,5 @@ pub use features::with_features;
 pub use leaving::{flagged_left_out, left_out};
 pub use left_positions::{flagged_positions_left_out, positions_left_out};
 pub use positioning::{flagged_positions, kerning, positions};
+pub use reached::{Reached, closure_with_called};
 pub use substituting::{flagged_substitutions, substitutions};

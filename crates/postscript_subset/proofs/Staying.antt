@@ -4,8 +4,9 @@ use Rattle.std.specs.Prelude.{if◌then◌else◌, nat_lt}
 use Rattle.std.specs.List.{All, Contains}
 use Rattle.std.proofs.lemmas.Bool.{lt-ltb}
 use Rattle.std.proofs.lemmas.List.Elements.{All-contains, All-weaker, Contains-append_left, Contains-append_right}
-use Rattle.postscript_layout.specs.Texts.{ComesTo}
-use Rattle.postscript_layout.proofs.Stays.{stays}
+use Rattle.postscript_layout.proofs.Stays.{stays as steps-stay}
+use Rattle.postscript_layout_write.specs.Texts.{MayBecome}
+use Rattle.postscript_layout_write.proofs.Calling.{stays}
 use Rattle.postscript_files.specs.Origins.{AreAllNamed, AreOriginsOf, IsNamed}
 use Rattle.postscript_files.specs.Choices.{glyphs_of}
 use Rattle.postscript_files.specs.Subsets.{HasSame, IsSame, IsSubsetFile, KeepsNumber}
@@ -44,13 +45,14 @@ named-there (one ∷ named) glyph h = Contains-append_left (one ∷ named) (0 �
 
 -- a text of named glyphs stays among the further glyphs of the choice
 further : (choice : Choice) (features : Features) (old : Face) (tables : List (ℕ × List ℕ)) (by : Choice)
-    (is : IsBy choice features old tables by) (first last : List ℕ) → All (IsNamed choice old) first →
-    ComesTo is.made.gsub is.made.lookups first last → (glyph : ℕ) → Contains last glyph → glyph < is.made.count → Contains by.unmapped.now glyph
-further choice features old tables by is first last named comes glyph there less =
+    (is : IsBy choice features old tables by) (first used had last : List ℕ) → All (IsNamed choice old) first →
+    MayBecome is.made.gsub is.made.are.chosen first used had last → (glyph : ℕ) → Contains last glyph → glyph < is.made.count → Contains by.unmapped.now glyph
+further choice features old tables by is first used had last named comes glyph there less =
     let closed : All (Contains is.made.closed) first = All-weaker (IsNamed choice old) (Contains is.made.closed)
-    (λ g h. All-contains (Contains is.made.closed) (with_notdef is.made.are.named) g is.made.are.closure.holds
+    (λ g h. All-contains (Contains is.made.closed) (with_notdef is.made.are.named) g is.made.are.reached.given_there
     (named-there is.made.are.named g ((is.made.are.are g).1 h))) first named in
-    let stay : All (Contains is.made.closed) last = stays is.made.gsub is.made.lookups is.made.closed first last is.made.are.closure.closed closed comes in
+    let stay : All (Contains is.made.closed) last = stays steps-stay is.made.gsub is.made.lookups is.made.closed is.made.are.chosen first used had last
+    is.made.are.reached.whole is.made.are.reached.chosen_there closed comes in
     let here : Contains is.made.closed glyph = All-contains (Contains is.made.closed) last glyph stay there in
     let made : Contains is.further glyph =
     subst (λ (xs : List ℕ). Contains xs glyph) (sym is.made.kept) (below-there is.made.count is.made.closed glyph here less) in
@@ -64,20 +66,20 @@ same-number by old new glyph i retain h =
 -- a text of named glyphs stays among glyphs that are the same in the new face
 pub text-stays-same : (choice : Choice) (features : Features) (old : Face) (tables : List (ℕ × List ℕ)) (by : Choice) (file : List ℕ)
     (is : IsBy choice features old tables by) → by.retain_gids ≡ true → IsSubsetFile by old file →
-    TextStaysSame choice old is.made.count is.made.gsub is.made.lookups file
-text-stays-same choice features old tables by file is retain cut first last named comes glyph there less new read =
+    TextStaysSame choice old is.made.count is.made.gsub is.made.are.chosen file
+text-stays-same choice features old tables by file is retain cut first used had last named comes glyph there less new read =
     let chosen : Contains (glyphs_of by) glyph =
-    Contains-append_right by.glyphs.now by.unmapped.now glyph (further choice features old tables by is first last named comes glyph there less) in
+    Contains-append_right by.glyphs.now by.unmapped.now glyph (further choice features old tables by is first used had last named comes glyph there less) in
     let h = (cut.is new read).glyphs glyph chosen in
     same-number by old new glyph h.0 retain h.1
 
 -- a text of named glyphs stays among the new ones
 pub text-stays : (choice : Choice) (features : Features) (old : Face) (tables : List (ℕ × List ℕ)) (by : Choice) (origins : List ℕ)
     (is : IsBy choice features old tables by) → by.retain_gids ≡ false → AreOriginsOf by old origins →
-    TextStaysIn choice old is.made.count is.made.gsub is.made.lookups origins
-text-stays choice features old tables by origins is anew are first last named comes glyph there less =
+    TextStaysIn choice old is.made.count is.made.gsub is.made.are.chosen origins
+text-stays choice features old tables by origins is anew are first used had last named comes glyph there less =
     unmapped-there by old origins is.made.count anew is.made.counted are glyph
-    (further choice features old tables by is first last named comes glyph there less) less
+    (further choice features old tables by is first used had last named comes glyph there less) less
 
 -- a glyph above 65,535 is a named one
 pub wide-named : (e : Error) (choice : Choice) (face : Face) (left : ℕ) (named glyphs : List ℕ) → AreAllNamed choice face named →

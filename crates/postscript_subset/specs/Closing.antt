@@ -5,10 +5,10 @@ use Rattle.postscript_files.specs.Origins.{AreAllNamed, HasGlyphs, IsNamed, IsUn
 use Rattle.postscript_files.specs.declared.choice.Choice.{Choice}
 use Rattle.postscript_files.specs.declared.error.Error.{Error as Cause}
 use Rattle.postscript_files.specs.declared.face.Face.{Face}
-use Rattle.postscript_layout.specs.Closure.{IsClosure}
+use Rattle.postscript_layout_write.specs.Reached.{AreReached}
 use Rattle.postscript_sfnt.specs.Lent.{HasNoTable, IsTableOf}
 use Rattle.postscript_sfnt.specs.declared.file.FontFile.{FontFile}
-use Rattle.postscript_subset.specs.Lookups.{AreLookupsOf}
+use Rattle.postscript_subset.specs.Lookups.{AreNamedBy}
 use Rattle.postscript_subset.specs.Refusals.{IsSearched}
 use Rattle.postscript_subset.specs.declared.error.Error.{Error}
 use Rattle.postscript_subset.specs.declared.error.Error.TheVariants as errors
@@ -23,13 +23,14 @@ abbrev pub with_notdef : (named : List ℕ) → List ℕ
 with_notdef [] = []
 with_notdef (glyph ∷ glyphs) = glyph ∷ glyphs ++ 0 ∷ []
 
--- The lookups are those of the features. The glyphs are the named ones, .notdef, and all that these lookups can make of them. There are none if
--- none is named.
+-- The lookups are those of the features, and those that their contexts call. The glyphs are the named ones, .notdef, and all that these lookups can make
+-- of them. There are none if none is named.
 pub record AreClosed (choice : Choice) (features : Features) (face : Face) (gsub lookups glyphs : List ℕ) : Type 0 where
-  pub of_features : AreLookupsOf features gsub lookups
+  pub chosen : List ℕ
+  pub of_features : AreNamedBy features gsub chosen
   pub named : List ℕ
   pub are : AreAllNamed choice face named
-  pub closure : IsClosure gsub lookups (with_notdef named) glyphs
+  pub reached : AreReached gsub chosen (with_notdef named) lookups glyphs
 
 -- the glyphs below a number
 abbrev pub below : (count : ℕ) → List ℕ → List ℕ

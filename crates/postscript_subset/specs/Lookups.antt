@@ -3,7 +3,6 @@ use Rattle.std.specs.Prelude.{◌≡◌, ◌⊎◌, ℕ, List}
 use Rattle.std.specs.List.{Contains}
 use Rattle.postscript_layout.specs.Features.{AreNamed}
 use Rattle.postscript_layout.specs.Substitutions.{every_lookup}
-use Rattle.postscript_layout_write.specs.Calls.{AreReached}
 use Rattle.postscript_subset.specs.declared.features.Features.{Features}
 use Rattle.postscript_subset.specs.declared.features.Features.TheVariants.{All, These}
 
@@ -11,10 +10,6 @@ use Rattle.postscript_subset.specs.declared.features.Features.TheVariants.{All, 
 abbrev pub AreNamedBy : Features → (gsub lookups : List ℕ) → Type 0
 AreNamedBy All gsub lookups = lookups ≡ every_lookup gsub
 AreNamedBy (These tags) gsub lookups = AreNamed gsub tags.now lookups
-
--- the lookups that the features name, and those that their contexts call
-abbrev pub AreLookupsOf : Features → (gsub lookups : List ℕ) → Type 0
-AreLookupsOf features gsub lookups = (named : List ℕ) × AreNamedBy features gsub named × AreReached gsub named lookups
 
 -- `kern`, `mark`, `mkmk` or `curs` is among the features
 abbrev pub HavePositions : Features → Type 0

@@ -9,9 +9,9 @@ use Rattle.postscript_files.specs.declared.choice.Choice.{Choice}
 use Rattle.postscript_files.specs.declared.choice.Given.{Given}
 use Rattle.postscript_files.specs.declared.error.Error.{Error as Cause}
 use Rattle.postscript_files.specs.declared.face.Face.{Face}
-use Rattle.postscript_layout.specs.Texts.{ComesTo}
 use Rattle.postscript_layout_write.specs.Leaving.{left_by}
 use Rattle.postscript_layout_write.specs.Pairs.{lookups_of}
+use Rattle.postscript_layout_write.specs.Texts.{MayBecome}
 use Rattle.postscript_sfnt.specs.Lent.{IsTableOf}
 use Rattle.postscript_subset.specs.Closing.{AreClosed, IsTableOrNone, below}
 use Rattle.postscript_subset.specs.Layers.{IsCopiedAs, IsGdef, IsGpos, IsGsub, all_tables, gdef_tag, gpos_tag, gsub_tag, have_marks}
@@ -63,10 +63,10 @@ pub record IsBy (choice : Choice) (features : Features) (old : Face) (tables : L
   pub made : AreMade choice features old further
   pub widened : IsWidened choice by further tables
 
--- A text of named glyphs, after any substitutions by the lookups, has only these glyphs, apart from glyphs that the face lacks.
+-- A text of named glyphs, after any substitutions by the lookups and by those that contexts call, has only these glyphs, apart from glyphs that the face lacks.
 abbrev pub TextStaysIn : Choice → Face → (count : ℕ) → (gsub lookups origins : List ℕ) → Type 0
-TextStaysIn choice old count gsub lookups origins = (first last : List ℕ) → All (IsNamed choice old) first → ComesTo gsub lookups first last →
-    (glyph : ℕ) → Contains last glyph → glyph < count → Contains origins glyph
+TextStaysIn choice old count gsub lookups origins = (first used had last : List ℕ) → All (IsNamed choice old) first →
+    MayBecome gsub lookups first used had last → (glyph : ℕ) → Contains last glyph → glyph < count → Contains origins glyph
 
 -- the chosen lookups that a table does not keep
 abbrev pub left_in : Outcome → (marks : Bool) → (gsub lookups : List ℕ) → List ℕ
@@ -88,14 +88,14 @@ pub record IsCutWithLayout (choice : Choice) (features : Features) (bytes : List
   pub positions : IsGpos subset.gpos cut.old.file features origins subset.gdef left gpos
   pub there : (i : ℕ) (table : ℕ × List ℕ) → slice_get (all_tables subset.gdef subset.gsub subset.gpos gdef gsub gpos) i ≡ Some table →
       (new : Face) → IsFaceIn subset.file.items 0 new → HasCopy new.file table.0 table.1
-  pub stays : TextStaysIn choice cut.old is.made.count is.made.gsub is.made.lookups origins
+  pub stays : TextStaysIn choice cut.old is.made.count is.made.gsub is.made.are.chosen origins
   pub left_out : subset.left_out.items ≡ left_in subset.gsub (have_marks origins subset.gdef) is.made.gsub is.made.lookups
 
--- A text of named glyphs, after any substitutions by the lookups, has only glyphs that are the same in the new face, apart from glyphs that
--- the face lacks.
+-- A text of named glyphs, after any substitutions by the lookups and by those that contexts call, has only glyphs that are the same in the new face, apart
+-- from glyphs that the face lacks.
 abbrev pub TextStaysSame : Choice → (old : Face) → (count : ℕ) → (gsub lookups file : List ℕ) → Type 0
-TextStaysSame choice old count gsub lookups file = (first last : List ℕ) → All (IsNamed choice old) first → ComesTo gsub lookups first last →
-    (glyph : ℕ) → Contains last glyph → glyph < count → (new : Face) → IsFaceIn file 0 new → IsSame old new glyph glyph
+TextStaysSame choice old count gsub lookups file = (first used had last : List ℕ) → All (IsNamed choice old) first →
+    MayBecome gsub lookups first used had last → (glyph : ℕ) → Contains last glyph → glyph < count → (new : Face) → IsFaceIn file 0 new → IsSame old new glyph glyph
 
 -- The file is a subset of the face in which glyphs keep their numbers, and it has copies of the layout tables.
 pub record IsCutInPlace (choice : Choice) (features : Features) (bytes : List ℕ) (number : ℕ) (subset : Subset) : Type 0 where
@@ -107,7 +107,7 @@ pub record IsCutInPlace (choice : Choice) (features : Features) (bytes : List �
   pub gpos : IsCopiedAs subset.gpos cut.old.file gpos_tag
   pub copied : (tag : ℕ) (table : List ℕ) → Contains (copied_by true) tag → IsTableOf cut.old.file tag table →
       (new : Face) → IsFaceIn subset.file.items 0 new → HasCopy new.file tag table
-  pub stays : TextStaysSame choice cut.old is.made.count is.made.gsub is.made.lookups subset.file.items
+  pub stays : TextStaysSame choice cut.old is.made.count is.made.gsub is.made.are.chosen subset.file.items
   pub left_out : subset.left_out.items ≡ []
 
 -- why no file of the face is written

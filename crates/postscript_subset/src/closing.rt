@@ -1,22 +1,16 @@
 //! The glyphs that substitutions can make of the glyphs of a choice.
 ghost use Rattle.std.specs.Prelude.{◌≡◌, ◌⊎◌, ◌++◌, ◌∷◌, [], ◌<◌, ◌≤◌, IfOk, IfErr, OnOk};
 ghost use Rattle.postscript_subset.specs.Closing.{AreClosed, AreExtended, IsClosingError, IsUnopenedFace, with_notdef, below as the_below};
-ghost use Rattle.postscript_subset.specs.Refusals.{IsWide};
+ghost use Rattle.postscript_layout_write.specs.Reached.{AreReached};
+ghost use Rattle.postscript_subset.specs.Refusals.{IsSearched, IsWide};
 ghost use Rattle.postscript_files.specs.declared.error.Error.TheVariants as causes;
 ghost use Rattle.postscript_subset.specs.declared.error.Error.TheVariants as errors;
 
 use crate::error::{Error, Result};
 use crate::features::Features;
 use postscript_files::{Choice, Face};
-use postscript_layout::closure_over;
+use postscript_layout_write::{Error as Fault, Reached, closure_with_called};
 use std::alloc::Global;
-
-/// The lookups that are chosen, and the glyphs that they can make of the named ones.
-#[derive(Drop)]
-pub(crate) struct Closed {
-    pub(crate) lookups: Vec<u16>,
-    pub(crate) glyphs: Vec<u16>,
-}
 
 /// Returns glyph numbers in 16 bits.
 pub(crate) fn narrow(alloc: Global, glyphs: &[usize]) -> Result<Vec<u16>>
@@ -58,8 +52,27 @@ fn put_notdef(named: &mut Vec<u16>) -> Result<()>
     Ok(())
 }
 
-/// Returns the chosen lookups, and the glyphs that they can make of the named ones and `.notdef`. There are none if none is
-/// named.
+/// Returns lookups of a `GSUB` table with those that their contexts call, and the glyphs that all of these can make.
+fn reached(
+    alloc: Global,
+    gsub: &[u8],
+    lookups: &[u16],
+    glyphs: &[u16],
+    limit: &mut u64,
+) -> Result<Reached>
+    ensures reached { IfOk result (λ all. AreReached gsub.now lookups.now glyphs.now all.lookups.items all.glyphs.items) }
+    ensures spends { limit.new ≤ limit.old }
+    ensures why { IfErr result (λ e. IsSearched limit.new e) }
+{
+    match closure_with_called(alloc, gsub, lookups, glyphs, limit) {
+        Ok(all) => Ok(all),
+        Err(Fault::TooLong) => Err(Error::TooLong),
+        Err(_) => Err(Error::File(postscript_files::Error::Memory)),
+    }
+}
+
+/// Returns the lookups of the features, with those that their contexts call, and the glyphs that all of these can make of the
+/// named ones and `.notdef`. There are no glyphs if none is named.
 pub(crate) fn close(
     alloc: Global,
     face: &Face<'_>,
@@ -67,7 +80,7 @@ pub(crate) fn close(
     features: &Features<'_>,
     gsub: &[u8],
     limit: &mut u64,
-) -> Result<Closed>
+) -> Result<Reached>
     ensures closed { IfOk result (λ closed. AreClosed choice.now features.now face.now gsub.now closed.lookups.items closed.glyphs.items) }
     ensures spends { limit.new ≤ limit.old }
     ensures why { IfErr result (λ e. IsClosingError choice.now face.now limit.new e) }
@@ -75,9 +88,9 @@ pub(crate) fn close(
     let named = face.named_glyphs(alloc, choice)?;
     let mut glyphs = narrow(alloc, &named)?;
     put_notdef(&mut glyphs)?;
-    let lookups = features.lookups(alloc, gsub, limit)?;
-    let glyphs = closure_over(alloc, gsub, &lookups, &glyphs, limit)?;
-    Ok(Closed { lookups, glyphs })
+    let chosen = features.named(alloc, gsub, limit)?;
+    let all = reached(alloc, gsub, &chosen, &glyphs, limit)?;
+    Ok(all)
 }
 
 /// Returns the further glyphs of a choice, and those of a list that a face has.

@@ -1,13 +1,10 @@
 //! Layout features.
 ghost use Rattle.std.specs.Prelude.{◌≡◌, ◌⊎◌, ◌↔◌, ◌≤◌, IfOk, IfErr, IsTrue};
-ghost use Rattle.postscript_files.specs.declared.error.Error.TheVariants as causes;
-ghost use Rattle.postscript_subset.specs.Lookups.{AreLookupsOf, AreNamedBy, HavePositions};
+ghost use Rattle.postscript_subset.specs.Lookups.{AreNamedBy, HavePositions};
 ghost use Rattle.postscript_subset.specs.Refusals.{IsSearched};
-ghost use Rattle.postscript_subset.specs.declared.error.Error.TheVariants as errors;
 
-use crate::error::{Error, Result};
+use crate::error::Result;
 use postscript_layout::{all_lookups, feature_lookups};
-use postscript_layout_write::{Error as Fault, with_called};
 use std::alloc::Global;
 
 /// The tags of the features for which `GPOS` is written: kerning, marks on bases, marks on marks, and cursive attachment.
@@ -30,7 +27,7 @@ pub enum Features<'t> {
 
 impl Features<'_> {
     /// Returns the lookups of a `GSUB` table that these features name.
-    fn named(&self, alloc: Global, gsub: &[u8], limit: &mut u64) -> Result<Vec<u16>>
+    pub(crate) fn named(&self, alloc: Global, gsub: &[u8], limit: &mut u64) -> Result<Vec<u16>>
         ensures exact { IfOk result (λ lookups. AreNamedBy self.now gsub.now lookups.items) }
         ensures spends { limit.new ≤ limit.old }
         ensures why { IfErr result (λ e. IsSearched limit.new e) }
@@ -38,20 +35,6 @@ impl Features<'_> {
         match self {
             Features::All => Ok(all_lookups(alloc, gsub)?),
             Features::These(tags) => Ok(feature_lookups(alloc, gsub, tags, limit)?),
-        }
-    }
-
-    /// Returns the lookups of a `GSUB` table that these features name, and those that their contexts call.
-    pub(crate) fn lookups(&self, alloc: Global, gsub: &[u8], limit: &mut u64) -> Result<Vec<u16>>
-        ensures exact { IfOk result (λ lookups. AreLookupsOf self.now gsub.now lookups.items) }
-        ensures spends { limit.new ≤ limit.old }
-        ensures why { IfErr result (λ e. IsSearched limit.new e) }
-    {
-        let named = self.named(alloc, gsub, limit)?;
-        match with_called(alloc, gsub, &named, limit) {
-            Ok(lookups) => Ok(lookups),
-            Err(Fault::TooLong) => Err(Error::TooLong),
-            Err(_) => Err(Error::File(postscript_files::Error::Memory)),
         }
     }
 

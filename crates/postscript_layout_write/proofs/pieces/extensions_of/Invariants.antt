@@ -1,4 +1,3 @@
-use Rattle.std.proofs.Common.{◌≡◌}
 use Rattle.postscript_layout_write.specs.Pieces.{AreExtensions}
 use Rattle.postscript_layout_write.proofs.pieces.extensions_of.Given as goal
 

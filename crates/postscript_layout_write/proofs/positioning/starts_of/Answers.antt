@@ -1,4 +1,4 @@
-use Rattle.std.proofs.Common.{◌≡◌, ◌+◌, ◌-◌, ◌<◌, ◌++◌, ◌∷◌, ◌∙◌, [], ℕ, List, ap, get_or, length, length-append, arith}
+use Rattle.std.proofs.Common.{◌≡◌, ◌-◌, ◌++◌, ◌∷◌, ◌∙◌, [], ℕ, List, ap, get_or, length, length-append, arith}
 use Rattle.postscript_layout_write.proofs.Placing.{starts-more}
 use Rattle.postscript_layout_write.proofs.positioning.starts_of.Goals as goal
 

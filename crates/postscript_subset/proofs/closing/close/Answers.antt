@@ -1,6 +1,6 @@
-use Rattle.std.proofs.Common.{◌∙◌, ◌++◌, ◌∷◌, [], ap, subst, ℕ, List}
+use Rattle.std.proofs.Common.{◌∙◌, ap, subst, ℕ, List}
 use Rattle.std.proofs.lemmas.Result.{err_from_is_err_and}
-use Rattle.postscript_layout.specs.Closure.{IsClosure}
+use Rattle.postscript_layout_write.specs.Reached.{AreReached}
 use Rattle.postscript_subset.specs.Closing.{with_notdef}
 use Rattle.postscript_subset.proofs.Staying.{wide-named}
 use Rattle.postscript_subset.proofs.closing.close.Goals as goal
@@ -12,14 +12,15 @@ returns-in_err-glyphs-clause-why c =
     c.in_ok-named.ensures.named c.deref.ensures.value c.in_err-glyphs.ensures.why)
 
 pub returns-clause-closed : goal.returns-clause-closed
-returns-clause-closed c = record {
-  of_features = c.in_ok-lookups.ensures.exact;
-  named = c.in_ok-named.named.items;
-  are = c.in_ok-named.ensures.named;
-  closure =
-      subst (λ (xs : List ℕ). IsClosure c.args.gsub.now c.in_ok-lookups.lookups.items xs c.in_ok-glyphs-2.glyphs.items)
-      (c.deref-3.ensures.value ∙ c.in_ok-put_notdef.ensures.put
-      ∙ ap with_notdef (c.in_ok-glyphs.ensures.same ∙ c.deref.ensures.value))
-      (subst (λ (xs : List ℕ). IsClosure c.args.gsub.now xs c.deref-3.result.now c.in_ok-glyphs-2.glyphs.items) c.deref-2.ensures.value
-      c.in_ok-glyphs-2.ensures.closed);
-}
+returns-clause-closed c =
+    let all = c.in_ok-all.all in
+    record {
+      chosen = c.in_ok-chosen.chosen.items;
+      of_features = c.in_ok-chosen.ensures.exact;
+      named = c.in_ok-named.named.items;
+      are = c.in_ok-named.ensures.named;
+      reached = subst (λ (xs : List ℕ). AreReached c.args.gsub.now c.in_ok-chosen.chosen.items xs all.lookups.items all.glyphs.items)
+          (c.deref-3.ensures.value ∙ c.in_ok-put_notdef.ensures.put ∙ ap with_notdef (c.in_ok-glyphs.ensures.same ∙ c.deref.ensures.value))
+          (subst (λ (xs : List ℕ). AreReached c.args.gsub.now xs c.deref-3.result.now all.lookups.items all.glyphs.items) c.deref-2.ensures.value
+          c.in_ok-all.ensures.reached);
+    }
