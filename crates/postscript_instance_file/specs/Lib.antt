@@ -1,3 +1,4 @@
 pub mod Faces
 pub mod Instances
 pub mod Refusals
+pub mod Weights

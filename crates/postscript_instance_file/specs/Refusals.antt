@@ -18,6 +18,7 @@ use Rattle.postscript_instance_file.specs.declared.error.Error.TheVariants as er
 use Rattle.postscript_instance_file.specs.declared.error.GlyphError.{GlyphError}
 use Rattle.postscript_instance_file.specs.declared.face.VariableFace.{VariableFace}
 use Rattle.postscript_instance_file.specs.declared.location.Location.{Location}
+use Rattle.postscript_instance_file.specs.Weights.{IsHeavy}
 use Rattle.postscript_sfnt.specs.Lent.{HasNoTable, IsFaceOf, IsTableOf}
 use Rattle.postscript_sfnt.specs.Metrics.{HasAdvances, IsGlyphs}
 use Rattle.postscript_sfnt.specs.Refusals.{NoFace}
@@ -53,7 +54,7 @@ pub data IsNeeded : (name : List ℕ) → (tag : ℕ) → Type 0 where
   of_hmtx : IsNeeded (codes "hmtx") hmtx_tag
   of_maxp : IsNeeded (codes "maxp") maxp_tag
 
--- Why a face with a `CFF2` table is not opened. No rule says which tables are too expensive.
+-- why a face with a `CFF2` table is not opened
 pub data IsUnopened (file : FontFile) (e : Error) : Type 0 where
   no_table : (name : Bor (List ℕ)) (tag : ℕ) → IsNeeded name.now tag → HasNoTable file tag → e ≡ errors.NoTable name → IsUnopened file e
   cut_advances : (name : Bor (List ℕ)) → e ≡ errors.Cut name → name.now ≡ codes "hmtx" → HasBadAdvances file → IsUnopened file e
@@ -65,7 +66,7 @@ pub data IsUnopened (file : FontFile) (e : Error) : Type 0 where
   bad_variations : (name : Bor (List ℕ)) (cause : TableError) → e ≡ errors.Variations name cause → name.now ≡ codes "HVAR" →
       HasBad file hvar_tag (NoAdvances cause) → IsUnopened file e
   bad_font : (cause : FontError) → HasBad file cff2_tag (NoFont cause) → e ≡ errors.Font cause → IsUnopened file e
-  heavy : (name : Bor (List ℕ)) (face : VariableFace) → IsVariableFace file face → e ≡ errors.Heavy name → IsUnopened file e
+  heavy : (name : Bor (List ℕ)) (face : VariableFace) → IsVariableFace file face → IsHeavy face name.now → e ≡ errors.Heavy name → IsUnopened file e
 
 -- the face has no `CFF2` table, or it has a `CFF ` table too
 abbrev pub IsNotVariable : FontFile → Type 0

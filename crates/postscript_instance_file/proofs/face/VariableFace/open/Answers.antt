@@ -33,4 +33,4 @@ returns-in-Some-heavy_table-clause-why c =
       maps = c.in_ok-maps_of.ensures.found;
       variations = c.in_ok-variations_of.ensures.found;
     } in
-    heavy c.in-Some-heavy_table.name face is refl
+    heavy c.in-Some-heavy_table.name face is c.in-Some-heavy_table.ensures refl
