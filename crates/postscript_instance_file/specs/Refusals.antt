@@ -1,5 +1,5 @@
 -- Why a variable font is not opened, and why it has no location or no static font.
-use Rattle.std.specs.Prelude.{◌≡◌, ◌⊎◌, ◌<◌, ℕ, List, Bool, true, false, codes, length, Option, Some, None}
+use Rattle.std.specs.Prelude.{◌≡◌, ◌⊎◌, ◌<◌, ℕ, List, [], Bool, true, false, codes, length, Option, Some, None}
 use Rattle.std.specs.List.Sorted.{IsPermutation}
 use denote.Ref.{Bor}
 use Rattle.postscript_cff2.specs.Causes.{NoFont}
@@ -18,6 +18,8 @@ use Rattle.postscript_instance_file.specs.declared.error.Error.TheVariants as er
 use Rattle.postscript_instance_file.specs.declared.error.GlyphError.{GlyphError}
 use Rattle.postscript_instance_file.specs.declared.face.VariableFace.{VariableFace}
 use Rattle.postscript_instance_file.specs.declared.location.Location.{Location}
+use Rattle.postscript_instance_file.specs.declared.made.Unmade.{Unmade}
+use Rattle.postscript_instance_file.specs.declared.made.Unmade.TheVariants as reasons
 use Rattle.postscript_instance_file.specs.Weights.{IsHeavy}
 use Rattle.postscript_sfnt.specs.Lent.{HasNoTable, IsFaceOf, IsTableOf}
 use Rattle.postscript_sfnt.specs.Metrics.{HasAdvances, IsGlyphs}
@@ -123,17 +125,41 @@ pub data NoFileWith (font : List ℕ) (e : Error) : Type 0 where
   no_tables : e ≡ errors.Memory → NoFileWith font e
   no_file_of : (tables : List Table) → HaveFont tables font → NoFileOf tables e → NoFileWith font e
 
--- Why a face has no static font at a location. No rule says which names are too long, and which glyphs cost too much.
+-- the table with this tag, or no bytes if the face has no such table
+abbrev pub IsTableOrNone : FontFile → (tag : ℕ) → List ℕ → Type 0
+IsTableOrNone file tag table = IsTableOf file tag table ⊎ (HasNoTable file tag × (table ≡ []))
+
+-- the face has no table with this tag, or one with fewer bytes
+abbrev pub HasShort : FontFile → (tag size : ℕ) → Type 0
+HasShort file tag size = (table : List ℕ) × IsTableOrNone file tag table × (length table < size)
+
+-- why a table is not made: memory runs out, the names are too long, or the `hhea` table is truncated
+abbrev pub IsUnmadeBy : FontFile → Unmade → Type 0
+IsUnmadeBy file reasons.Memory = Unit {0}
+IsUnmadeBy file reasons.Names = Unit {0}
+IsUnmadeBy file reasons.Cut = HasShort file hhea_tag 36
+
+-- the reason that an error of a table that is written is converted to
+abbrev pub unmade_by : CauseOfFile → Unmade
+unmade_by writing.Memory = reasons.Memory
+unmade_by e = reasons.Cut
+
+-- Why the tables other than `CFF ` are not made. No rule says which names are too long.
+pub data NoTables (face : VariableFace) (e : Error) : Type 0 where
+  no_room : e ≡ errors.Memory → NoTables face e
+  bad_metrics : HasBadMetrics face.file e → NoTables face e
+  long_names : e ≡ errors.Names → NoTables face e
+  short_metrics : HasShort face.file hhea_tag 36 → e ≡ errors.Write writing.Cut → NoTables face e
+
+-- Why a face has no static font at a location. No rule says which glyphs cost too much.
 pub data IsUnmade (rounded : Bool) (face : VariableFace) (location : Location) (e : Error) : Type 0 where
   memory : e ≡ errors.Memory → IsUnmade rounded face location e
   of_glyph : NamesGlyph (glyphs_in face) e → IsUnmade rounded face location e
-  bad_metrics : HasBadMetrics face.file e → IsUnmade rounded face location e
   no_widths : (advances : AdvancesAt) (cause : CauseOfTable) → AreAdvancesAt face location.coordinates.items advances →
       LacksRoom advances (glyphs_in face) cause → e ≡ errors.Table cause → IsUnmade rounded face location e
   no_font : (naming : Naming) (advances : AdvancesAt) (cause : CauseOfTable) → AreAdvancesAt face location.coordinates.items advances →
       LacksTableBy rounded face.font naming advances cause → e ≡ errors.Table cause → IsUnmade rounded face location e
-  names : e ≡ errors.Names → IsUnmade rounded face location e
-  cut : e ≡ errors.Write writing.Cut → IsUnmade rounded face location e
+  no_other_tables : (font : List ℕ) → IsFontAt rounded face location font → NoTables face e → IsUnmade rounded face location e
   no_file : (font : List ℕ) → IsFontAt rounded face location font → NoFileWith font e → IsUnmade rounded face location e
 
 -- why there is no static font of a face of a file, at the location of some settings

@@ -1,10 +1,9 @@
 //! Static fonts with outlines in a `CFF ` table.
 ghost use Rattle.std.specs.Prelude.{◌≡◌, ◌⊎◌, ◌≤◌, Bool, length, IfErr, IfOk, IfSome};
 ghost use Rattle.postscript_instance_file.specs.Instances.{HaveFont, IsFileOf, IsFileWith, IsFontAt, IsInstanceFile, IsStaticFont, IsTableBy};
-ghost use Rattle.postscript_instance_file.specs.Refusals.{IsUnmade, LacksTableBy, NamesGlyph, NoFileOf, NoFileWith, NoInstanceFile, glyphs_in};
+ghost use Rattle.postscript_instance_file.specs.Refusals.{IsUnmade, IsUnmadeBy, LacksTableBy, NamesGlyph, NoFileOf, NoFileWith, NoInstanceFile, NoTables, glyphs_in};
 ghost use Rattle.postscript_instance_file.specs.declared.error.Error.TheVariants as errors;
 ghost use Rattle.postscript_instance_file.specs.declared.face.VariableFace.{VariableFace as Face};
-ghost use Rattle.postscript_instance_file.specs.declared.location.Location.{Location as At};
 
 use crate::drawn::{Budget, Drawn, gid_of};
 use crate::error::{Error, GlyphError};
@@ -144,7 +143,7 @@ fn font_of(
 
 /// Returns the error of a table that is not made.
 fn error_of_table(unmade: Unmade) -> Error
-    ensures { (rounded : Bool) (face : Face) (location : At) → IsUnmade rounded face location result }
+    ensures { (face : Face) → IsUnmadeBy face.file unmade → NoTables face result }
 {
     match unmade {
         Unmade::Memory => Error::Memory,
@@ -161,16 +160,15 @@ fn made_of(
     drawn: &Drawn,
     style: &Style,
 ) -> Result<Made, Error>
-    ensures { IfErr result (λ e. (rounded : Bool) → IsUnmade rounded face.now location.now e) }
+    ensures { IfErr result (λ e. NoTables face.now e) }
 {
     let metrics = metrics::of(&face.file)?;
     let mut made = Made::new(alloc);
-    metrics::put(&mut made, alloc, face, location, drawn, style, metrics);
-    positions::put(&mut made, alloc, face, location);
-    match made.end() {
-        Ok(()) => Ok(made),
-        Err(unmade) => Err(error_of_table(unmade)),
+    if let Err(unmade) = metrics::put(&mut made, alloc, face, location, drawn, style, metrics) {
+        return Err(error_of_table(unmade));
     }
+    positions::put(&mut made, alloc, face, location)?;
+    Ok(made)
 }
 
 /// Returns a `CFF ` table, the made tables and the copied ones.
