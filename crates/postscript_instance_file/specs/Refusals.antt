@@ -3,19 +3,17 @@ use Rattle.std.specs.Prelude.{◌≡◌, ◌⊎◌, ◌<◌, ℕ, List, [], Bool
 use Rattle.std.specs.List.Sorted.{IsPermutation}
 use denote.Ref.{Bor}
 use Rattle.postscript_cff2.specs.Causes.{NoFont}
-use Rattle.postscript_cff2.specs.Shown.{view_shown}
 use Rattle.postscript_cff2.specs.declared.error.Error.{Error as FontError}
 use Rattle.postscript_cff2.specs.declared.font.Font.{Font}
-use Rattle.postscript_instance.specs.Advances.{LacksRoom}
 use Rattle.postscript_instance.specs.Glyphs.{NoRoundedTable, NoTable}
 use Rattle.postscript_instance.specs.declared.advances.AdvancesAt.{AdvancesAt}
 use Rattle.postscript_instance.specs.declared.error.Error.{Error as CauseOfTable}
 use Rattle.postscript_instance.specs.declared.naming.Naming.{Naming}
 use Rattle.postscript_instance_file.specs.Faces.{IsAt, IsFoundFace, IsVariableFace, avar_tag, cff2_tag, fvar_tag, hhea_tag, hmtx_tag, hvar_tag, maxp_tag, mvar_tag}
+use Rattle.postscript_instance_file.specs.Glyphs.{HasNoWidths, NamesUndrawn, NamesUnwritten}
 use Rattle.postscript_instance_file.specs.Instances.{AreAdvancesAt, HaveFont, IsFontAt, cff_tag}
 use Rattle.postscript_instance_file.specs.declared.error.Error.{Error}
 use Rattle.postscript_instance_file.specs.declared.error.Error.TheVariants as errors
-use Rattle.postscript_instance_file.specs.declared.error.GlyphError.{GlyphError}
 use Rattle.postscript_instance_file.specs.declared.face.VariableFace.{VariableFace}
 use Rattle.postscript_instance_file.specs.declared.location.Location.{Location}
 use Rattle.postscript_instance_file.specs.declared.made.Unmade.{Unmade}
@@ -90,10 +88,6 @@ pub data IsUnplaced (face : VariableFace) (e : Error) : Type 0 where
   no_memory : e ≡ errors.Memory → IsUnplaced face e
   no_place : (cause : PlaceError) → NoPlaceIn face.font.store cause → e ≡ errors.Place cause → IsUnplaced face e
 
--- the number of glyphs of a face
-abbrev pub glyphs_in : VariableFace → ℕ
-glyphs_in face = length (view_shown face.font).char_strings
-
 -- why there is no `CFF ` table of a face at a location; if it is rounded, each point is a whole number of units
 abbrev pub LacksTableBy : (rounded : Bool) → Font → Naming → AdvancesAt → CauseOfTable → Type 0
 LacksTableBy true font naming advances e = NoRoundedTable font naming advances e
@@ -106,13 +100,6 @@ pub record HasBadMetrics (file : FontFile) (e : Error) : Type 0 where
   pub named : name.now ≡ codes "MVAR"
   pub bad : HasBad file mvar_tag (NoMetrics cause)
   pub is : e ≡ errors.Variations name cause
-
--- the error names one of the first `count` glyphs
-pub record NamesGlyph (count : ℕ) (e : Error) : Type 0 where
-  pub gid : ℕ
-  pub cause : GlyphError
-  pub there : gid < count
-  pub is : e ≡ errors.Glyph gid cause
 
 -- why there is no file of these tables, sorted by their tags
 pub data NoFileOf (tables : List Table) (e : Error) : Type 0 where
@@ -151,20 +138,33 @@ pub data NoTables (face : VariableFace) (e : Error) : Type 0 where
   long_names : e ≡ errors.Names → NoTables face e
   short_metrics : HasShort face.file hhea_tag 36 → e ≡ errors.Write writing.Cut → NoTables face e
 
--- Why a face has no static font at a location. No rule says which glyphs cost too much.
-pub data IsUnmade (rounded : Bool) (face : VariableFace) (location : Location) (e : Error) : Type 0 where
-  memory : e ≡ errors.Memory → IsUnmade rounded face location e
-  of_glyph : NamesGlyph (glyphs_in face) e → IsUnmade rounded face location e
-  no_widths : (advances : AdvancesAt) (cause : CauseOfTable) → AreAdvancesAt face location.coordinates.items advances →
-      LacksRoom advances (glyphs_in face) cause → e ≡ errors.Table cause → IsUnmade rounded face location e
+-- why the glyphs of a face are not all drawn and measured at a location, within a limit for each glyph and what is left for all glyphs
+pub data AreUndrawn (limit left : ℕ) (face : VariableFace) (location : Location) (e : Error) : Type 0 where
+  no_memory_left : e ≡ errors.Memory → AreUndrawn limit left face location e
+  no_widths : HasNoWidths face location e → AreUndrawn limit left face location e
+  undrawn : NamesUndrawn face location limit left e → AreUndrawn limit left face location e
+
+-- why a static font is not written with glyphs that are all drawn
+pub data IsUnwritten (rounded : Bool) (face : VariableFace) (location : Location) (e : Error) : Type 0 where
+  memory : e ≡ errors.Memory → IsUnwritten rounded face location e
+  no_glyph : NamesUnwritten rounded face location e → IsUnwritten rounded face location e
   no_font : (naming : Naming) (advances : AdvancesAt) (cause : CauseOfTable) → AreAdvancesAt face location.coordinates.items advances →
-      LacksTableBy rounded face.font naming advances cause → e ≡ errors.Table cause → IsUnmade rounded face location e
-  no_other_tables : (font : List ℕ) → IsFontAt rounded face location font → NoTables face e → IsUnmade rounded face location e
-  no_file : (font : List ℕ) → IsFontAt rounded face location font → NoFileWith font e → IsUnmade rounded face location e
+      LacksTableBy rounded face.font naming advances cause → e ≡ errors.Table cause → IsUnwritten rounded face location e
+  no_other_tables : (font : List ℕ) → IsFontAt rounded face location font → NoTables face e → IsUnwritten rounded face location e
+  no_file : (font : List ℕ) → IsFontAt rounded face location font → NoFileWith font e → IsUnwritten rounded face location e
+
+-- why a face has no static font at a location
+abbrev pub IsUnmade : (rounded : Bool) → (limit left : ℕ) → VariableFace → Location → Error → Type 0
+IsUnmade rounded limit left face location e = AreUndrawn limit left face location e ⊎ IsUnwritten rounded face location e
 
 -- why there is no static font of a face of a file, at the location of some settings
-pub data NoInstanceFile (rounded : Bool) (bytes : List ℕ) (number : ℕ) (settings : List Setting) (e : Error) : Type 0 where
-  unread : IsUnread bytes number e → NoInstanceFile rounded bytes number settings e
-  unplaced : (face : VariableFace) → IsFoundFace bytes number face → IsUnplaced face e → NoInstanceFile rounded bytes number settings e
+pub data NoInstanceFileWithin (limit left : ℕ) (rounded : Bool) (bytes : List ℕ) (number : ℕ) (settings : List Setting) (e : Error) : Type 0 where
+  unread : IsUnread bytes number e → NoInstanceFileWithin limit left rounded bytes number settings e
+  unplaced : (face : VariableFace) → IsFoundFace bytes number face → IsUnplaced face e →
+      NoInstanceFileWithin limit left rounded bytes number settings e
   unmade : (face : VariableFace) (location : Location) → IsFoundFace bytes number face → IsAt face settings location →
-      IsUnmade rounded face location e → NoInstanceFile rounded bytes number settings e
+      IsUnmade rounded limit left face location e → NoInstanceFileWithin limit left rounded bytes number settings e
+
+-- the same within some limits
+abbrev pub NoInstanceFile : (rounded : Bool) → (bytes : List ℕ) → (number : ℕ) → (settings : List Setting) → Error → Type 0
+NoInstanceFile rounded bytes number settings e = (limit : ℕ) × (left : ℕ) × NoInstanceFileWithin limit left rounded bytes number settings e
