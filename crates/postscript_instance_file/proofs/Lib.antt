@@ -1,1 +1,3 @@
+mod Advancing
+mod Drawing
 mod Refusing

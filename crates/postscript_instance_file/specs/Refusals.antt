@@ -1,23 +1,24 @@
 -- Why a variable font is not opened, and why it has no location or no static font.
-use Rattle.std.specs.Prelude.{◌≡◌, ◌⊎◌, ◌<◌, ℕ, List, Bool, true, false, codes, length, Option, Some, None}
+use Rattle.std.specs.Prelude.{◌≡◌, ◌⊎◌, ◌<◌, ℕ, List, [], Bool, true, false, codes, length, Option, Some, None}
 use Rattle.std.specs.List.Sorted.{IsPermutation}
 use denote.Ref.{Bor}
 use Rattle.postscript_cff2.specs.Causes.{NoFont}
-use Rattle.postscript_cff2.specs.Shown.{view_shown}
 use Rattle.postscript_cff2.specs.declared.error.Error.{Error as FontError}
 use Rattle.postscript_cff2.specs.declared.font.Font.{Font}
-use Rattle.postscript_instance.specs.Advances.{LacksRoom}
 use Rattle.postscript_instance.specs.Glyphs.{NoRoundedTable, NoTable}
 use Rattle.postscript_instance.specs.declared.advances.AdvancesAt.{AdvancesAt}
 use Rattle.postscript_instance.specs.declared.error.Error.{Error as CauseOfTable}
 use Rattle.postscript_instance.specs.declared.naming.Naming.{Naming}
 use Rattle.postscript_instance_file.specs.Faces.{IsAt, IsFoundFace, IsVariableFace, avar_tag, cff2_tag, fvar_tag, hhea_tag, hmtx_tag, hvar_tag, maxp_tag, mvar_tag}
+use Rattle.postscript_instance_file.specs.Glyphs.{HasNoWidths, NamesUndrawn, NamesUnwritten}
 use Rattle.postscript_instance_file.specs.Instances.{AreAdvancesAt, HaveFont, IsFontAt, cff_tag}
 use Rattle.postscript_instance_file.specs.declared.error.Error.{Error}
 use Rattle.postscript_instance_file.specs.declared.error.Error.TheVariants as errors
-use Rattle.postscript_instance_file.specs.declared.error.GlyphError.{GlyphError}
 use Rattle.postscript_instance_file.specs.declared.face.VariableFace.{VariableFace}
 use Rattle.postscript_instance_file.specs.declared.location.Location.{Location}
+use Rattle.postscript_instance_file.specs.declared.made.Unmade.{Unmade}
+use Rattle.postscript_instance_file.specs.declared.made.Unmade.TheVariants as reasons
+use Rattle.postscript_instance_file.specs.Weights.{IsHeavy}
 use Rattle.postscript_sfnt.specs.Lent.{HasNoTable, IsFaceOf, IsTableOf}
 use Rattle.postscript_sfnt.specs.Metrics.{HasAdvances, IsGlyphs}
 use Rattle.postscript_sfnt.specs.Refusals.{NoFace}
@@ -53,7 +54,7 @@ pub data IsNeeded : (name : List ℕ) → (tag : ℕ) → Type 0 where
   of_hmtx : IsNeeded (codes "hmtx") hmtx_tag
   of_maxp : IsNeeded (codes "maxp") maxp_tag
 
--- Why a face with a `CFF2` table is not opened. No rule says which tables are too expensive.
+-- why a face with a `CFF2` table is not opened
 pub data IsUnopened (file : FontFile) (e : Error) : Type 0 where
   no_table : (name : Bor (List ℕ)) (tag : ℕ) → IsNeeded name.now tag → HasNoTable file tag → e ≡ errors.NoTable name → IsUnopened file e
   cut_advances : (name : Bor (List ℕ)) → e ≡ errors.Cut name → name.now ≡ codes "hmtx" → HasBadAdvances file → IsUnopened file e
@@ -65,7 +66,7 @@ pub data IsUnopened (file : FontFile) (e : Error) : Type 0 where
   bad_variations : (name : Bor (List ℕ)) (cause : TableError) → e ≡ errors.Variations name cause → name.now ≡ codes "HVAR" →
       HasBad file hvar_tag (NoAdvances cause) → IsUnopened file e
   bad_font : (cause : FontError) → HasBad file cff2_tag (NoFont cause) → e ≡ errors.Font cause → IsUnopened file e
-  heavy : (name : Bor (List ℕ)) (face : VariableFace) → IsVariableFace file face → e ≡ errors.Heavy name → IsUnopened file e
+  heavy : (name : Bor (List ℕ)) (face : VariableFace) → IsVariableFace file face → IsHeavy face name.now → e ≡ errors.Heavy name → IsUnopened file e
 
 -- the face has no `CFF2` table, or it has a `CFF ` table too
 abbrev pub IsNotVariable : FontFile → Type 0
@@ -87,10 +88,6 @@ pub data IsUnplaced (face : VariableFace) (e : Error) : Type 0 where
   no_memory : e ≡ errors.Memory → IsUnplaced face e
   no_place : (cause : PlaceError) → NoPlaceIn face.font.store cause → e ≡ errors.Place cause → IsUnplaced face e
 
--- the number of glyphs of a face
-abbrev pub glyphs_in : VariableFace → ℕ
-glyphs_in face = length (view_shown face.font).char_strings
-
 -- why there is no `CFF ` table of a face at a location; if it is rounded, each point is a whole number of units
 abbrev pub LacksTableBy : (rounded : Bool) → Font → Naming → AdvancesAt → CauseOfTable → Type 0
 LacksTableBy true font naming advances e = NoRoundedTable font naming advances e
@@ -104,13 +101,6 @@ pub record HasBadMetrics (file : FontFile) (e : Error) : Type 0 where
   pub bad : HasBad file mvar_tag (NoMetrics cause)
   pub is : e ≡ errors.Variations name cause
 
--- the error names one of the first `count` glyphs
-pub record NamesGlyph (count : ℕ) (e : Error) : Type 0 where
-  pub gid : ℕ
-  pub cause : GlyphError
-  pub there : gid < count
-  pub is : e ≡ errors.Glyph gid cause
-
 -- why there is no file of these tables, sorted by their tags
 pub data NoFileOf (tables : List Table) (e : Error) : Type 0 where
   out_of_memory : e ≡ errors.Memory → NoFileOf tables e
@@ -122,22 +112,59 @@ pub data NoFileWith (font : List ℕ) (e : Error) : Type 0 where
   no_tables : e ≡ errors.Memory → NoFileWith font e
   no_file_of : (tables : List Table) → HaveFont tables font → NoFileOf tables e → NoFileWith font e
 
--- Why a face has no static font at a location. No rule says which names are too long, and which glyphs cost too much.
-pub data IsUnmade (rounded : Bool) (face : VariableFace) (location : Location) (e : Error) : Type 0 where
-  memory : e ≡ errors.Memory → IsUnmade rounded face location e
-  of_glyph : NamesGlyph (glyphs_in face) e → IsUnmade rounded face location e
-  bad_metrics : HasBadMetrics face.file e → IsUnmade rounded face location e
-  no_widths : (advances : AdvancesAt) (cause : CauseOfTable) → AreAdvancesAt face location.coordinates.items advances →
-      LacksRoom advances (glyphs_in face) cause → e ≡ errors.Table cause → IsUnmade rounded face location e
+-- the table with this tag, or no bytes if the face has no such table
+abbrev pub IsTableOrNone : FontFile → (tag : ℕ) → List ℕ → Type 0
+IsTableOrNone file tag table = IsTableOf file tag table ⊎ (HasNoTable file tag × (table ≡ []))
+
+-- the face has no table with this tag, or one with fewer bytes
+abbrev pub HasShort : FontFile → (tag size : ℕ) → Type 0
+HasShort file tag size = (table : List ℕ) × IsTableOrNone file tag table × (length table < size)
+
+-- why a table is not made: memory runs out, the names are too long, or the `hhea` table is truncated
+abbrev pub IsUnmadeBy : FontFile → Unmade → Type 0
+IsUnmadeBy file reasons.Memory = Unit {0}
+IsUnmadeBy file reasons.Names = Unit {0}
+IsUnmadeBy file reasons.Cut = HasShort file hhea_tag 36
+
+-- the reason that an error of a table that is written is converted to
+abbrev pub unmade_by : CauseOfFile → Unmade
+unmade_by writing.Memory = reasons.Memory
+unmade_by e = reasons.Cut
+
+-- Why the tables other than `CFF ` are not made. No rule says which names are too long.
+pub data NoTables (face : VariableFace) (e : Error) : Type 0 where
+  no_room : e ≡ errors.Memory → NoTables face e
+  bad_metrics : HasBadMetrics face.file e → NoTables face e
+  long_names : e ≡ errors.Names → NoTables face e
+  short_metrics : HasShort face.file hhea_tag 36 → e ≡ errors.Write writing.Cut → NoTables face e
+
+-- why the glyphs of a face are not all drawn and measured at a location, within a limit for each glyph and what is left for all glyphs
+pub data AreUndrawn (limit left : ℕ) (face : VariableFace) (location : Location) (e : Error) : Type 0 where
+  no_memory_left : e ≡ errors.Memory → AreUndrawn limit left face location e
+  no_widths : HasNoWidths face location e → AreUndrawn limit left face location e
+  undrawn : NamesUndrawn face location limit left e → AreUndrawn limit left face location e
+
+-- why a static font is not written with glyphs that are all drawn
+pub data IsUnwritten (rounded : Bool) (face : VariableFace) (location : Location) (e : Error) : Type 0 where
+  memory : e ≡ errors.Memory → IsUnwritten rounded face location e
+  no_glyph : NamesUnwritten rounded face location e → IsUnwritten rounded face location e
   no_font : (naming : Naming) (advances : AdvancesAt) (cause : CauseOfTable) → AreAdvancesAt face location.coordinates.items advances →
-      LacksTableBy rounded face.font naming advances cause → e ≡ errors.Table cause → IsUnmade rounded face location e
-  names : e ≡ errors.Names → IsUnmade rounded face location e
-  cut : e ≡ errors.Write writing.Cut → IsUnmade rounded face location e
-  no_file : (font : List ℕ) → IsFontAt rounded face location font → NoFileWith font e → IsUnmade rounded face location e
+      LacksTableBy rounded face.font naming advances cause → e ≡ errors.Table cause → IsUnwritten rounded face location e
+  no_other_tables : (font : List ℕ) → IsFontAt rounded face location font → NoTables face e → IsUnwritten rounded face location e
+  no_file : (font : List ℕ) → IsFontAt rounded face location font → NoFileWith font e → IsUnwritten rounded face location e
+
+-- why a face has no static font at a location
+abbrev pub IsUnmade : (rounded : Bool) → (limit left : ℕ) → VariableFace → Location → Error → Type 0
+IsUnmade rounded limit left face location e = AreUndrawn limit left face location e ⊎ IsUnwritten rounded face location e
 
 -- why there is no static font of a face of a file, at the location of some settings
-pub data NoInstanceFile (rounded : Bool) (bytes : List ℕ) (number : ℕ) (settings : List Setting) (e : Error) : Type 0 where
-  unread : IsUnread bytes number e → NoInstanceFile rounded bytes number settings e
-  unplaced : (face : VariableFace) → IsFoundFace bytes number face → IsUnplaced face e → NoInstanceFile rounded bytes number settings e
+pub data NoInstanceFileWithin (limit left : ℕ) (rounded : Bool) (bytes : List ℕ) (number : ℕ) (settings : List Setting) (e : Error) : Type 0 where
+  unread : IsUnread bytes number e → NoInstanceFileWithin limit left rounded bytes number settings e
+  unplaced : (face : VariableFace) → IsFoundFace bytes number face → IsUnplaced face e →
+      NoInstanceFileWithin limit left rounded bytes number settings e
   unmade : (face : VariableFace) (location : Location) → IsFoundFace bytes number face → IsAt face settings location →
-      IsUnmade rounded face location e → NoInstanceFile rounded bytes number settings e
+      IsUnmade rounded limit left face location e → NoInstanceFileWithin limit left rounded bytes number settings e
+
+-- the same within some limits
+abbrev pub NoInstanceFile : (rounded : Bool) → (bytes : List ℕ) → (number : ℕ) → (settings : List Setting) → Error → Type 0
+NoInstanceFile rounded bytes number settings e = (limit : ℕ) × (left : ℕ) × NoInstanceFileWithin limit left rounded bytes number settings e

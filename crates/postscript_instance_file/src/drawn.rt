@@ -1,8 +1,9 @@
 //! The glyphs of an instance, drawn within the limit and measured.
-ghost use Rattle.std.specs.Prelude.{◌≡◌, ◌⊎◌, ◌≤◌, Bool, length, IfErr, IfOk, OnOk};
+ghost use Rattle.std.specs.Prelude.{◌≡◌, ◌⊎◌, ◌/◌, ◌≤◌, [], IfErr, IfOk, OnOk};
 ghost use Rattle.postscript_instance.specs.Advances.{LacksRoom};
+ghost use Rattle.postscript_instance_file.specs.Glyphs.{HasNoWidths, HaveWidths, IsPaid, IsUndrawnBy, NamesUndrawn, glyphs_in};
 ghost use Rattle.postscript_instance_file.specs.Instances.{AreAdvancesAt};
-ghost use Rattle.postscript_instance_file.specs.Refusals.{IsUnmade, NamesGlyph, glyphs_in};
+ghost use Rattle.postscript_instance_file.specs.Refusals.{AreUndrawn};
 ghost use Rattle.postscript_instance_file.specs.declared.error.Error.TheVariants as errors;
 ghost use Rattle.postscript_instance_file.specs.declared.error.GlyphError.{GlyphError as Cause};
 
@@ -120,18 +121,7 @@ fn nearest_segment(segment: Segment) -> Segment {
     }
 }
 
-/// Returns the error of a glyph that was run within a share.
-fn error_of(error: Undrawn, share: u64, limit: u64) -> GlyphError {
-    match error {
-        Undrawn::Font(fault) => GlyphError::Run(fault),
-        Undrawn::NoSuchGlyph(_) => GlyphError::NoPart,
-        Undrawn::TooLong if share < limit => GlyphError::UsedUp,
-        Undrawn::TooLong => GlyphError::TooLong(limit),
-        error => GlyphError::Undrawn(error),
-    }
-}
-
-/// Draws a glyph into a list, within its share.
+/// Draws a glyph into an empty list, within its share.
 fn draw_into(
     alloc: Global,
     face: &VariableFace<'_>,
@@ -140,7 +130,12 @@ fn draw_into(
     budget: &mut Budget,
     held: &mut Held,
 ) -> Result<(), GlyphError>
-    ensures { budget.new.left ≤ budget.old.left }
+    requires empty { held.old.segments.items ≡ [] }
+    requires room { held.old.most ≡ budget.old.limit / ROOM }
+    ensures limit { budget.new.limit ≡ budget.old.limit }
+    ensures spends { budget.new.left ≤ budget.old.left }
+    ensures pays { OnOk result (IsPaid face.now location.now gid budget.old.left budget.new.left) }
+    ensures why { IfErr result (λ cause. IsUndrawnBy face.now location.now budget.old.limit budget.old.left gid cause) }
 {
     let share = budget.limit.min(budget.left);
     let mut left = share;
@@ -150,10 +145,14 @@ fn draw_into(
     budget.left = budget.left.saturating_sub(taken);
     let most = budget.limit / HELD;
     match drawn {
-        Err(error) if held.stops(&error) => Err(GlyphError::Segments(held.most)),
-        Err(error) => Err(error_of(error, share, budget.limit)),
         Ok(()) if taken > most => Err(GlyphError::Held(most)),
         Ok(()) => Ok(()),
+        Err(error) if held.stops(&error) => Err(GlyphError::Segments(held.most)),
+        Err(Undrawn::Font(fault)) => Err(GlyphError::Run(fault)),
+        Err(Undrawn::NoSuchGlyph(_)) => Err(GlyphError::NoPart),
+        Err(Undrawn::TooLong) if share < budget.limit => Err(GlyphError::UsedUp),
+        Err(Undrawn::TooLong) => Err(GlyphError::TooLong(budget.limit)),
+        Err(error) => Err(GlyphError::Undrawn(error)),
     }
 }
 
@@ -166,8 +165,11 @@ fn frame_of(
     budget: &mut Budget,
     is_rounded: bool,
 ) -> Result<Option<Frame>, Error>
+    ensures limit { budget.new.limit ≡ budget.old.limit }
     ensures spends { budget.new.left ≤ budget.old.left }
-    ensures why { IfErr result (λ e. (cause : Cause) × (e ≡ errors.Glyph gid cause)) }
+    ensures pays { OnOk result (IsPaid face.now location.now gid budget.old.left budget.new.left) }
+    ensures why { IfErr result (λ e. (cause : Cause) × IsUndrawnBy face.now location.now budget.old.limit budget.old.left gid cause
+        × (e ≡ errors.Glyph gid cause)) }
 {
     let mut held = Held::new(alloc, budget.limit / ROOM);
     if let Err(error) = draw_into(alloc, face, gid, location, budget, &mut held) {
@@ -202,13 +204,13 @@ fn unheld(
 ) -> Error
     requires are { AreAdvancesAt face.now location.now.coordinates.items advances.now }
     requires lacks { LacksRoom advances.now (glyphs_in face.now) error }
-    ensures { (rounded : Bool) → IsUnmade rounded face.now location.now result }
+    ensures { HasNoWidths face.now location.now result }
 {
     match error {
-        Unwritten::Advance(glyph) => {
-            let gid = gid_of(glyph);
-            Error::Glyph(gid, GlyphError::Advance(advances.of(gid)))
-        }
+        Unwritten::Advance(glyph) => match u16::try_from(glyph) {
+            Ok(gid) => Error::Glyph(gid, GlyphError::Advance(advances.of(gid))),
+            Err(_) => Error::Table(Unwritten::Advance(glyph)),
+        },
         error => Error::Table(error),
     }
 }
@@ -219,8 +221,8 @@ fn widths_of(
     face: &VariableFace<'_>,
     location: &Location,
 ) -> Result<Vec<Operand>, Error>
-    ensures counted { IfOk result (λ widths. length widths.items ≡ glyphs_in face.now) }
-    ensures why { IfErr result (λ e. (rounded : Bool) → IsUnmade rounded face.now location.now e) }
+    ensures found { IfOk result (λ widths. HaveWidths face.now location.now widths.items) }
+    ensures why { IfErr result (λ e. HasNoWidths face.now location.now e) }
 {
     let advances = face.advances_at(&location.coordinates);
     match advances.operands(alloc, face.font.char_strings.len()) {
@@ -272,9 +274,10 @@ impl Drawn {
         is_rounded: bool,
         watch: &mut W,
     ) -> Result<(), Error>
+        requires { glyphs ≤ glyphs_in face.now }
         ensures kept { self.new.widths ≡ self.old.widths }
         ensures spends { budget.new.left ≤ budget.old.left }
-        ensures why { IfErr result (λ e. (e ≡ errors.Memory) ⊎ NamesGlyph glyphs e) }
+        ensures why { IfErr result (λ e. (e ≡ errors.Memory) ⊎ NamesUndrawn face.now location.now budget.old.limit budget.old.left e) }
     {
         for gid in 0..glyphs {
             watch.at_glyph(gid);
@@ -298,9 +301,9 @@ impl Drawn {
         is_rounded: bool,
         watch: &mut W,
     ) -> Result<Drawn, Error>
-        ensures counted { IfOk result (λ drawn. length drawn.widths.items ≡ glyphs_in face.now) }
+        ensures widths { IfOk result (λ drawn. HaveWidths face.now location.now drawn.widths.items) }
         ensures spends { budget.new.left ≤ budget.old.left }
-        ensures why { IfErr result (λ e. (rounded : Bool) → IsUnmade rounded face.now location.now e) }
+        ensures why { IfErr result (λ e. AreUndrawn budget.old.limit budget.old.left face.now location.now e) }
     {
         let glyphs = gid_of(face.font.char_strings.len());
         let mut drawn = Drawn {

@@ -14,16 +14,16 @@ pub enum GlyphError {
     /// The glyph has no Font DICT.
     #[error("it has no Font DICT in FDSelect")]
     NoPart,
-    /// The run costs more than the limit of a glyph.
+    /// The run costs this limit of a glyph or more.
     #[error("it costs more than {0} units")]
     TooLong(u64),
     /// The run costs more than this part of the limit. All operations of a glyph are kept in memory.
     #[error("it costs more than {0} units, a fortieth of the limit")]
     Held(u64),
-    /// The glyph draws more segments than this.
+    /// The glyph draws at least this number of segments, and no more are kept.
     #[error("it draws more than {0} segments, one for each 50 units of the limit")]
     Segments(u64),
-    /// The glyphs before this one leave too little of the limit of all glyphs.
+    /// The glyphs before this one leave no more of the limit of all glyphs than its run costs.
     #[error("all glyphs together cost more than their limit")]
     UsedUp,
     /// The advance width is not from 0 to 32767.
@@ -32,7 +32,7 @@ pub enum GlyphError {
     /// The run fails.
     #[error("{0}")]
     Run(postscript_base::Error),
-    /// The glyph cannot be drawn.
+    /// Out of memory for the segments (`Full`).
     #[error("{0}")]
     Undrawn(postscript_drawing::Error),
     /// The charstring cannot be written.
@@ -67,7 +67,7 @@ pub enum Error {
     /// The item variation store has no scalars at the location.
     #[error("the item variation store: {0}")]
     Place(postscript_variable_font::Error),
-    /// A table makes too much work.
+    /// A table makes too much work (`specs/Weights.antt`).
     #[error("the {0} table is too expensive to process")]
     Heavy(&'static str),
     /// A glyph is not written.
@@ -79,7 +79,7 @@ pub enum Error {
     /// The `name` table would have more than 65,535 bytes of records or of texts.
     #[error("the font has no space for more names in its name table")]
     Names,
-    /// The file is not written.
+    /// The file is not written. `Cut`: the `hhea` table is truncated.
     #[error("cannot write the font file: {0}")]
     Write(postscript_sfnt_write::Error),
 }

@@ -1,7 +1,7 @@
 //! Variable fonts of files: fonts with outlines in a `CFF2` table.
 ghost use Rattle.std.specs.Prelude.{◌≡◌, IfErr, IfOk, IfSome, MatchOption};
 ghost use Rattle.postscript_base.specs.Numbers.{big_endian};
-ghost use Rattle.postscript_instance_file.specs.Faces.{HasAdvances, IsFoundFace, IsRead, IsVariableFace, avar_tag, cff2_tag, fvar_tag, hvar_tag};
+ghost use Rattle.postscript_instance_file.specs.Faces.{AreNames, HasAdvances, IsFoundFace, IsNamed, IsRead, IsUnnamed, IsVariableFace, avar_tag, cff2_tag, fvar_tag, hvar_tag};
 ghost use Rattle.postscript_instance_file.specs.Refusals.{IsNeeded, IsNotVariable, IsUnopened, IsUnread};
 ghost use Rattle.postscript_instance_file.specs.declared.error.Error.TheVariants as errors;
 ghost use Rattle.postscript_sfnt.specs.Lent.{IsTableOf};
@@ -118,7 +118,9 @@ fn variations_of<'l>(file: &FontFile<'l>) -> Result<Option<AdvanceVariations<'l>
 }
 
 /// Returns the names of a face, if it has a `name` table that can be read.
-fn names_of<'l>(file: &FontFile<'l>) -> Option<Names<'l>> {
+fn names_of<'l>(file: &FontFile<'l>) -> Option<Names<'l>>
+    ensures { AreNames file.now result }
+{
     match file.table(*b"name") {
         Some(names) => Names::read(names),
         None => None,
@@ -146,7 +148,7 @@ impl<'l> VariableFace<'l> {
     pub fn read(bytes: &'l [u8], number: usize) -> Result<VariableFace<'l>>
         // The font of the face of this number, with what its own tables say.
         ensures found { IfOk result (λ face. IsFoundFace bytes.now number face) }
-        // An error is justified by the file, by its tables, or by one that is too expensive.
+        // An error is justified by the file, or by a table as those of `open`.
         ensures why { IfErr result (λ e. IsUnread bytes.now number e) }
     {
         let file = FontFile::read(bytes, number)?;
@@ -163,13 +165,13 @@ impl<'l> VariableFace<'l> {
     /// - `NoTable` or `Cut`: the `hhea`, `hmtx` or `maxp` table is missing or truncated.
     /// - `Variations`: the `fvar`, `avar` or `HVAR` table is malformed.
     /// - `Font`: the `CFF2` table is malformed.
-    /// - `Heavy`: a table makes too much work.
+    /// - `Heavy`: a table makes more work than the limits in `weight.rt` (`specs/Weights.antt`).
     pub fn open(file: &FontFile<'l>) -> Result<Option<VariableFace<'l>>>
         // The font of this face, with what its own tables say.
         ensures found { IfOk result (λ found. IfSome found (λ face. IsVariableFace file.now face)) }
         // Without a font the face has no `CFF2` table, or it has a `CFF ` table too.
         ensures none { IfOk result (λ found. MatchOption found (IsNotVariable file.now) (λ _. Unit {0})) }
-        // An error is justified by a table that is missing, malformed or too expensive.
+        // An error is justified by a table that is missing, malformed, or heavier than the limits.
         ensures why { IfErr result (λ e. IsUnopened file.now e) }
     {
         let Some(cff2) = cff2_of(file) else {
@@ -191,8 +193,11 @@ impl<'l> VariableFace<'l> {
         }
     }
 
-    /// Returns the name with an ID.
-    pub fn name(&self, identifier: u16) -> Option<Name<'l>> {
+    /// Returns the name with an ID, as [`Names::get`](postscript_sfnt::Names::get) does. Returns `None` if there is none.
+    pub fn name(&self, identifier: u16) -> Option<Name<'l>>
+        // The text with this identifier in the names of the face, or `None` if there is none.
+        ensures { MatchOption result (IsUnnamed self.now.names identifier) (λ name. IsNamed self.now.names identifier name) }
+    {
         match &self.names {
             Some(names) => names.get(identifier),
             None => None,

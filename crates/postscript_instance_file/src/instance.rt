@@ -1,12 +1,12 @@
 //! Static fonts with outlines in a `CFF ` table.
-ghost use Rattle.std.specs.Prelude.{◌≡◌, ◌⊎◌, ◌≤◌, Bool, length, IfErr, IfOk, IfSome};
+ghost use Rattle.std.specs.Prelude.{◌≡◌, ◌⊎◌, ◌≤◌, IfErr, IfOk, IfSome, slice_get};
+ghost use Rattle.postscript_instance_file.specs.Glyphs.{HaveWidths, IsGlyphBy, NamesUnwritten, NoGlyphBy};
 ghost use Rattle.postscript_instance_file.specs.Instances.{HaveFont, IsFileOf, IsFileWith, IsFontAt, IsInstanceFile, IsStaticFont, IsTableBy};
-ghost use Rattle.postscript_instance_file.specs.Refusals.{IsUnmade, LacksTableBy, NamesGlyph, NoFileOf, NoFileWith, NoInstanceFile, glyphs_in};
+ghost use Rattle.postscript_instance_file.specs.Refusals.{IsUnmade, IsUnmadeBy, IsUnwritten, LacksTableBy, NoFileOf, NoFileWith, NoInstanceFile, NoInstanceFileWithin, NoTables};
 ghost use Rattle.postscript_instance_file.specs.declared.error.Error.TheVariants as errors;
 ghost use Rattle.postscript_instance_file.specs.declared.face.VariableFace.{VariableFace as Face};
-ghost use Rattle.postscript_instance_file.specs.declared.location.Location.{Location as At};
 
-use crate::drawn::{Budget, Drawn, gid_of};
+use crate::drawn::{Budget, Drawn};
 use crate::error::{Error, GlyphError};
 use crate::face::VariableFace;
 use crate::glyph_names::{Kept, names_of};
@@ -19,6 +19,8 @@ use postscript_instance::{
     AdvancesAt, Error as Unwritten, Naming, glyph, rounded_glyph, rounded_table, table,
 };
 use postscript_sfnt_write::{Table, file_of};
+use postscript_type2::Operand;
+use postscript_variable_font::Place;
 use postscript_variation::Setting;
 use std::alloc::{AllocError, Global};
 
@@ -51,6 +53,32 @@ pub struct StaticFont {
     pub lost_names: Option<&'static str>,
 }
 
+/// Returns the charstring of a glyph at a location. Each point is rounded to whole units if `is_rounded` is set.
+fn glyph_by(
+    alloc: Global,
+    font: &Font<'_>,
+    number: usize,
+    place: &Place,
+    width: Option<Operand>,
+    is_rounded: bool,
+) -> Result<Vec<u8>, Unwritten>
+    ensures written { IfOk result (λ code. IsGlyphBy is_rounded font.now number place.now width code.items) }
+    ensures why { IfErr result (λ e. NoGlyphBy is_rounded font.now number place.now width e) }
+{
+    if is_rounded {
+        rounded_glyph(alloc, font, number, place, width)
+    } else {
+        glyph(alloc, font, number, place, width)
+    }
+}
+
+/// Returns the advance of a glyph, as the width of a charstring.
+fn width_of(drawn: &Drawn, glyph: usize) -> Option<Operand>
+    ensures { result ≡ slice_get drawn.now.widths.items glyph }
+{
+    drawn.widths.get(glyph).copied()
+}
+
 /// Returns the error of the first glyph that cannot be written.
 fn unwritten(
     alloc: Global,
@@ -59,18 +87,17 @@ fn unwritten(
     drawn: &Drawn,
     is_rounded: bool,
 ) -> Option<Error>
-    requires { length drawn.now.widths.items ≡ glyphs_in face.now }
-    ensures { IfSome result (λ e. NamesGlyph (glyphs_in face.now) e) }
+    requires { HaveWidths face.now location.now drawn.now.widths.items }
+    ensures { IfSome result (λ e. NamesUnwritten is_rounded face.now location.now e) }
 {
     for i in 0..drawn.widths.len() {
-        let width = drawn.widths.get(i).copied();
-        let written = if is_rounded {
-            rounded_glyph(alloc, &face.font, i, &location.place, width)
-        } else {
-            glyph(alloc, &face.font, i, &location.place, width)
+        let Ok(gid) = u16::try_from(i) else {
+            return None;
         };
+        let width = width_of(drawn, i);
+        let written = glyph_by(alloc, &face.font, i, &location.place, width, is_rounded);
         if let Err(error) = written {
-            return Some(Error::Glyph(gid_of(i), GlyphError::Unwritten(error)));
+            return Some(Error::Glyph(gid, GlyphError::Unwritten(error)));
         }
     }
     None
@@ -85,8 +112,8 @@ fn error_of(
     is_rounded: bool,
     error: Unwritten,
 ) -> Error
-    requires { length drawn.now.widths.items ≡ glyphs_in face.now }
-    ensures { NamesGlyph (glyphs_in face.now) result ⊎ (result ≡ errors.Table error) }
+    requires { HaveWidths face.now location.now drawn.now.widths.items }
+    ensures { NamesUnwritten is_rounded face.now location.now result ⊎ (result ≡ errors.Table error) }
 {
     match error {
         Unwritten::TooManyOperands | Unwritten::NoMove | Unwritten::TooFar => match unwritten(
@@ -127,9 +154,9 @@ fn font_of(
     names: &Kept<'_>,
     is_rounded: bool,
 ) -> Result<Vec<u8>, Error>
-    requires { length drawn.now.widths.items ≡ glyphs_in face.now }
+    requires { HaveWidths face.now location.now drawn.now.widths.items }
     ensures written { IfOk result (λ font. IsFontAt is_rounded face.now location.now font.items) }
-    ensures why { IfErr result (λ e. IsUnmade is_rounded face.now location.now e) }
+    ensures why { IfErr result (λ e. IsUnwritten is_rounded face.now location.now e) }
 {
     let naming = Naming {
         font: style.postscript.as_str().as_bytes(),
@@ -144,7 +171,7 @@ fn font_of(
 
 /// Returns the error of a table that is not made.
 fn error_of_table(unmade: Unmade) -> Error
-    ensures { (rounded : Bool) (face : Face) (location : At) → IsUnmade rounded face location result }
+    ensures { (face : Face) → IsUnmadeBy face.file unmade → NoTables face result }
 {
     match unmade {
         Unmade::Memory => Error::Memory,
@@ -161,16 +188,15 @@ fn made_of(
     drawn: &Drawn,
     style: &Style,
 ) -> Result<Made, Error>
-    ensures { IfErr result (λ e. (rounded : Bool) → IsUnmade rounded face.now location.now e) }
+    ensures { IfErr result (λ e. NoTables face.now e) }
 {
     let metrics = metrics::of(&face.file)?;
     let mut made = Made::new(alloc);
-    metrics::put(&mut made, alloc, face, location, drawn, style, metrics);
-    positions::put(&mut made, alloc, face, location);
-    match made.end() {
-        Ok(()) => Ok(made),
-        Err(unmade) => Err(error_of_table(unmade)),
+    if let Err(unmade) = metrics::put(&mut made, alloc, face, location, drawn, style, metrics) {
+        return Err(error_of_table(unmade));
     }
+    positions::put(&mut made, alloc, face, location)?;
+    Ok(made)
 }
 
 /// Returns a `CFF ` table, the made tables and the copied ones.
@@ -226,9 +252,9 @@ fn styled(
     style: &Style,
     is_rounded: bool,
 ) -> Result<StaticFont, Error>
-    requires { length drawn.now.widths.items ≡ glyphs_in face.now }
+    requires { HaveWidths face.now location.now drawn.now.widths.items }
     ensures written { IfOk result (λ made. IsStaticFont is_rounded face.now location.now made.file.items) }
-    ensures why { IfErr result (λ e. IsUnmade is_rounded face.now location.now e) }
+    ensures why { IfErr result (λ e. IsUnwritten is_rounded face.now location.now e) }
 {
     let names = names_of(alloc, face)?;
     let font = font_of(alloc, face, location, drawn, style, &names, is_rounded)?;
@@ -248,11 +274,12 @@ fn styled(
 ///
 /// # Errors
 ///
-/// - `Glyph`: a glyph has an error, or costs more than the limit. The first such glyph is given.
+/// - `Glyph`: the first glyph whose advance is not from 0 to 32767, or else the first one that is not drawn within the
+///   limits, or else the first one whose charstring is not written ([`GlyphError`]).
 /// - `Variations`: the `MVAR` table is malformed.
 /// - `Table`: the `CFF ` table is not written.
 /// - `Names`: the `name` table has no space for the names of the instance.
-/// - `Write`: the file would be too large.
+/// - `Write`: the file would be too large, or the `hhea` table has fewer than 36 bytes (`Cut`).
 /// - `Memory`: out of memory.
 pub fn static_font<W: Watch>(
     alloc: Global,
@@ -267,15 +294,16 @@ pub fn static_font<W: Watch>(
     ensures written { IfOk result (λ made. IsStaticFont is_rounded face.now location.now made.file.items) }
     // The limit of all glyphs never grows.
     ensures spends { left.new ≤ left.old }
-    // An error names a glyph of the font, or a table that is malformed or not written.
-    ensures why { IfErr result (λ e. IsUnmade is_rounded face.now location.now e) }
+    // An error names the first glyph that is refused, and why, or a table that is not made.
+    ensures why { IfErr result (λ e. IsUnmade is_rounded limit left.old face.now location.now e) }
 {
     let mut budget = Budget { limit, left: *left };
     let drawn = Drawn::of(alloc, face, location, &mut budget, is_rounded, watch);
     *left = budget.left;
     let drawn = drawn?;
     let style = Style::of(alloc, face, location)?;
-    styled(alloc, face, location, &drawn, &style, is_rounded)
+    let made = styled(alloc, face, location, &drawn, &style, is_rounded)?;
+    Ok(made)
 }
 
 /// Writes one instance of a variable font of a file as a static font file with a `CFF ` table.
@@ -299,8 +327,10 @@ pub fn instance_file(
     ensures written { IfOk result (λ made. IsInstanceFile is_rounded file.now number settings.items made.file.items) }
     // The limit of all glyphs never grows.
     ensures spends { left.new ≤ left.old }
-    // An error is justified as those of the three calls.
+    // An error is justified as those of the three calls, within some limits.
     ensures why { IfErr result (λ e. NoInstanceFile is_rounded file.now number settings.items e) }
+    // These are the given limits.
+    ensures within { IfErr result (λ e. NoInstanceFileWithin limit left.old is_rounded file.now number settings.items e) }
 {
     let face = VariableFace::read(file, number)?;
     let location = Location::of(alloc, &face, settings, None)?;

@@ -8,12 +8,15 @@
 //!
 //! Each call is safe and ends, on all bytes. A file that is written has one face, which opens with exactly the tables that are
 //! written. Its `CFF ` table is one that `postscript_instance` writes for the location, so glyphs are drawn as at the location.
-//! An error names a table that is missing, malformed, too expensive or not written, or a glyph of the font, or it is out of
-//! memory. The limit of all glyphs never grows.
+//! An error names a table that is missing, malformed, too expensive or not made, or the first glyph that is refused. The cause is
+//! present: a table is as heavy, an advance as wide, and a run as expensive as the error says (`specs/Weights.antt`,
+//! `specs/Glyphs.antt`). Any call may also be out of memory. The limit of all glyphs never grows.
 //!
 //! # What is not proved
 //!
-//! - That there is enough memory, and which limit suffices. Why a glyph or a table is too expensive.
+//! - That there is enough memory. That a face with a table that is too expensive is rejected.
+//! - That the names are too long if the error is `Names`, and that a glyph draws more segments than `Segments` says, not only as
+//!   many.
 //! - The tables other than `CFF `: metrics, names, glyph classes and positions are tested.
 #![tactic(auto)]
 

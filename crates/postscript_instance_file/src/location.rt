@@ -1,8 +1,9 @@
 //! Locations in the design space.
-ghost use Rattle.std.specs.Prelude.{◌≡◌, IfErr, IfOk};
-ghost use Rattle.postscript_instance_file.specs.Faces.{AreNormalized, IsAt};
+ghost use Rattle.std.specs.Prelude.{◌≡◌, IfErr, IfOk, slice_get};
+ghost use Rattle.postscript_instance_file.specs.Faces.{AreNormalized, IsAt, value_along};
 ghost use Rattle.postscript_instance_file.specs.Refusals.{IsUnplaced, NoPlaceIn};
 ghost use Rattle.postscript_instance_file.specs.declared.error.Error.TheVariants as errors;
+ghost use Rattle.postscript_variation.specs.Asked.{asked as the_asked, chosen as the_chosen};
 
 use crate::error::Result;
 use crate::face::VariableFace;
@@ -50,6 +51,34 @@ fn scalars(
     }
 }
 
+/// Returns the value of a setting if it has the tag, otherwise `value`.
+fn chosen(settings: &[Setting], k: usize, tag: u32, value: i32) -> i32
+    ensures { result ≡ the_chosen (slice_get settings.now k) tag value }
+{
+    match settings.get(k) {
+        Some(setting) => {
+            if setting.tag == tag {
+                setting.value
+            } else {
+                value
+            }
+        }
+        None => value,
+    }
+}
+
+/// Returns the value of the last setting with the tag of an axis, or the default of the axis.
+#[tactic(auto, using(postscript_variation::proofs::Asking::by_one_more))]
+fn asked(settings: &[Setting], axis: &Axis) -> i32
+    ensures { result ≡ the_asked settings.now axis.now.tag axis.now.default }
+{
+    let mut value = axis.default;
+    for k in 0..settings.len() {
+        value = chosen(settings, k, axis.tag, value);
+    }
+    value
+}
+
 impl Location {
     /// Returns the location with these user coordinates. All other axes have their defaults.
     ///
@@ -87,13 +116,11 @@ impl Location {
 
     /// Returns the value of an axis in 65536ths: the last one that was given with its tag, or the default. It is clamped
     /// to the axis.
-    pub fn value(&self, axis: &Axis) -> i32 {
-        let mut value = axis.default;
-        for setting in &self.settings {
-            if setting.tag == axis.tag {
-                value = setting.value;
-            }
-        }
-        value.max(axis.minimum).min(axis.maximum)
+    pub fn value(&self, axis: &Axis) -> i32
+        // The last value that was given with the tag of the axis, or its default, clamped to it.
+        ensures { result ≡ value_along axis.now self.now.settings.items }
+    {
+        let asked = asked(self.settings.as_slice(), axis);
+        asked.max(axis.minimum).min(axis.maximum)
     }
 }

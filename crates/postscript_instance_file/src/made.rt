@@ -1,4 +1,8 @@
 //! Tables that are made for a file.
+ghost use Rattle.std.specs.Prelude.{◌≡◌};
+ghost use Rattle.postscript_instance_file.specs.Refusals.{unmade_by};
+ghost use Rattle.postscript_instance_file.specs.declared.made.Unmade.TheVariants as reasons;
+
 use postscript_sfnt_write::{Error, Table};
 use std::alloc::{AllocError, AllocFailed, Global};
 
@@ -15,6 +19,8 @@ pub(crate) enum Unmade {
 
 /// Converts a failed allocation to `Memory`.
 impl From<AllocError> for Unmade {
+    ghost from_gives = { λ _ e. e ≡ reasons.Memory };
+
     fn from(_fault: AllocError) -> Unmade {
         Unmade::Memory
     }
@@ -22,6 +28,8 @@ impl From<AllocError> for Unmade {
 
 /// Converts a failed allocation that returns its value to `Memory`.
 impl<T: Drop> From<AllocFailed<T>> for Unmade {
+    ghost from_gives = { λ _ e. e ≡ reasons.Memory };
+
     fn from(_fault: AllocFailed<T>) -> Unmade {
         Unmade::Memory
     }
@@ -29,6 +37,8 @@ impl<T: Drop> From<AllocFailed<T>> for Unmade {
 
 /// Converts an error of a table that is written. It is `Memory` or `Cut`.
 impl From<Error> for Unmade {
+    ghost from_gives = { λ fault e. e ≡ unmade_by fault };
+
     fn from(fault: Error) -> Unmade {
         match fault {
             Error::Memory => Unmade::Memory,
@@ -43,49 +53,35 @@ struct MadeTable {
     bytes: Vec<u8>,
 }
 
-/// Tables that are made. After a failure they keep the first error, and return it at their end.
+/// Tables that are made.
 #[derive(Drop)]
 pub(crate) struct Made {
     tables: Vec<MadeTable>,
-    failure: Option<Unmade>,
 }
 
 impl Made {
     pub(crate) fn new(alloc: Global) -> Made {
         Made {
             tables: Vec::new(alloc),
-            failure: None,
         }
     }
 
-    /// Keeps a failure, if it is the first one.
-    fn fail(&mut self, failure: Unmade) {
-        if self.failure.is_none() {
-            self.failure = Some(failure);
-        }
-    }
-
-    fn add(&mut self, tag: [u8; 4], bytes: Vec<u8>) {
+    /// Adds a table.
+    pub(crate) fn put(&mut self, tag: [u8; 4], bytes: Vec<u8>) -> Result<(), AllocError> {
         let tag = u32::from_be_bytes(tag);
-        if self.tables.push(MadeTable { tag, bytes }).is_err() {
-            self.fail(Unmade::Memory);
-        }
+        self.tables.push(MadeTable { tag, bytes })?;
+        Ok(())
     }
 
-    /// Adds a table, or keeps its error.
-    pub(crate) fn put<E: Into<Unmade>>(&mut self, tag: [u8; 4], table: Result<Vec<u8>, E>) {
+    /// Adds a table, if there is one.
+    pub(crate) fn put_if(
+        &mut self,
+        tag: [u8; 4],
+        table: Option<Vec<u8>>,
+    ) -> Result<(), AllocError> {
         match table {
-            Ok(bytes) => self.add(tag, bytes),
-            Err(error) => self.fail(error.into()),
-        }
-    }
-
-    /// Adds an optional table, or keeps its error.
-    pub(crate) fn put_if(&mut self, tag: [u8; 4], table: Result<Option<Vec<u8>>, AllocError>) {
-        match table {
-            Ok(Some(bytes)) => self.add(tag, bytes),
-            Ok(None) => {}
-            Err(_) => self.fail(Unmade::Memory),
+            Some(bytes) => self.put(tag, bytes),
+            None => Ok(()),
         }
     }
 
@@ -99,13 +95,5 @@ impl Made {
             })?;
         }
         Ok(tables)
-    }
-
-    /// Returns the first failure, if there is one.
-    pub(crate) fn end(&mut self) -> Result<(), Unmade> {
-        match self.failure.take() {
-            Some(failure) => Err(failure),
-            None => Ok(()),
-        }
     }
 }

@@ -1,6 +1,8 @@
 //! The tables of an instance that are made from those of the variable font.
-ghost use Rattle.std.specs.Prelude.{IfErr};
-ghost use Rattle.postscript_instance_file.specs.Refusals.{HasBadMetrics};
+ghost use Rattle.std.specs.Prelude.{◌≡◌, IfErr, IfOk, length};
+ghost use Rattle.postscript_base.specs.Numbers.{big_endian};
+ghost use Rattle.postscript_instance_file.specs.Refusals.{HasBadMetrics, IsTableOrNone, IsUnmadeBy};
+ghost use Rattle.postscript_instance_file.specs.declared.made.Unmade.TheVariants as reasons;
 
 use crate::drawn::{Drawn, Frame};
 use crate::error::Error;
@@ -84,12 +86,19 @@ struct Maker<'m, 'l> {
 
 impl<'m, 'l> Maker<'m, 'l> {
     /// Returns a table of the variable font, or no bytes if there is none.
-    fn old(&self, tag: [u8; 4]) -> &'l [u8] {
-        self.face.file.table(tag).unwrap_or(&[])
+    fn old(&self, tag: [u8; 4]) -> &'l [u8]
+        ensures { IsTableOrNone self.now.face.now.file (big_endian tag) result.now }
+    {
+        match self.face.file.table(tag) {
+            Some(table) => table,
+            None => &[],
+        }
     }
 
     /// Returns a copy of a table with its varied numbers.
-    fn varied(&self, table: &[u8], entries: &[Entry]) -> Result<Vec<u8>, AllocError> {
+    fn varied(&self, table: &[u8], entries: &[Entry]) -> Result<Vec<u8>, AllocError>
+        ensures { IfOk result (λ new. length new.items ≡ length table.now) }
+    {
         let mut new = Vec::from_slice(self.alloc, table)?;
         vary(
             &mut new,
@@ -119,7 +128,9 @@ impl<'m, 'l> Maker<'m, 'l> {
     }
 
     /// Returns the `hhea` table, with the extremes of the metrics.
-    fn hhea(&self) -> Result<Vec<u8>, Unmade> {
+    fn hhea(&self) -> Result<Vec<u8>, Unmade>
+        ensures { IfErr result (λ e. IsUnmadeBy self.now.face.now.file e) }
+    {
         let mut hhea = self.varied(self.old(*b"hhea"), &HHEA)?;
         let frame = self.drawn.frame.unwrap_or(Frame::NONE);
         set_word(&mut hhea, 10, widest(&self.drawn.metrics));
@@ -148,7 +159,9 @@ impl<'m, 'l> Maker<'m, 'l> {
     }
 
     /// Returns the `post` table without glyph names, with the slant and the underline.
-    fn post(&self) -> Result<Vec<u8>, Unmade> {
+    fn post(&self) -> Result<Vec<u8>, Unmade>
+        ensures { IfErr result (λ e. e ≡ reasons.Memory) }
+    {
         let old = match self.old(*b"post") {
             old if old.len() >= 32 => old,
             _ => &[0; 32],
@@ -162,28 +175,36 @@ impl<'m, 'l> Maker<'m, 'l> {
         Ok(without_names(self.alloc, &post)?)
     }
 
+    /// Returns the `maxp` table, with the number of glyphs.
+    fn maxp(&self) -> Result<Vec<u8>, Unmade>
+        ensures { IfErr result (λ e. e ≡ reasons.Memory) }
+    {
+        Ok(with_number_of_glyphs(self.alloc, &MAXP, self.count())?)
+    }
+
     /// Adds the tables that every font has.
-    fn put_needed(&self, made: &mut Made) {
-        made.put(*b"head", self.head());
-        made.put(*b"hhea", self.hhea());
-        made.put(*b"hmtx", hmtx(self.alloc, &self.drawn.metrics));
-        made.put(
-            *b"maxp",
-            with_number_of_glyphs(self.alloc, &MAXP, self.count()),
-        );
-        made.put(*b"name", names_of(self.alloc, self.face, self.style));
-        made.put(*b"post", self.post());
+    fn put_needed(&self, made: &mut Made) -> Result<(), Unmade>
+        ensures { IfErr result (λ e. IsUnmadeBy self.now.face.now.file e) }
+    {
+        made.put(*b"head", self.head()?)?;
+        made.put(*b"hhea", self.hhea()?)?;
+        made.put(*b"hmtx", hmtx(self.alloc, &self.drawn.metrics)?)?;
+        made.put(*b"maxp", self.maxp()?)?;
+        made.put(*b"name", names_of(self.alloc, self.face, self.style)?)?;
+        made.put(*b"post", self.post()?)?;
+        Ok(())
     }
 
     /// Adds the optional tables.
-    fn put_others(&self, made: &mut Made) {
+    fn put_others(&self, made: &mut Made) -> Result<(), AllocError> {
         let file = self.face.file;
         if let Some(table) = file.table(*b"OS/2") {
-            made.put(*b"OS/2", self.os2(table));
+            made.put(*b"OS/2", self.os2(table)?)?;
         }
         if let (Some(table), None) = (file.table(*b"vhea"), file.table(*b"VVAR")) {
-            made.put(*b"vhea", self.varied(table, &VHEA));
+            made.put(*b"vhea", self.varied(table, &VHEA)?)?;
         }
+        Ok(())
     }
 }
 
@@ -206,7 +227,9 @@ pub(crate) fn put<'l>(
     drawn: &Drawn,
     style: &Style,
     metrics: Option<MetricVariations<'l>>,
-) {
+) -> Result<(), Unmade>
+    ensures { IfErr result (λ e. IsUnmadeBy face.now.file e) }
+{
     let maker = Maker {
         alloc,
         face,
@@ -215,6 +238,7 @@ pub(crate) fn put<'l>(
         style,
         metrics,
     };
-    maker.put_needed(made);
-    maker.put_others(made);
+    maker.put_needed(made)?;
+    maker.put_others(made)?;
+    Ok(())
 }

@@ -489,16 +489,22 @@ fn gpos_of(
 
 /// Adds the `GDEF` and `GPOS` tables, if `GDEF` has a variation store and they can be made. `GPOS` is not added if its
 /// features vary.
-pub(crate) fn put(made: &mut Made, alloc: Global, face: &VariableFace<'_>, location: &Location) {
+pub(crate) fn put(
+    made: &mut Made,
+    alloc: Global,
+    face: &VariableFace<'_>,
+    location: &Location,
+) -> Result<(), AllocError> {
     let table = face.file.table(*b"GDEF").unwrap_or(&[]);
     let Some(store) = store_of(table) else {
-        return;
+        return Ok(());
     };
     let coordinates = location.coordinates.as_slice();
-    made.put_if(*b"GDEF", gdef_of(alloc, table, store, coordinates));
+    made.put_if(*b"GDEF", gdef_of(alloc, table, store, coordinates)?)?;
     let table = face.file.table(*b"GPOS").unwrap_or(&[]);
     let minor = number_within(table, 2, 2).unwrap_or(1);
     if minor == 0 || number_within(table, 10, 4).unwrap_or(1) == 0 {
-        made.put_if(*b"GPOS", gpos_of(alloc, table, store, coordinates));
+        made.put_if(*b"GPOS", gpos_of(alloc, table, store, coordinates)?)?;
     }
+    Ok(())
 }

@@ -1,4 +1,7 @@
 //! The `name` table of an instance (ISO/IEC 14496-22).
+ghost use Rattle.std.specs.Prelude.{◌≡◌, ◌⊎◌, IfErr};
+ghost use Rattle.postscript_instance_file.specs.declared.made.Unmade.TheVariants as reasons;
+
 use crate::face::VariableFace;
 use crate::made::Unmade;
 use crate::style::Style;
@@ -220,7 +223,9 @@ fn keep(kept: &mut NameTable, records: &[Record<'_>]) -> Result<(), AllocError> 
 }
 
 /// Returns the table of records, in their order.
-fn table_of(alloc: Global, records: &[Record<'_>]) -> Result<Vec<u8>, Unmade> {
+fn table_of(alloc: Global, records: &[Record<'_>]) -> Result<Vec<u8>, Unmade>
+    ensures { IfErr result (λ e. (e ≡ reasons.Memory) ⊎ (e ≡ reasons.Names)) }
+{
     let mut kept = NameTable::new(alloc);
     keep(&mut kept, records)?;
     match kept.table(alloc)? {
@@ -234,7 +239,9 @@ pub(crate) fn names_of(
     alloc: Global,
     face: &VariableFace<'_>,
     style: &Style,
-) -> Result<Vec<u8>, Unmade> {
+) -> Result<Vec<u8>, Unmade>
+    ensures { IfErr result (λ e. (e ≡ reasons.Memory) ⊎ (e ≡ reasons.Names)) }
+{
     let table = face.file.table(*b"name").unwrap_or(&[]);
     let mut texts = Vec::new(alloc);
     put_texts(&mut texts, alloc, face, style)?;

@@ -1,4 +1,6 @@
 //! Numbers of tables, and their variations (OpenType 1.9, "MVAR - Metrics Variations Table").
+ghost use Rattle.std.specs.Prelude.{◌≡◌, length};
+
 use postscript_base::index::number::number_within;
 use postscript_variation::{MetricVariations, in_whole};
 
@@ -51,7 +53,9 @@ pub(crate) fn word(table: &[u8], place: usize) -> u16 {
 }
 
 /// Writes a two-byte number, if it is within the table.
-pub(crate) fn set_word(table: &mut Vec<u8>, place: usize, number: u16) {
+pub(crate) fn set_word(table: &mut Vec<u8>, place: usize, number: u16)
+    ensures { length table.new.items ≡ length table.old.items }
+{
     let [high, low] = number.to_be_bytes();
     if place.saturating_add(2) > table.len() {
         return;
@@ -65,18 +69,24 @@ pub(crate) fn set_word(table: &mut Vec<u8>, place: usize, number: u16) {
 }
 
 /// Writes a signed number, clamped to two bytes.
-pub(crate) fn set_signed(table: &mut Vec<u8>, place: usize, number: i64) {
+pub(crate) fn set_signed(table: &mut Vec<u8>, place: usize, number: i64)
+    ensures { length table.new.items ≡ length table.old.items }
+{
     let number = number.max(-32768).min(32767) as i16;
     set_word(table, place, number.cast_unsigned());
 }
 
 /// Writes an unsigned number, clamped to two bytes.
-pub(crate) fn set_unsigned(table: &mut Vec<u8>, place: usize, number: i64) {
+pub(crate) fn set_unsigned(table: &mut Vec<u8>, place: usize, number: i64)
+    ensures { length table.new.items ≡ length table.old.items }
+{
     set_word(table, place, number.max(0).min(65535) as u16);
 }
 
 /// Adds a delta to a number.
-fn add(table: &mut Vec<u8>, entry: &Entry, difference: i64) {
+fn add(table: &mut Vec<u8>, entry: &Entry, difference: i64)
+    ensures { length table.new.items ≡ length table.old.items }
+{
     let (tag, place) = *entry;
     let old = word(table, place);
     if UNSIGNED.contains(&tag) {
@@ -93,7 +103,9 @@ pub(crate) fn vary(
     entries: &[Entry],
     metrics: &Option<MetricVariations<'_>>,
     coordinates: &[i16],
-) {
+)
+    ensures { length table.new.items ≡ length table.old.items }
+{
     let Some(metrics) = metrics else {
         return;
     };

@@ -1,6 +1,6 @@
 use Rattle.std.proofs.Common.{◌∙◌, inl, inr}
 use Rattle.postscript_instance_file.specs.Instances.{AreAdvancesAt}
-use Rattle.postscript_instance_file.specs.Refusals.{no_font, of_glyph}
+use Rattle.postscript_instance_file.specs.Refusals.{no_font, no_glyph}
 use Rattle.postscript_instance_file.proofs.instance.font_of.Goals as goal
 
 pub returns-in-Ok-clause-written : goal.returns-in-Ok-clause-written
@@ -23,6 +23,6 @@ returns-in-Err-clause-why c =
       coordinates = c.advances_at-advances.ensures.coordinates ∙ c.deref.ensures.value;
     } in
     elim c.error_of.ensures [
-      | inl names ↦ of_glyph names
+      | inl names ↦ no_glyph names
       | inr is ↦ no_font _ c.advances_at-advances.result c.in-Err.error are c.in-Err.ensures.why is
     ]

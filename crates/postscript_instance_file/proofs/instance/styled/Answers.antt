@@ -1,7 +1,7 @@
 use Rattle.std.proofs.Common.{subst, ℕ, List}
 use Rattle.postscript_instance_file.specs.Instances.{IsFileWith}
 use Rattle.std.proofs.lemmas.Result.{err_from_is_err_and}
-use Rattle.postscript_instance_file.specs.Refusals.{NoFileWith, no_file}
+use Rattle.postscript_instance_file.specs.Refusals.{NoFileWith, no_file, no_other_tables}
 use Rattle.postscript_instance_file.proofs.instance.styled.Goals as goal
 
 pub returns-clause-written : goal.returns-clause-written
@@ -20,4 +20,4 @@ returns-in_err-file-clause-why c =
 pub returns-in_err-made-clause-why : goal.returns-in_err-made-clause-why
 returns-in_err-made-clause-why c =
     let error = err_from_is_err_and c.from_residual-in_err-made.result c.from_residual-in_err-made.ensures.1 in
-    rw (error.1, error.2) (c.in_err-made.ensures c.args.is_rounded)
+    rw (error.1, error.2) (no_other_tables c.in_ok-font.font.items c.in_ok-font.ensures.written c.in_err-made.ensures)

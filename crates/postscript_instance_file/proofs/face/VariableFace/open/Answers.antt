@@ -29,8 +29,9 @@ returns-in-Some-heavy_table-clause-why c =
       lent = c.in_ok-read.ensures.lent;
       laid_out = c.in_ok-read.ensures.found;
       advances = c.in_ok-advances_of.ensures.found;
+      names = c.names_of.ensures;
       axes = c.in_ok-axes_of.ensures.found;
       maps = c.in_ok-maps_of.ensures.found;
       variations = c.in_ok-variations_of.ensures.found;
     } in
-    heavy c.in-Some-heavy_table.name face is refl
+    heavy c.in-Some-heavy_table.name face is c.in-Some-heavy_table.ensures refl
