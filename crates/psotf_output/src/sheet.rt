@@ -13,6 +13,23 @@ use std::fmt::Display;
 use std::io::Write;
 use std::mem;
 
+/// The most bytes of a line that are kept while a list is printed.
+const PIECE: usize = 65_536;
+
+/// The most letters of a name.
+const LETTERS: usize = 1_000;
+
+/// Adds a name. A long name is cut.
+pub fn put_name(text: &mut Text, name: Option<Name<'_>>) {
+    if let Some(name) = name {
+        for (i, char) in name.chars().enumerate() {
+            if i < LETTERS {
+                text.push(char);
+            }
+        }
+    }
+}
+
 /// A line of JSON, written token by token. After a failed allocation it takes no more tokens, and fails at its end.
 #[derive(Drop)]
 pub struct Sheet {
@@ -261,7 +278,7 @@ impl Sheet {
             return self.null();
         }
         self.text.clear();
-        self.text.put_name(name);
+        put_name(&mut self.text, name);
         self.put_own();
     }
 
@@ -303,13 +320,22 @@ impl Sheet {
         }
     }
 
-    /// Writes a member with a list of segments.
-    pub fn segments(&mut self, key: &str, segments: &[Segment]) {
+    /// Prints a member with a list of segments, piece by piece.
+    pub fn segments<W: Write>(
+        &mut self,
+        key: &str,
+        segments: &[Segment],
+        out: &mut W,
+    ) -> Result<(), Failure> {
         self.begin_list(key);
-        for segment in segments {
+        for (i, segment) in segments.iter().enumerate() {
+            if i > 0 {
+                self.next_item(out)?;
+            }
             self.segment(*segment);
         }
         self.end_array();
+        Ok(())
     }
 
     /// Returns a number that took memory to find. After a failed allocation it is 0, and the line fails.
@@ -336,6 +362,18 @@ impl Sheet {
         let mut bytes = line;
         bytes.clear();
         self.json = Writer::new(bytes);
+    }
+
+    /// Writes the comma before another item of a list. It prints what the line has so far, if it is long.
+    pub fn next_item<W: Write>(&mut self, out: &mut W) -> Result<(), Failure> {
+        let mut line = self.take()?;
+        line.push(b',')?;
+        if line.len() > PIECE {
+            telling::put(out, &line)?;
+            line.clear();
+        }
+        self.json = Writer::new(line);
+        Ok(())
     }
 
     /// Adds the line to a page, and begins another in the same memory. It escapes `<`, which could end the block of
