@@ -47,7 +47,9 @@ fn refusal_of(error: GlyphError, budget: &mut Budget) -> Refusal {
         GlyphError::TooLong(limit) => Refusal::TooLong(limit),
         GlyphError::Held(most) => Refusal::Held(most),
         GlyphError::Segments(most) => Refusal::Segments(most),
-        GlyphError::UsedUp if budget.room < budget.left / budget.weight => Refusal::Written(budget.room),
+        GlyphError::UsedUp if budget.room < budget.left / budget.weight => Refusal::Written(
+            budget.room,
+        ),
         GlyphError::UsedUp => budget.stop(0),
         GlyphError::Run(fault) => Refusal::run(fault),
         GlyphError::Undrawn(fault) => Refusal::accent(fault),

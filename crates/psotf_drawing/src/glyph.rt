@@ -35,11 +35,7 @@ pub fn chars(sheet: &mut Sheet, chars: &[Mapped]) {
 }
 
 /// Writes the bounds and the segments of an outline.
-pub fn shape<W: Write>(
-    sheet: &mut Sheet,
-    outline: &Outline,
-    out: &mut W,
-) -> Result<(), Failure> {
+pub fn shape<W: Write>(sheet: &mut Sheet, outline: &Outline, out: &mut W) -> Result<(), Failure> {
     sheet.bounds("bounds", outline.bounds());
     sheet.bounds("tight_bounds", outline.tight_bounds());
     sheet.segments("segments", outline.segments.as_slice(), out)

@@ -19,7 +19,8 @@ const HELD: &str = " units, a fortieth of --limit (instance keeps all operations
 const KEPT: &str = " units, a tenth of --limit (report keeps all operations of a glyph in memory)";
 
 /// The end of the message for a font of too many operations.
-const WRITTEN: &str = " units, which follow from --limit and the size of the table (they are kept in memory)";
+const WRITTEN: &str =
+    " units, which follow from --limit and the size of the table (they are kept in memory)";
 
 /// The end of the message for a glyph of too many segments.
 const SEGMENTS: &str = " segments, one for each 50 units of --limit";
@@ -60,8 +61,7 @@ impl fmt::Display for Refusal {
             Refusal::TooLong(units) => ("it costs more than ", *units, " units (--limit)"),
             Refusal::Held(units) => ("it costs more than ", *units, HELD),
             Refusal::Kept(units) => ("it costs more than ", *units, KEPT),
-            Refusal::Written(units) =>
-                ("the glyphs up to it cost more than ", *units, WRITTEN),
+            Refusal::Written(units) => ("the glyphs up to it cost more than ", *units, WRITTEN),
             Refusal::Segments(most) => ("it draws more than ", *most, SEGMENTS),
             Refusal::UsedUp(units) => return put_used_up(f, *units),
             Refusal::Told(words) => return f.write_str(words.as_str()),

@@ -46,21 +46,21 @@ pub struct Budget {
     ghost weighs: { 0 < weight },
 }
 
-/// The units of glyphs that `flat` and `subset` may write for each byte of the `CFF ` table that they read.
-const FLAT: u64 = 8;
+/// The units of glyphs that may be written for each byte of the table that is read. In fonts with many subroutines a byte
+/// costs about five units.
+const COPIED: u64 = 8;
 
-/// The part of the limit, and the units for each byte of the `CFF2` table, that an instance may write. A unit can be an
-/// operand of five bytes.
+/// The part of the limit that an instance may write. A unit can be an operand of five bytes.
 const INSTANCE: u64 = 4;
 
 /// Returns the most units of glyphs that `flat` and `subset` may write, of a table of `bytes` bytes.
 pub fn flat_room(limit: u64, bytes: u64) -> u64 {
-    limit.saturating_add(bytes.saturating_mul(FLAT))
+    limit.max(bytes.saturating_mul(COPIED))
 }
 
 /// Returns the most units of glyphs that an instance may write, of a table of `bytes` bytes.
 pub fn instance_room(limit: u64, bytes: u64) -> u64 {
-    (limit / INSTANCE).saturating_add(bytes.saturating_mul(INSTANCE))
+    (limit / INSTANCE).max(bytes.saturating_mul(COPIED))
 }
 
 /// Returns the length of the longest item in bytes.

@@ -13,8 +13,8 @@ use std::fmt::Display;
 use std::io::Write;
 use std::mem;
 
-/// The most bytes of a line that are kept while a list is printed.
-const PIECE: usize = 65_536;
+/// The most numbers and lists of a line that are kept while a list is printed.
+const PIECE: u64 = 4_096;
 
 /// The most letters of a name.
 const LETTERS: usize = 1_000;
@@ -37,6 +37,8 @@ pub struct Sheet {
     json: Writer<Global>,
     text: Text,
     failed: bool,
+    /// The numbers and lists since a piece was printed.
+    tokens: u64,
 }
 
 impl Sheet {
@@ -47,6 +49,7 @@ impl Sheet {
             json: Writer::new(Vec::new(alloc)),
             text: Text::new(alloc),
             failed: false,
+            tokens: 0,
         }
     }
 
@@ -66,6 +69,7 @@ impl Sheet {
 
     /// Begins a list.
     pub fn begin_array(&mut self) {
+        self.tokens = self.tokens.saturating_add(1);
         if !self.failed {
             self.failed = self.json.begin_array().is_err();
         }
@@ -212,6 +216,7 @@ impl Sheet {
 
     /// Writes a number in 65536ths as an exact decimal.
     pub fn bits(&mut self, bits: i64) {
+        self.tokens = self.tokens.saturating_add(1);
         self.text.clear();
         decimal::put_bits(&mut self.text, bits);
         self.put_number();
@@ -364,15 +369,16 @@ impl Sheet {
         self.json = Writer::new(bytes);
     }
 
-    /// Writes the comma before another item of a list. It prints what the line has so far, if it is long.
+    /// Prints what the line has so far, if it is long. The next token is another item of a list.
     pub fn next_item<W: Write>(&mut self, out: &mut W) -> Result<(), Failure> {
+        if self.tokens < PIECE {
+            return Ok(());
+        }
+        self.tokens = 0;
         let mut line = self.take()?;
         line.push(b',')?;
-        if line.len() > PIECE {
-            telling::put(out, &line)?;
-            line.clear();
-        }
-        self.json = Writer::new(line);
+        telling::put(out, &line)?;
+        self.begin_on(line);
         Ok(())
     }
 
