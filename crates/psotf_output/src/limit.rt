@@ -50,7 +50,8 @@ pub struct Budget {
 /// costs about five units.
 const COPIED: u64 = 8;
 
-/// The part of the limit that an instance may write. A unit can be an operand of five bytes.
+/// The part of the limit that an instance may write. Two commands may keep it: one that makes the instance, and another
+/// that writes it.
 const INSTANCE: u64 = 4;
 
 /// Returns the most units of glyphs that `flat` and `subset` may write, of a table of `bytes` bytes.
