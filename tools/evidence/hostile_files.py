@@ -293,7 +293,7 @@ def kept():
     yield "a glyph near the limit, masks", one(ONE * 16 + STEMS, (MASK + b"\xff") * 1000, 19_000_000)
     yield "a glyph of 390,000 curves of long numbers", one(least * 2 + b"\x15", curves, 390_000 * 31)
     lines = (ONE * 24 + BACK * 24 + LINES) * 63 + RETURN
-    for glyphs in (310, 1_500):
+    for glyphs in (305, 1_500):
         table = plain_font([END, *[BEGIN + call(0, 2) + END] * glyphs], [call(1, 2) * 21 + RETURN, lines])
         yield f"{glyphs:,} glyphs of 65,000 bytes without calls", file_of(table, glyphs + 1)
     yield "20,000 global subroutines of the same 500,000 bytes", file_of(sharing_font(), 2)
