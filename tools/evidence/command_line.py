@@ -18,6 +18,7 @@ and `as told` or the difference. The cases are:
 - `inspect`: its memory for Noto Sans CJK. `report`: several pages if there are too many glyphs for one.
 - `instance`: the errors for unknown axes, instances and arguments, fonts that are not variable, exceeded limits and damaged tables; which
   tables are dropped; font names and glyph names; and points at whole units.
+- Glyphs that cost more than is kept in memory, and long lines of JSON, which are printed in pieces.
 - A full disk: the status, the message, and an existing file that stays unchanged.
 
 Needs Debian's python3-fonttools, fonts-ebgaramond and time, and uses fonts-noto-cjk if installed. The exit status is 1 if a case fails.
@@ -43,7 +44,7 @@ from fontTools.ttLib import TTFont, newTable
 from fontTools.ttLib.tables._f_v_a_r import NamedInstance
 from fontTools.varLib.featureVars import addFeatureVariations
 
-from hostile_files import END, ONE, PSOTF, call, file_of, plain_font
+from hostile_files import END, ONE, PSOTF, STEMS, call, file_of, plain_font
 from variable_fonts import variable
 
 FONT = "/usr/share/fonts/opentype/ebgaramond/EBGaramond12-Regular.otf"
@@ -451,6 +452,26 @@ def _(folder):
         found = re.findall(r'<path transform="translate\(([^)]*)\)" d="([^"]*)"/>', still)
         assert found == [(places[glyph][i], shapes[glyph][i]) for glyph in range(3)], value
     assert "the font has no axis opsz" in run("svg", path, "--text", "Ham", "--animate", "opsz", status=2)[1]
+
+
+@case("glyph --json: a line that is printed in pieces is whole")
+def _(folder):
+    path = folder / "long.otf"
+    path.write_bytes(file_of(plain_font([END, ONE * 2 + b"\x15" + (ONE * 2 + b"\x05") * 5_000 + END]), 2)[0])
+    glyph = json.loads(run("glyph", path, "--gid", "1", "--json")[0])
+    assert glyph["operations"] == [["RMoveTo", 1, 1], *[["RLineTo", 1, 1]] * 5_000], glyph["operations"][-3:]
+    assert glyph["segments"] == [["M", 1, 1], *(["L", i, i] for i in range(2, 5_002)), ["Z"]], glyph["segments"][-3:]
+
+
+@case("report, flat, subset: a glyph past what is kept in memory is named, with the option")
+def _(folder):
+    path, out = folder / "many.otf", folder / "many.out"
+    path.write_bytes(file_of(plain_font([END, *[call(0, 1) + END] * 20], [(ONE * 2 + STEMS) * 40 * 50]), 21)[0])
+    said = run("report", path, "--limit", "50000", "-o", out, status=1)[1]
+    assert "glyph 1: it costs more than 5000 units, a tenth of --limit (report keeps all operations of a glyph in memory)" in said, said
+    for command in (["flat"], ["subset", "--gids", "0-20"]):
+        said = run(command[0], path, *command[1:], "--limit", "50000", "-o", out, status=1)[1]
+        assert re.search(r"glyph 9: the glyphs up to it cost more than 5\d{4} units, which follow from --limit", said), said
 
 
 @case("instance: a font that is not variable is named")

@@ -6,12 +6,13 @@
 
 The fonts have at most 1 MB each and are made in a temporary folder. They have nested calls that multiply, with and without work at the
 innermost level, and many glyphs that each cost nearly the limit. Others have glyphs rejected after long runs of numbers, tables that are
-slow to search, or many tables. With WORDs, only fonts with a WORD in their name are made. The script runs crates/psotf/out/psotf, or the
+slow to search, or many tables. Some are made to fill memory: a glyph near the limit of many operations or of long numbers, many glyphs
+whose charstrings become long without calls, and long strings, DICTs or subroutines that many others share. With WORDs, only fonts with a WORD in their name are made. The script runs crates/psotf/out/psotf, or the
 program in the environment variable PSOTF.
 
 The table gives the bytes, the seconds of processor time of each subcommand (so that other work does not count), and the most memory in MB.
 It also gives the seconds of hb-view, ots-sanitize and ftbench, or "-" if they are not on the path. Commands are ended after 20 seconds.
-Nothing is random. The exit status is 1 if psotf takes more than ten seconds or ends with a status other than 0 and 1.
+Nothing is random. The exit status is 1 if psotf takes more than ten seconds, keeps more than 128 MB, or ends with a status other than 0 and 1.
 """
 
 import itertools
@@ -28,10 +29,10 @@ sys.path.insert(0, str(pathlib.Path(__file__).resolve().parents[1]))
 from building import PSOTF
 from hostile import CHAR_SET, CHAR_STRINGS, HEADER, PRIVATE, SUBRS, number
 
-MOST, LONGEST = 10, 20
+MOST, LONGEST, MEMORY = 10, 20, 128
 ROS, FD_ARRAY, FD_SELECT = b"\x0c\x1e", b"\x0c\x24", b"\x0c\x25"
 CALL, CALL_GLOBAL, RETURN, END = b"\x0a", b"\x1d", b"\x0b", b"\x0e"
-ONE, BACK, ROLL, LINES, MOVE, STEMS, MASK = b"\x8c", b"\x8a", b"\x0c\x1e", b"\x06", b"\x16", b"\x01", b"\x13"
+ONE, BACK, ROLL, LINES, MOVE, STEMS, MASK, CURVE = b"\x8c", b"\x8a", b"\x0c\x1e", b"\x06", b"\x16", b"\x01", b"\x13", b"\x08"
 MANY = 65_535
 COMMANDS = {
     "inspect": ["inspect"],
@@ -265,6 +266,44 @@ def runs():
     yield "65,535 glyphs refused behind 300,000 numbers", file_of(plain_font(glyphs, [ONE * 300_000]), MANY)
 
 
+def real(bits):
+    """Encodes a number in 65536ths as an operand of five bytes."""
+    return b"\xff" + bits.to_bytes(4, "big", signed=True)
+
+
+def one(begin, leaf, near):
+    """Returns a file with one glyph, which runs `leaf` until it costs `near`."""
+    return file_of(plain_font([END, begin + call(0, 3) + END], squared(leaf, near)), 2)
+
+
+def sharing_font():
+    """Returns a `CFF ` table whose 20,000 global subroutines are the same 500,000 bytes."""
+    front, routines = HEADER + index([b"A"]), sharing([RETURN * 500_000] * 20_000)
+    place = len(front) + len(index([number(0) + CHAR_STRINGS + number(0) + number(0) + PRIVATE])) + 2 + len(routines)
+    top = number(place) + CHAR_STRINGS + number(0) + number(0) + PRIVATE
+    return front + index([top]) + index([]) + routines + index([END, END])
+
+
+def kept():
+    """Yields fonts that fill memory."""
+    least = real(-12_345 * 65_536 - 44_433)
+    most = real(12_345 * 65_536 + 44_433)
+    curves = (least * 2 + most * 2 + least * 2 + CURVE + most * 2 + least * 2 + most * 2 + CURVE) * 100
+    yield "a glyph near the limit, long numbers", one(b"", operand(-107) * 3000 + STEMS, 19_000_000)
+    yield "a glyph near the limit, masks", one(ONE * 16 + STEMS, (MASK + b"\xff") * 1000, 19_000_000)
+    yield "a glyph of 390,000 curves of long numbers", one(least * 2 + b"\x15", curves, 390_000 * 31)
+    lines = (ONE * 24 + BACK * 24 + LINES) * 63 + RETURN
+    for glyphs in (305, 1_500):
+        table = plain_font([END, *[BEGIN + call(0, 2) + END] * glyphs], [call(1, 2) * 21 + RETURN, lines])
+        yield f"{glyphs:,} glyphs of 65,000 bytes without calls", file_of(table, glyphs + 1)
+    yield "20,000 global subroutines of the same 500,000 bytes", file_of(sharing_font(), 2)
+    named_font = plain_font([END] * 60_000, char_set=b"\x00" + short(391) * 59_999, strings=[b"A" * 500_000])
+    yield "60,000 glyphs of the same name of 500,000 letters", file_of(named_font, 60_000)
+    for name, private in {"operands": b"\x20" * 600_000 + b"\x14", "operators": b"\x14" * 600_000, "widths": b"\x20\x14" * 300_000}.items():
+        yield f"30 font dictionaries over 600,000 bytes of {name}", file_of(keyed_font([END] * 2, b"\x00\x00\x00", 30, private=private), 2)
+        yield f"a private dictionary of 980,000 bytes of {name}", file_of(keyed_font([END] * 2, b"\x00\x00\x00", 1, private=(private * 2)[:980_000]), 2)
+
+
 def searched():
     """Yields fonts with tables that are slow to search, or with many tables."""
     plain = [END] * MANY
@@ -329,7 +368,7 @@ def row(name, data, glyphs, folder, commands):
     cells, memory, bad = [], 0, False
     for command in commands.values():
         seconds, most, status = timed(words_of(command, path, glyphs, out))
-        memory, bad = max(memory, most), bad or seconds > MOST or status not in (0, 1)
+        memory, bad = max(memory, most), bad or seconds > MOST or most > MEMORY or status not in (0, 1)
         cells.append(f"{seconds:.2f}" if status in (0, 1) else f"{seconds:.0f} (status {status})")
     others = []
     for command in OTHERS.values():
@@ -355,4 +394,4 @@ def table(fonts, commands, words):
 
 
 if __name__ == "__main__":
-    sys.exit(table(itertools.chain(runs(), searched()), COMMANDS, sys.argv[1:]))
+    sys.exit(table(itertools.chain(runs(), kept(), searched()), COMMANDS, sys.argv[1:]))

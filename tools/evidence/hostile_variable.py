@@ -17,7 +17,7 @@ sys.dont_write_bytecode = True
 sys.path.insert(0, str(pathlib.Path(__file__).resolve().parents[1]))
 
 from hostile import CHAR_STRINGS, PRIVATE, number
-from hostile_files import BACK, FD_ARRAY, FD_SELECT, MANY, ONE, MOVE, call, file_of, long, nested, operand, short, squared, table
+from hostile_files import BACK, FD_ARRAY, FD_SELECT, MANY, ONE, MOVE, call, file_of, long, nested, operand, real, short, squared, table
 
 STORE, BLEND, LINES, VS_INDEX, ZERO = b"\x18", b"\x10", b"\x06", b"\x0f", b"\x8b"
 BEGIN = ONE * 2 + b"\x15"
@@ -122,6 +122,10 @@ def runs():
     yield "65,535 glyphs near the limit, lines", font(outlines(glyphs, plain(squared(work[", lines"], 19_000_000))), MANY)
     tenth = plain(squared((ONE + LINES + BACK + LINES) * 375, 1_900_000))
     yield "a glyph near a tenth of the limit, lines one by one", font(outlines([b"", BEGIN + call(0, 3)], tenth), 2)
+    long_numbers = (real(80_000_001) * 2 + real(-80_000_001) * 2) * 100 + LINES
+    for count, near in ((10, 2_300_000), (150, 480_000), (300, 200_000)):
+        written = outlines([b"", *[BEGIN + call(0, 3)] * count], plain(squared(long_numbers, near)))
+        yield f"{count} glyphs of {near:,} bytes, lines of long numbers", font(written, count + 1)
     glyphs = [b"", *[call(0, 1)] * (MANY - 1)]
     yield "65,535 glyphs refused behind 513 numbers", font(outlines(glyphs, [ONE * 513 + b"\x02"]), MANY)
     choosing = operand(5_999) + VS_INDEX + BEGIN

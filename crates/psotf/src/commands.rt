@@ -82,7 +82,7 @@ const FACE: &[Word] = &[
     Word::Given("face", "0", "Select a font of a collection, counted from 0"),
     Word::Units(
         "limit",
-        "How much work one glyph may cost, in units of about one byte of charstring (default 20000000); a whole command may cost 20 times as much, with a variable font up to 40 times",
+        "How much work one glyph may cost, in units of about one byte of charstring (default 20000000); a whole command may cost 20 times as much, with a variable font up to 40 times. It also limits memory",
     ),
 ];
 

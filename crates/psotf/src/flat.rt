@@ -5,7 +5,7 @@ use postscript_files::flat_file;
 use psotf_font::asking::ask_all;
 use psotf_font::face::Face;
 use psotf_output::failure::Failure;
-use psotf_output::limit::Budget;
+use psotf_output::limit::{Budget, flat_room};
 use psotf_output::saving;
 use std::alloc::Global;
 use std::io::Write;
@@ -29,6 +29,7 @@ pub fn write<W: Write>(
     budget: &mut Budget,
     out: &mut W,
 ) -> Result<(), Failure> {
+    budget.room = flat_room(budget.limit, face.cff.len() as u64);
     ask_all(rt.alloc(), &face.font, budget)?;
     let file = file_of(rt.alloc(), face)?;
     saving::put(rt, words.get_str("out"), &file, out)

@@ -7,7 +7,7 @@ use postscript_sfnt::FontFile;
 use psotf_drawing::variable::VariableFace;
 use psotf_font::leaving::tags;
 use psotf_output::failure::{Failure, Refusal};
-use psotf_output::limit::Budget;
+use psotf_output::limit::{Budget, instance_room};
 use psotf_output::progress::Progress;
 use psotf_output::text::Text;
 use psotf_output::{saving, telling};
@@ -47,6 +47,9 @@ fn refusal_of(error: GlyphError, budget: &mut Budget) -> Refusal {
         GlyphError::TooLong(limit) => Refusal::TooLong(limit),
         GlyphError::Held(most) => Refusal::Held(most),
         GlyphError::Segments(most) => Refusal::Segments(most),
+        GlyphError::UsedUp if budget.room < budget.left / budget.weight => Refusal::Written(
+            budget.room,
+        ),
         GlyphError::UsedUp => budget.stop(0),
         GlyphError::Run(fault) => Refusal::run(fault),
         GlyphError::Undrawn(fault) => Refusal::accent(fault),
@@ -75,7 +78,8 @@ fn made(
     let mut shown = Shown {
         progress: Progress::new(rt, face.common.glyphs),
     };
-    let mut left = budget.left / budget.weight;
+    budget.room = instance_room(budget.limit, face.opened.font.bytes.len() as u64);
+    let mut left = budget.room.min(budget.left / budget.weight);
     let (alloc, opened, limit) = (rt.alloc(), &face.opened, budget.limit);
     let made = static_font(
         alloc, opened, &location, is_rounded, limit, &mut left, &mut shown,

@@ -28,7 +28,7 @@ use psotf_drawing::variable::VariableFace;
 use psotf_font::face::{Face, Source, source_of};
 use psotf_font::inspect;
 use psotf_output::failure::Failure;
-use psotf_output::limit::{Budget, OBJECT, PATH};
+use psotf_output::limit::{Budget, HELD, OBJECT, PATH};
 use psotf_output::telling;
 use ranges::gids_of;
 use std::fs::File;
@@ -49,6 +49,16 @@ fn weight_of(name: &str, words: &ArgMatches<'_>) -> u64
         "glyph" if words.get_flag("json") => OBJECT,
         _ => PATH,
     }
+}
+
+/// Returns the budget of a subcommand.
+fn budget_of(name: &str, words: &ArgMatches<'_>) -> Budget {
+    let limit = words.get_one::<u64>("limit").unwrap_or(LIMIT);
+    let mut budget = Budget::new(limit, weight_of(name, words));
+    if name == "report" {
+        budget.kept = limit / HELD;
+    }
+    budget
 }
 
 /// The largest capacity that is reserved at once.
@@ -82,8 +92,7 @@ fn answer<W: Write>(
     let number = words.get_one::<u16>("face").unwrap_or(0);
     let bytes = bytes_of(rt, path)?;
     let source = source_of(bytes.as_slice(), number)?;
-    let limit = words.get_one::<u64>("limit").unwrap_or(LIMIT);
-    let mut budget = Budget::new(limit, weight_of(name, words));
+    let mut budget = budget_of(name, words);
     let told = match VariableFace::open(&source.file)? {
         Some(face) => of_variable(rt, &face, name, words, &mut budget, out),
         None => of_static(rt, source, name, words, &mut budget, out),

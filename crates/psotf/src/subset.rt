@@ -10,7 +10,7 @@ use psotf_font::along::Kept;
 use psotf_font::face::Face;
 use psotf_font::leaving;
 use psotf_output::failure::Failure;
-use psotf_output::limit::Budget;
+use psotf_output::limit::{Budget, flat_room};
 use psotf_output::{saving, telling};
 use std::alloc::{AllocError, Global};
 use std::io::Write;
@@ -133,6 +133,7 @@ fn checked(
     choice: &Choice,
     budget: &mut Budget,
 ) -> Result<Kept, Failure> {
+    budget.room = flat_room(budget.limit, face.cff.len() as u64);
     let named = choice.named(alloc, face)?;
     let mut kept = Kept::new(alloc);
     kept.ask(alloc, &face.font, &named, budget)?;

@@ -2,13 +2,14 @@
 use clap::ArgMatches;
 use postscript_sfnt::CharacterMap;
 use psotf_drawing::glyphs::Glyphs;
-use psotf_drawing::svg::{picture_of, put, put_text};
+use psotf_drawing::svg::{CLOSING, opening, put, put_text};
 use psotf_font::characters::missing;
 use psotf_output::failure::Failure;
 use psotf_output::limit::Budget;
-use psotf_output::saving;
+use psotf_output::saving::Output;
 use psotf_output::telling::tell;
 use psotf_output::text::Text;
+use std::alloc::AllocError;
 use std::io::Write;
 
 /// Fails if a text has characters without a glyph. With `--missing draw` they are reported on standard error and drawn
@@ -46,6 +47,20 @@ fn put_named<G: Glyphs>(
     put_text(rt.alloc(), glyphs, text, budget, picture)
 }
 
+/// Writes the picture of paths.
+fn write_picture<W: Write>(
+    rt: &HostRuntime,
+    units: u16,
+    width: i64,
+    paths: &mut Text,
+    output: &mut Output<'_>,
+    out: &mut W,
+) -> Result<(), Failure> {
+    output.take(rt, &mut opening(rt.alloc(), units, width), out)?;
+    output.take(rt, paths, out)?;
+    output.put(rt, CLOSING, out)
+}
+
 /// Writes a picture of the chosen glyph or text.
 pub fn write<G: Glyphs, W: Write>(
     rt: &HostRuntime,
@@ -56,6 +71,10 @@ pub fn write<G: Glyphs, W: Write>(
 ) -> Result<(), Failure> {
     let mut paths = Text::new(rt.alloc());
     let width = put_named(rt, glyphs, words, budget, &mut paths)?;
-    let picture = picture_of(rt.alloc(), glyphs.units(), &width, paths)?;
-    saving::put(rt, words.get_str("out"), picture.as_bytes(), out)
+    if paths.has_failed() {
+        return Err(Failure::from(AllocError));
+    }
+    let mut output = Output::of(rt, words.get_str("out"))?;
+    let written = write_picture(rt, glyphs.units(), width, &mut paths, &mut output, out);
+    output.end(rt, written)
 }

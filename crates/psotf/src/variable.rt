@@ -6,7 +6,6 @@ use psotf_drawing::variable::place::{Chosen, axis_named, chosen};
 use psotf_drawing::variable::{VariableFace, holds, moving};
 use psotf_output::failure::Failure;
 use psotf_output::limit::Budget;
-use psotf_output::saving;
 use std::io::Write;
 
 /// Returns the location that the arguments select. Without them, it is the default instance.
@@ -53,8 +52,8 @@ fn write_moving<W: Write>(
     let axis = axis_named(alloc, face, name)?;
     let gids = moving::asked(alloc, face, gid, text.unwrap_or(""))?;
     let chosen = chosen_by(rt, face, words)?;
-    let picture = moving::moving(alloc, face, &axis, &gids, &chosen, budget)?;
-    saving::put(rt, words.get_str("out"), picture.as_bytes(), out)
+    let path = words.get_str("out");
+    moving::write(rt, face, &axis, &gids, &chosen, path, budget, out)
 }
 
 /// Writes a picture of the chosen glyph or text, at the chosen location.

@@ -62,16 +62,18 @@ pub fn draw<'f, 'l>(
         budget,
         &mut held,
     );
-    budget.spend(share.saturating_sub(left));
+    let taken = share.saturating_sub(left);
+    budget.spend(taken);
     budget.spend((held.segments.len() as u64).saturating_mul(SEGMENT));
     match drawn {
-        Ok(width) => Ok((
-            glyph,
-            Outline {
+        Ok(width) => {
+            budget.keep(taken)?;
+            let outline = Outline {
                 segments: held.segments,
                 width_difference: width,
-            },
-        )),
+            };
+            Ok((glyph, outline))
+        }
         Err(error) => match full_by(&held, &error) {
             Some(refusal) => Err(refusal),
             None => Err(refusal_of(error, &glyph, share, budget)),

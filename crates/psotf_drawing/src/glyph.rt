@@ -10,6 +10,7 @@ use psotf_output::limit::{Budget, OPERAND};
 use psotf_output::sheet::Sheet;
 use psotf_output::text::Text;
 use std::alloc::Global;
+use std::io::Write;
 
 /// Writes the name of a glyph, and its CID if the font is CID-keyed.
 fn name(sheet: &mut Sheet, face: &Face<'_>, gid: u16) {
@@ -34,20 +35,25 @@ pub fn chars(sheet: &mut Sheet, chars: &[Mapped]) {
 }
 
 /// Writes the bounds and the segments of an outline.
-pub fn shape(sheet: &mut Sheet, outline: &Outline) {
+pub fn shape<W: Write>(sheet: &mut Sheet, outline: &Outline, out: &mut W) -> Result<(), Failure> {
     sheet.bounds("bounds", outline.bounds());
     sheet.bounds("tight_bounds", outline.tight_bounds());
-    sheet.segments("segments", outline.segments.as_slice());
+    sheet.segments("segments", outline.segments.as_slice(), out)
 }
 
 /// Writes the width and the outline of a glyph.
-fn drawn(sheet: &mut Sheet, glyph: &Glyph<'_, '_>, outline: &Outline) {
+fn drawn<W: Write>(
+    sheet: &mut Sheet,
+    glyph: &Glyph<'_, '_>,
+    outline: &Outline,
+    out: &mut W,
+) -> Result<(), Failure> {
     sheet.key("width");
     match width_of(glyph, outline) {
         Some(bits) => sheet.bits(bits),
         None => sheet.null(),
     }
-    shape(sheet, outline);
+    shape(sheet, outline, out)
 }
 
 /// Writes the error of a glyph, and null for all parts of its drawing.
@@ -66,17 +72,21 @@ fn operation(sheet: &mut Sheet, operator: Operator, operands: &[Operand], budget
     sheet.operation(operator.name(), operands);
 }
 
-/// Writes the operations of a program, each as a list.
-fn operations(
+/// Prints the operations of a program, each as a list, piece by piece.
+fn operations<W: Write>(
     sheet: &mut Sheet,
     program: &mut Program<'_>,
     budget: &mut Budget,
+    out: &mut W,
 ) -> Result<(), Failure> {
     sheet.begin_list("operations");
-    for _ in 0..u64::MAX {
+    for i in 0..u64::MAX {
         let Some((operator, operands)) = program.next()? else {
             break;
         };
+        if i > 0 {
+            sheet.next_item(out)?;
+        }
         operation(sheet, operator, operands.as_slice(), budget);
     }
     sheet.end_array();
@@ -84,17 +94,18 @@ fn operations(
 }
 
 /// Writes the outline and the operations of a glyph, or its error. Returns whether it is drawn.
-fn drawing(
+fn drawing<W: Write>(
     alloc: Global,
     sheet: &mut Sheet,
     face: &Face<'_>,
     gid: u16,
     budget: &mut Budget,
+    out: &mut W,
 ) -> Result<bool, Failure> {
     match draw(alloc, face, gid, budget) {
         Ok((glyph, outline)) => {
-            drawn(sheet, &glyph, &outline);
-            operations(sheet, &mut glyph.program(alloc), budget)?;
+            drawn(sheet, &glyph, &outline, out)?;
+            operations(sheet, &mut glyph.program(alloc), budget, out)?;
             Ok(true)
         }
         Err(refusal) => {
@@ -104,21 +115,22 @@ fn drawing(
     }
 }
 
-/// Writes a glyph as an object. Returns whether it is drawn.
-pub fn object(
+/// Writes a glyph as an object, and prints the beginning of a long one. Returns whether it is drawn.
+pub fn object<W: Write>(
     alloc: Global,
     sheet: &mut Sheet,
     face: &Face<'_>,
     mapped: &[Mapped],
     gid: u16,
     budget: &mut Budget,
+    out: &mut W,
 ) -> Result<bool, Failure> {
     sheet.begin_object();
     sheet.number("gid", u64::from(gid));
     name(sheet, face, gid);
     chars(sheet, of_glyph(mapped, gid));
     sheet.number("advance", u64::from(face.advances.of(gid)));
-    let is_drawn = drawing(alloc, sheet, face, gid, budget)?;
+    let is_drawn = drawing(alloc, sheet, face, gid, budget, out)?;
     sheet.end_object();
     Ok(is_drawn)
 }

@@ -37,14 +37,15 @@ pub trait Glyphs {
     /// Returns the outline of a glyph, if the cost is within its share.
     fn outline(&self, alloc: Global, gid: u16, budget: &mut Budget) -> Result<Outline, Refusal>;
 
-    /// Writes a glyph as an object. Returns whether it is drawn.
-    fn object(
+    /// Writes a glyph as an object, and prints the beginning of a long one. Returns whether it is drawn.
+    fn object<W: Write>(
         &self,
         alloc: Global,
         sheet: &mut Sheet,
         mapped: &[Mapped],
         gid: u16,
         budget: &mut Budget,
+        out: &mut W,
     ) -> Result<bool, Failure>;
 }
 
@@ -84,15 +85,16 @@ impl<'l> Glyphs for Face<'l> {
         }
     }
 
-    fn object(
+    fn object<W: Write>(
         &self,
         alloc: Global,
         sheet: &mut Sheet,
         mapped: &[Mapped],
         gid: u16,
         budget: &mut Budget,
+        out: &mut W,
     ) -> Result<bool, Failure> {
-        glyph::object(alloc, sheet, self, mapped, gid, budget)
+        glyph::object(alloc, sheet, self, mapped, gid, budget, out)
     }
 }
 
@@ -160,7 +162,7 @@ fn objects<G: Glyphs, W: Write>(
     let mut refused = 0u64;
     for gid in gids {
         progress.at_glyph(gid);
-        if !glyphs.object(alloc, &mut sheet, &mapped, gid, budget)? {
+        if !glyphs.object(alloc, &mut sheet, &mapped, gid, budget, out)? {
             refused = refused.saturating_add(1);
         }
         sheet.end(out)?;

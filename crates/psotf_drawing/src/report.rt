@@ -2,6 +2,7 @@
 mod row;
 mod unread;
 
+use postscript_base::index::IndexView;
 use psotf_font::characters::{Mapped, by_glyph};
 use psotf_font::face::Face;
 use psotf_font::hints::hinted;
@@ -145,6 +146,9 @@ fn write_pages(
 /// The most local subroutines that a page lists. Subroutines shared by several Font DICTs are listed for each of them.
 const MOST_LISTED: usize = 1_000_000;
 
+/// The most bytes of subroutines that a page lists, if they are more than those of the `CFF ` table. They may overlap.
+const MOST_BYTES: usize = 10_000_000;
+
 /// Returns whether the Font DICTs have more local subroutines than a page lists.
 fn lists_too_many(face: &Face<'_>) -> bool {
     let mut sum = 0usize;
@@ -152,6 +156,24 @@ fn lists_too_many(face: &Face<'_>) -> bool {
         sum = sum.saturating_add(part.subroutines.len());
     }
     sum > MOST_LISTED
+}
+
+/// Returns the length of all items in bytes.
+fn len_of(items: &IndexView<'_>) -> usize {
+    let mut sum = 0usize;
+    for item in items.iter() {
+        sum = sum.saturating_add(item.len());
+    }
+    sum
+}
+
+/// Returns whether the subroutines have more bytes than a page lists.
+fn lists_too_much(face: &Face<'_>) -> bool {
+    let mut sum = len_of(&face.font.global_subroutines);
+    for part in &face.font.parts {
+        sum = sum.saturating_add(len_of(&part.subroutines));
+    }
+    sum > face.cff.len().max(MOST_BYTES)
 }
 
 /// Writes pages about a font, which load nothing. Many glyphs take several pages. It fails first if the font has too
@@ -164,6 +186,9 @@ pub fn write(
 ) -> Result<(), Failure> {
     if lists_too_many(face) {
         return Err(Failure::dictionaries());
+    }
+    if lists_too_much(face) {
+        return Err(Failure::subroutines());
     }
     let mut stopped = Stopped::new(rt);
     let mapped = by_glyph(rt.alloc(), &face.map)?;

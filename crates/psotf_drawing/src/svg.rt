@@ -4,7 +4,7 @@ use postscript_outline::Outline;
 use psotf_output::failure::Failure;
 use psotf_output::limit::{BYTE, Budget};
 use psotf_output::text::Text;
-use std::alloc::{AllocError, Global};
+use std::alloc::Global;
 use std::fmt::Display;
 
 /// The namespace of SVG elements.
@@ -65,17 +65,17 @@ pub fn put_text<G: Glyphs>(
     Ok(x)
 }
 
-/// Returns a picture of paths on a line, with `units` units per em.
-pub fn picture_of<N: Display>(
-    alloc: Global,
-    units: u16,
-    width: &N,
-    paths: Text,
-) -> Result<String, AllocError> {
-    let paths = paths.end()?;
+/// The end of a picture of paths on a line.
+pub const CLOSING: &[u8] = b"</g>\n</svg>\n";
+
+/// Returns the beginning of a picture of paths on a line, with `units` units per em.
+pub fn opening(alloc: Global, units: u16, width: i64) -> Text {
     let units = u64::from(units);
     let height = units.saturating_mul(2);
-    format!(in alloc;
-        "<svg xmlns=\"{SVG}\" viewBox=\"0 -{units} {width} {height}\">\n<g transform=\"scale(1 -1)\">\n{paths}</g>\n</svg>\n"
-    )
+    let mut text = Text::new(alloc);
+    write!(
+        text,
+        "<svg xmlns=\"{SVG}\" viewBox=\"0 -{units} {width} {height}\">\n<g transform=\"scale(1 -1)\">\n"
+    );
+    text
 }

@@ -4,7 +4,7 @@ ghost use Rattle.std.specs.Prelude.{◌≡◌};
 use postscript_drawing::Accent;
 use postscript_type2::Program;
 use postscript_view::FontView;
-use psotf_output::failure::Failure;
+use psotf_output::failure::{Failure, Refusal};
 use psotf_output::limit::Budget;
 use std::alloc::Global;
 
@@ -31,8 +31,13 @@ fn answer_of(program: &mut Program<'_>, share: &mut u64) -> Result<Answer, Failu
     Ok(Answer::End(accent.unwrap_or(None)))
 }
 
-/// Checks that a glyph ends or fails within its share. Returns the base and the accent of a `seac` glyph. It fails if
-/// the glyph costs more.
+/// Returns the failure of a glyph.
+fn failure_of(glyph: usize, refusal: &Refusal) -> Failure {
+    Failure::glyph(u16::try_from(glyph).unwrap_or(u16::MAX), refusal)
+}
+
+/// Checks that a glyph, which is to be written, ends or fails within its share. Returns the base and the accent of a
+/// `seac` glyph. It fails if the glyph costs more, or if too much is written with it.
 pub fn ask(
     alloc: Global,
     font: &FontView<'_>,
@@ -48,7 +53,11 @@ pub fn ask(
     let share = budget.share();
     let mut left = share;
     let answer = answer_of(&mut found.program(alloc), &mut left)?;
-    budget.spend_whole(share.saturating_sub(left));
+    let taken = share.saturating_sub(left);
+    budget.spend_whole(taken);
+    if let Err(refusal) = budget.write(taken) {
+        return Err(failure_of(glyph, &refusal));
+    }
     match answer {
         Answer::End(accent) => Ok(accent),
         Answer::Refused => {
@@ -57,7 +66,7 @@ pub fn ask(
         }
         Answer::Stopped => {
             let refusal = budget.stop(share);
-            Err(Failure::glyph(u16::try_from(glyph).unwrap_or(u16::MAX), &refusal))
+            Err(failure_of(glyph, &refusal))
         }
     }
 }

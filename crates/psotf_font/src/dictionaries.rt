@@ -1,4 +1,5 @@
 //! DICTs with the names of their operators.
+use crate::face::cut;
 use postscript_base::compact1::{Operand, Operations, Operator};
 use postscript_text::decimal;
 use postscript_view::FontView;
@@ -46,9 +47,9 @@ fn codes_of(kind: Kind) -> &'static [u16] {
 /// Returns whether the operand with an index is a SID (Technical Note 5176, Tables 9 and 10).
 fn is_identifier(operator: Operator, i: usize) -> bool {
     match operator {
-        Operator::Version | Operator::Notice | Operator::Copyright | Operator::FullName => true,
-        Operator::FamilyName | Operator::Weight | Operator::FontName => true,
-        Operator::PostScript | Operator::BaseFontName => true,
+        Operator::Version | Operator::Notice | Operator::Copyright | Operator::FullName => i == 0,
+        Operator::FamilyName | Operator::Weight | Operator::FontName => i == 0,
+        Operator::PostScript | Operator::BaseFontName => i == 0,
         Operator::ROS => i < 2,
         _ => false,
     }
@@ -64,7 +65,7 @@ fn string_of<'l>(
     if !is_identifier(operator, i) {
         return None;
     }
-    font.string(u16::try_from(operand.to_i32()?).ok()?)
+    Some(cut(font.string(u16::try_from(operand.to_i32()?).ok()?)?))
 }
 
 /// Writes the operands of an operator as a list of strings and numbers.

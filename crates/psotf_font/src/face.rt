@@ -167,6 +167,14 @@ pub fn source_of(bytes: &[u8], number: u16) -> Result<Source<'_>, Failure> {
     })
 }
 
+/// The most bytes of a string that are printed. Many glyphs or DICTs may share a long one.
+const LONGEST: usize = 1_000;
+
+/// Returns the beginning of a string, as far as it is printed.
+pub fn cut(string: &[u8]) -> &[u8] {
+    string.get(..LONGEST).unwrap_or(string)
+}
+
 impl<'l> Face<'l> {
     /// Reads a font of a file.
     pub fn open(alloc: Global, source: Source<'l>) -> Result<Face<'l>, Failure> {
@@ -195,10 +203,11 @@ impl<'l> Face<'l> {
         })
     }
 
-    /// Returns the name of a glyph. Returns `None` if the font is CID-keyed, or if the glyph has no name.
+    /// Returns the name of a glyph, at most its first 1,000 bytes. Returns `None` if the font is CID-keyed, or if the
+    /// glyph has no name.
     pub fn name(&self, gid: u16) -> Option<&[u8]> {
         match &self.set {
-            Some(set) => self.font.name(set, usize::from(gid)),
+            Some(set) => Some(cut(self.font.name(set, usize::from(gid))?)),
             None => None,
         }
     }

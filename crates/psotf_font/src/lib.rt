@@ -16,4 +16,4 @@ pub mod leaving;
 pub mod readings;
 mod refused;
 pub mod report;
-mod weight;
+pub mod weight;

@@ -6,7 +6,7 @@ use postscript_view::tables::{header_size, operations_of};
 use std::alloc::Global;
 
 /// The most bytes of Font DICTs and their Private DICTs. Each is read separately, even if they overlap.
-const MOST: u64 = 20_000_000;
+pub const MOST: u64 = 500_000;
 
 /// Returns the Top DICT of the first font.
 pub fn dictionary_of(alloc: Global, cff: &[u8]) -> Option<Operations> {

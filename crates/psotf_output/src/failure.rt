@@ -15,6 +15,13 @@ pub type Words = InlineText<{ ROOM }>;
 /// The end of the message for a glyph of too many operations.
 const HELD: &str = " units, a fortieth of --limit (instance keeps all operations in memory)";
 
+/// The end of the message for a glyph of a report that has too many operations.
+const KEPT: &str = " units, a tenth of --limit (report keeps all operations of a glyph in memory)";
+
+/// The end of the message for a font of too many operations.
+const WRITTEN: &str =
+    " units, which follow from --limit and the size of the table (they are kept in memory)";
+
 /// The end of the message for a glyph of too many segments.
 const SEGMENTS: &str = " segments, one for each 50 units of --limit";
 
@@ -27,6 +34,10 @@ pub enum Refusal {
     TooLong(u64),
     /// It costs more than this many units, a fortieth of the limit.
     Held(u64),
+    /// It costs more than this many units, a tenth of the limit.
+    Kept(u64),
+    /// It and the glyphs before it, which are written to a font, cost more than this many units.
+    Written(u64),
     /// It draws more than this many segments.
     Segments(u64),
     /// The command would cost more than this many units.
@@ -49,6 +60,8 @@ impl fmt::Display for Refusal {
             Refusal::NoPart => return f.write_str("it has no Font DICT in FDSelect"),
             Refusal::TooLong(units) => ("it costs more than ", *units, " units (--limit)"),
             Refusal::Held(units) => ("it costs more than ", *units, HELD),
+            Refusal::Kept(units) => ("it costs more than ", *units, KEPT),
+            Refusal::Written(units) => ("the glyphs up to it cost more than ", *units, WRITTEN),
             Refusal::Segments(most) => ("it draws more than ", *most, SEGMENTS),
             Refusal::UsedUp(units) => return put_used_up(f, *units),
             Refusal::Told(words) => return f.write_str(words.as_str()),
@@ -80,8 +93,8 @@ impl Refusal {
     /// Returns whether a greater limit may succeed.
     pub fn is_by_limit(&self) -> bool {
         match self {
-            Refusal::TooLong(_) | Refusal::Held(_) | Refusal::Segments(_) | Refusal::UsedUp(_) =>
-                true,
+            Refusal::TooLong(_) | Refusal::Held(_) | Refusal::Kept(_) => true,
+            Refusal::Written(_) | Refusal::Segments(_) | Refusal::UsedUp(_) => true,
             _ => false,
         }
     }
@@ -238,6 +251,11 @@ impl Failure {
     /// Font DICTs overlap.
     pub fn dictionaries() -> Failure {
         Failure::other("the Font DICTs overlap: together they have too many bytes")
+    }
+
+    /// Subroutines overlap.
+    pub fn subroutines() -> Failure {
+        Failure::other("the subroutines overlap: together they have too many bytes")
     }
 
     /// The file with the verdicts is missing.

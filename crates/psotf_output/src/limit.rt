@@ -24,6 +24,9 @@ pub const OBJECT: u64 = PATH + OPERAND;
 /// The units of the budget for each byte of a picture, which is kept in memory until it is complete.
 pub const BYTE: u64 = 10;
 
+/// The part of the limit that a glyph may cost in a report, which keeps all its operations in memory.
+pub const HELD: u64 = 10;
+
 /// The budget of a command, in units of `Program::step_within`.
 #[derive(Clone, Copy)]
 pub struct Budget {
@@ -33,8 +36,32 @@ pub struct Budget {
     pub left: u64,
     /// The most that a unit of a run costs. Output made from the run costs units too.
     pub weight: u64,
+    /// The most that a glyph may cost whose operations are kept in memory.
+    pub kept: u64,
+    /// The most units of glyphs that the command may write to a font. Their charstrings are kept in memory.
+    pub room: u64,
+    /// The units of the glyphs that it has run to write them.
+    pub written: u64,
 
     ghost weighs: { 0 < weight },
+}
+
+/// The units of glyphs that may be written for each byte of the table that is read. In fonts with many subroutines a byte
+/// costs about five units.
+const COPIED: u64 = 8;
+
+/// The part of the limit that an instance may write. Two commands may keep it: one that makes the instance, and another
+/// that writes it.
+const INSTANCE: u64 = 4;
+
+/// Returns the most units of glyphs that `flat` and `subset` may write, of a table of `bytes` bytes.
+pub fn flat_room(limit: u64, bytes: u64) -> u64 {
+    limit.max(bytes.saturating_mul(COPIED))
+}
+
+/// Returns the most units of glyphs that an instance may write, of a table of `bytes` bytes.
+pub fn instance_room(limit: u64, bytes: u64) -> u64 {
+    (limit / INSTANCE).max(bytes.saturating_mul(COPIED))
 }
 
 /// Returns the length of the longest item in bytes.
@@ -69,6 +96,9 @@ impl Budget {
             limit,
             left: limit.saturating_mul(GLYPHS),
             weight,
+            kept: limit,
+            room: 0,
+            written: 0,
         }
     }
 
@@ -98,6 +128,28 @@ impl Budget {
         ensures limit { self.new.limit ≡ self.old.limit }
     {
         self.left = self.left.saturating_sub(units.saturating_mul(self.weight));
+    }
+
+    /// Counts the units of a glyph that the command writes to a font. It fails if all of them are more than the room.
+    pub fn write(&mut self, units: u64) -> Result<(), Refusal>
+        // The limit is unchanged.
+        ensures limit { self.new.limit ≡ self.old.limit }
+    {
+        self.written = self.written.saturating_add(units);
+        if self.written > self.room {
+            Err(Refusal::Written(self.room))
+        } else {
+            Ok(())
+        }
+    }
+
+    /// Fails if a glyph of this cost is not kept in memory.
+    pub fn keep(&self, units: u64) -> Result<(), Refusal> {
+        if units > self.kept {
+            Err(Refusal::Kept(self.kept))
+        } else {
+            Ok(())
+        }
     }
 
     /// Spends the cost of a glyph whose run fails, since the failing operator costs nothing itself. It is the length of

@@ -13,6 +13,23 @@ use std::fmt::Display;
 use std::io::Write;
 use std::mem;
 
+/// The most numbers and lists of a line that are kept while a list is printed.
+const PIECE: u64 = 4_096;
+
+/// The most letters of a name.
+const LETTERS: usize = 1_000;
+
+/// Adds a name. A long name is cut.
+pub fn put_name(text: &mut Text, name: Option<Name<'_>>) {
+    if let Some(name) = name {
+        for (i, char) in name.chars().enumerate() {
+            if i < LETTERS {
+                text.push(char);
+            }
+        }
+    }
+}
+
 /// A line of JSON, written token by token. After a failed allocation it takes no more tokens, and fails at its end.
 #[derive(Drop)]
 pub struct Sheet {
@@ -20,6 +37,8 @@ pub struct Sheet {
     json: Writer<Global>,
     text: Text,
     failed: bool,
+    /// The numbers and lists since a piece was printed.
+    tokens: u64,
 }
 
 impl Sheet {
@@ -30,6 +49,7 @@ impl Sheet {
             json: Writer::new(Vec::new(alloc)),
             text: Text::new(alloc),
             failed: false,
+            tokens: 0,
         }
     }
 
@@ -49,6 +69,7 @@ impl Sheet {
 
     /// Begins a list.
     pub fn begin_array(&mut self) {
+        self.tokens = self.tokens.saturating_add(1);
         if !self.failed {
             self.failed = self.json.begin_array().is_err();
         }
@@ -195,6 +216,7 @@ impl Sheet {
 
     /// Writes a number in 65536ths as an exact decimal.
     pub fn bits(&mut self, bits: i64) {
+        self.tokens = self.tokens.saturating_add(1);
         self.text.clear();
         decimal::put_bits(&mut self.text, bits);
         self.put_number();
@@ -261,7 +283,7 @@ impl Sheet {
             return self.null();
         }
         self.text.clear();
-        self.text.put_name(name);
+        put_name(&mut self.text, name);
         self.put_own();
     }
 
@@ -303,13 +325,22 @@ impl Sheet {
         }
     }
 
-    /// Writes a member with a list of segments.
-    pub fn segments(&mut self, key: &str, segments: &[Segment]) {
+    /// Prints a member with a list of segments, piece by piece.
+    pub fn segments<W: Write>(
+        &mut self,
+        key: &str,
+        segments: &[Segment],
+        out: &mut W,
+    ) -> Result<(), Failure> {
         self.begin_list(key);
-        for segment in segments {
+        for (i, segment) in segments.iter().enumerate() {
+            if i > 0 {
+                self.next_item(out)?;
+            }
             self.segment(*segment);
         }
         self.end_array();
+        Ok(())
     }
 
     /// Returns a number that took memory to find. After a failed allocation it is 0, and the line fails.
@@ -336,6 +367,19 @@ impl Sheet {
         let mut bytes = line;
         bytes.clear();
         self.json = Writer::new(bytes);
+    }
+
+    /// Prints what the line has so far, if it is long. The next token is another item of a list.
+    pub fn next_item<W: Write>(&mut self, out: &mut W) -> Result<(), Failure> {
+        if self.tokens < PIECE {
+            return Ok(());
+        }
+        self.tokens = 0;
+        let mut line = self.take()?;
+        line.push(b',')?;
+        telling::put(out, &line)?;
+        self.begin_on(line);
+        Ok(())
     }
 
     /// Adds the line to a page, and begins another in the same memory. It escapes `<`, which could end the block of

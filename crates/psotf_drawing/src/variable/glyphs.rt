@@ -14,6 +14,7 @@ use psotf_output::limit::{Budget, SEGMENT};
 use psotf_output::sheet::Sheet;
 use psotf_output::text::Text;
 use std::alloc::Global;
+use std::io::Write;
 
 /// Returns the number of glyphs that have a charstring.
 pub fn count(face: &VariableFace<'_>) -> u16 {
@@ -74,15 +75,19 @@ pub fn outline_of(
 }
 
 /// Writes the outline of a glyph, or its error. Returns whether it is drawn.
-fn drawn(sheet: &mut Sheet, outline: &Result<Outline, Refusal>) -> bool {
+fn drawn<W: Write>(
+    sheet: &mut Sheet,
+    outline: &Result<Outline, Refusal>,
+    out: &mut W,
+) -> Result<bool, Failure> {
     match outline {
         Ok(outline) => {
-            shape(sheet, outline);
-            true
+            shape(sheet, outline, out)?;
+            Ok(true)
         }
         Err(refusal) => {
             sheet.tell("refused", refusal);
-            false
+            Ok(false)
         }
     }
 }
@@ -121,20 +126,21 @@ impl<'f, 'l> Glyphs for Placed<'f, 'l> {
         outline_of(alloc, self.face, gid, self.chosen, budget)
     }
 
-    fn object(
+    fn object<W: Write>(
         &self,
         alloc: Global,
         sheet: &mut Sheet,
         mapped: &[Mapped],
         gid: u16,
         budget: &mut Budget,
+        out: &mut W,
     ) -> Result<bool, Failure> {
         sheet.begin_object();
         sheet.number("gid", u64::from(gid));
         chars(sheet, of_glyph(mapped, gid));
         sheet.key("advance");
         sheet.i64(self.advance(gid));
-        let is_drawn = drawn(sheet, &self.outline(alloc, gid, budget));
+        let is_drawn = drawn(sheet, &self.outline(alloc, gid, budget), out)?;
         sheet.end_object();
         Ok(is_drawn)
     }

@@ -6,7 +6,7 @@ use psotf_font::characters::count;
 use psotf_font::face::called;
 use psotf_font::layouts;
 use psotf_output::failure::Failure;
-use psotf_output::sheet::Sheet;
+use psotf_output::sheet::{Sheet, put_name};
 use psotf_output::text::{Text, end_in};
 use std::alloc::Global;
 use std::io::Write;
@@ -121,7 +121,7 @@ fn axis_line(alloc: Global, lines: &mut Text, face: &VariableFace<'_>, axis: &Ax
     lines.push_str("axis ");
     lines.put_made(String::from_utf8_lossy(alloc, &axis.tag.to_be_bytes()));
     lines.push_str(": ");
-    lines.put_name(face.opened.name(axis.name));
+    put_name(lines, face.opened.name(axis.name));
     put_value(lines, ", ", axis.minimum);
     put_value(lines, " to ", axis.maximum);
     put_value(lines, ", default ", axis.default);
@@ -138,7 +138,7 @@ fn instance_line(lines: &mut Text, face: &VariableFace<'_>, axes: &Axes<'_>, i: 
         return;
     };
     lines.push_str("instance ");
-    lines.put_name(face.opened.name(instance.name));
+    put_name(lines, face.opened.name(instance.name));
     lines.push(':');
     for axis in 0..axes.len() {
         put_value(lines, " ", axes.coordinate(i, axis).unwrap_or(0));

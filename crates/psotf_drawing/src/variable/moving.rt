@@ -2,14 +2,16 @@
 use super::VariableFace;
 use super::glyphs::{advance_of, count, outline_of};
 use super::place::{Chosen, moved};
-use crate::svg::picture_of;
+use crate::svg::{CLOSING, opening};
 use postscript_outline::Outline;
 use postscript_variation::{Axis, Setting};
 use psotf_font::characters::{glyph_of, refuse_missing};
 use psotf_output::failure::Failure;
 use psotf_output::limit::{BYTE, Budget};
+use psotf_output::saving::Output;
 use psotf_output::text::Text;
 use std::alloc::{AllocError, Global};
+use std::io::Write;
 
 /// The number of steps from an end of the axis to its default.
 const STEPS: i64 = 4;
@@ -188,22 +190,35 @@ fn frame_at(frames: &[Frame], number: usize) -> Option<&Frame> {
     }
 }
 
-/// Adds the element that animates the path of a glyph.
-fn put_shapes(picture: &mut Text, frames: &[Frame], glyph: usize) {
+/// Returns the path of a glyph in the frame that is shown with a number.
+fn path_at(frames: &[Frame], number: usize, glyph: usize) -> Option<&str> {
+    let path = frame_at(frames, number)?.paths.get(glyph)?;
+    Some(path.as_str())
+}
+
+/// Writes the element that animates the path of a glyph, and what `picture` has before it.
+fn put_shapes<W: Write>(
+    rt: &HostRuntime,
+    picture: &mut Text,
+    frames: &[Frame],
+    glyph: usize,
+    output: &mut Output<'_>,
+    out: &mut W,
+) -> Result<(), Failure> {
     picture.push_str("<animate attributeName=\"d\" ");
     picture.push_str(TIME);
     picture.push_str(" values=\"");
     let mut lead = "";
     for number in 0..shown(frames) {
-        if let Some(frame) = frame_at(frames, number) {
-            if let Some(path) = frame.paths.get(glyph) {
-                picture.push_str(lead);
-                picture.push_str(path.as_str());
-                lead = ";";
-            }
+        if let Some(path) = path_at(frames, number, glyph) {
+            picture.push_str(lead);
+            picture.push_str(path);
+            lead = ";";
+            output.take(rt, picture, out)?;
         }
     }
     picture.push_str("\"/>\n");
+    Ok(())
 }
 
 /// Adds the element that animates the position of a glyph.
@@ -225,10 +240,17 @@ fn put_starts(picture: &mut Text, frames: &[Frame], glyph: usize) {
     picture.push_str("\"/>\n");
 }
 
-/// Adds a glyph as an animated element. It begins with the first frame.
-fn put_glyph(picture: &mut Text, frames: &[Frame], glyph: usize) {
+/// Writes a glyph as an animated element. It begins with the first frame.
+fn put_glyph<W: Write>(
+    rt: &HostRuntime,
+    picture: &mut Text,
+    frames: &[Frame],
+    glyph: usize,
+    output: &mut Output<'_>,
+    out: &mut W,
+) -> Result<(), Failure> {
     let Some(first) = frames.first() else {
-        return;
+        return Ok(());
     };
     if let (Some(start), Some(path)) = (first.starts.get(glyph), first.paths.get(glyph)) {
         picture.push_str("<path transform=\"translate(");
@@ -236,10 +258,11 @@ fn put_glyph(picture: &mut Text, frames: &[Frame], glyph: usize) {
         picture.push_str(" 0)\" d=\"");
         picture.push_str(path.as_str());
         picture.push_str("\">\n");
-        put_shapes(picture, frames, glyph);
+        put_shapes(rt, picture, frames, glyph, output, out)?;
         put_starts(picture, frames, glyph);
         picture.push_str("</path>\n");
     }
+    Ok(())
 }
 
 /// Returns the width of the widest frame.
@@ -251,26 +274,39 @@ fn width_of(frames: &[Frame]) -> i64 {
     width
 }
 
-/// Returns the animated elements of all glyphs.
-fn elements(alloc: Global, frames: &[Frame], glyphs: usize) -> Text {
-    let mut picture = Text::new(alloc);
+/// Writes the animated elements of `glyphs` glyphs.
+fn write_picture<W: Write>(
+    rt: &HostRuntime,
+    units: u16,
+    frames: &[Frame],
+    glyphs: usize,
+    output: &mut Output<'_>,
+    out: &mut W,
+) -> Result<(), Failure> {
+    let mut picture = opening(rt.alloc(), units, width_of(frames));
     for glyph in 0..glyphs {
-        put_glyph(&mut picture, frames, glyph);
+        put_glyph(rt, &mut picture, frames, glyph, output, out)?;
     }
-    picture
+    output.take(rt, &mut picture, out)?;
+    output.put(rt, CLOSING, out)
 }
 
-/// Returns a picture of glyphs, animated along an axis and back.
-pub fn moving(
-    alloc: Global,
+/// Writes a picture of glyphs, animated along an axis and back, to a file if there is a path, and otherwise to standard
+/// output. It draws all glyphs first.
+pub fn write<W: Write>(
+    rt: &HostRuntime,
     face: &VariableFace<'_>,
     axis: &Axis,
     gids: &[u16],
     chosen: &Chosen,
+    path: Option<&str>,
     budget: &mut Budget,
-) -> Result<String, Failure> {
-    let mut frames = Vec::new(alloc);
-    put_frames(alloc, face, axis, gids, chosen, budget, &mut frames)?;
-    let paths = elements(alloc, &frames, gids.len());
-    Ok(picture_of(alloc, face.common.units, &width_of(&frames), paths)?)
+    out: &mut W,
+) -> Result<(), Failure> {
+    let mut frames = Vec::new(rt.alloc());
+    put_frames(rt.alloc(), face, axis, gids, chosen, budget, &mut frames)?;
+    let mut output = Output::of(rt, path)?;
+    let units = face.common.units;
+    let written = write_picture(rt, units, &frames, gids.len(), &mut output, out);
+    output.end(rt, written)
 }
