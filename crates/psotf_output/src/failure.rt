@@ -248,14 +248,14 @@ impl Failure {
         Failure::between("the ", table, " table is truncated")
     }
 
-    /// Font DICTs overlap.
+    /// The DICTs are too long, or many of them overlap.
     pub fn dictionaries() -> Failure {
-        Failure::other("the Font DICTs overlap: together they have too many bytes")
+        Failure::other("together the DICTs have too many bytes")
     }
 
-    /// Subroutines overlap.
+    /// Many subroutines overlap.
     pub fn subroutines() -> Failure {
-        Failure::other("the subroutines overlap: together they have too many bytes")
+        Failure::other("together the subroutines have too many bytes")
     }
 
     /// The file with the verdicts is missing.
