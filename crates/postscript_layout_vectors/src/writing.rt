@@ -651,8 +651,13 @@ fn called(rt: HostRuntime) {
         let gsub = table(rt.alloc(), HEAD, lookups).expect(&rt, "memory");
         for (given, glyphs, all) in rows {
             let mut limit = 50_000;
-            let reached =
-                closure_with_called(rt.alloc(), &gsub, &[given], glyphs, &mut limit).expect(&rt, "lookups");
+            let reached = closure_with_called(
+                rt.alloc(),
+                &gsub,
+                &[given],
+                glyphs,
+                &mut limit,
+            ).expect(&rt, "lookups");
             assert_eq!(rt; reached.lookups.as_slice(), all);
             assert_eq!(rt; reached.glyphs.as_slice(), glyphs);
         }
@@ -681,8 +686,9 @@ fn reached(rt: HostRuntime) {
     let gsub = table(rt.alloc(), HEAD, &lookups).expect(&rt, "memory");
     for (chosen, glyph, all, made) in rows {
         let mut limit = 50_000;
-        let reached =
-            closure_with_called(rt.alloc(), &gsub, chosen, &[glyph], &mut limit).expect(&rt, "lookups");
+        let reached = closure_with_called(rt.alloc(), &gsub, chosen, &[glyph], &mut limit).expect(
+            &rt, "lookups",
+        );
         assert_eq!(rt; reached.lookups.as_slice(), all);
         assert_eq!(rt; reached.glyphs.as_slice(), made);
     }
