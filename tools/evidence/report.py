@@ -15,6 +15,8 @@ tables that at least one reader rejects. The checks on each page are:
 - For FONTs, the calls and masks of all glyphs, or of about 500, are those that fontTools meets when it runs them. If all are compared, so
   are the call counts of each subroutine.
 - For FONTs, the parts of the `CFF ` table cover it without gaps.
+- For FONTs, each feature of `GSUB` brings the glyphs that fontTools finds, and none but these if its lookups are no contexts; the filter of
+  the feature finds them.
 If a report has several pages, each is opened. Together they must have each glyph once, and a character on another page must be reachable
 by the link.
 
@@ -24,16 +26,19 @@ the seconds of psotf, and the seconds until the first page has loaded. The exit 
 """
 
 import argparse
+import collections
 import json
 import pathlib
 import subprocess
 import sys
 import tempfile
 import time
+import types
 
 sys.dont_write_bytecode = True
 sys.path.insert(0, str(pathlib.Path(__file__).resolve().parents[1]))
 
+import fontTools.subset  # adds closure_glyphs to lookups
 from fontTools.misc.psCharStrings import SimpleT2Decompiler
 from fontTools.ttLib import TTFont
 from selenium import webdriver
@@ -209,6 +214,56 @@ def look_at_parts(told, faults):
         faults.append(f"the parts end at {at}, and the table at {size}")
 
 
+def brought(path):
+    """Yields the tag of each feature of `GSUB`, the glyphs that its lookups make of glyphs with a character and that have none, as fontTools
+    finds them, and whether all of its lookups are substitutions."""
+    font = TTFont(path, fontNumber=0)
+    if "GSUB" not in font:
+        return
+    gsub, mapped = font["GSUB"].table, {glyph for glyph in font.getBestCmap().values()}
+    features = collections.defaultdict(set)
+    for record in gsub.FeatureList.FeatureRecord if gsub.FeatureList else []:
+        features[record.FeatureTag].update(record.Feature.LookupListIndex)
+    for tag, indices in sorted(features.items()):
+        lookups = [gsub.LookupList.Lookup[index] for index in indices]
+        search = types.SimpleNamespace(table=gsub, glyphs=set(mapped))
+        before = None
+        while before != len(search.glyphs):
+            before, search._activeLookups, search._doneLookups = len(search.glyphs), [], {}
+            for lookup in lookups:
+                lookup.closure_glyphs(search, cur_glyphs=search.glyphs)
+        kinds = {getattr(part, "ExtensionLookupType", lookup.LookupType) for lookup in lookups for part in lookup.SubTable}
+        yield tag, {font.getGlyphID(glyph) for glyph in search.glyphs - mapped}, kinds <= {1, 2, 3, 4}
+
+
+FEATURES = """
+const found = [];
+for (const [tag, gids] of FEATURES) {
+  filter.value = gids.size > 0 ? `feature ${tag}` : "all";
+  filter.dispatchEvent(new Event("input"));
+  found.push([tag, [...gids], gids.size > 0 ? kept.map((glyph) => glyph.gid) : []]);
+}
+filter.value = "all";
+filter.dispatchEvent(new Event("input"));
+return found;
+"""
+
+
+def compare_features(driver, path, told, faults):
+    """Compares the glyphs that features bring with what fontTools finds, and with those that the filters find."""
+    first, many = told["head"]["from"], len(told["glyphs"])
+    shown = driver.execute_script(FEATURES)
+    theirs = list(brought(path))
+    if [tag for tag, *_ in shown] != [tag for tag, *_ in theirs]:
+        faults.append(f"the features are {shown}, and not {theirs}"[:200])
+        return
+    for (tag, own, found), (_, wanted, is_exact) in zip(shown, theirs):
+        if not wanted <= set(own) or is_exact and wanted != set(own):
+            faults.append(f"{tag} brings {sorted(own)[:20]}, and not {sorted(wanted)[:20]}")
+        if [gid for gid in own if first <= gid < first + many] != found:
+            faults.append(f"the filter of {tag} finds {found[:20]}, and not {own[:20]}")
+
+
 def refusal_told(refusal):
     """Returns an error as the page and the command line print it."""
     if refusal is None:
@@ -290,6 +345,7 @@ def look(driver, path, data, is_ours, faults):
     if is_ours:
         compare_walks(driver, path, told, faults)
         look_at_parts(told, faults)
+        compare_features(driver, path, told, faults)
     gid = next((first + i for i, row in enumerate(rows) if 0x41 in row[1]), None)
     if gid is not None:
         driver.find_element(By.ID, "search").send_keys("A")

@@ -6,6 +6,7 @@ use postscript_base::index::IndexView;
 use psotf_font::characters::{Mapped, by_glyph};
 use psotf_font::face::Face;
 use psotf_font::hints::hinted;
+use psotf_font::report::brought::{Feature, features};
 use psotf_font::report::head;
 use psotf_font::report::pages::{PAGES, Pages};
 use psotf_output::failure::Failure;
@@ -64,6 +65,7 @@ struct Common<'c, 'l> {
     pages: Pages<'c>,
     mapped: &'c [Mapped],
     hinted: u64,
+    features: &'c [Feature],
 }
 
 /// Writes the block of JSON of a page (docs/report-format.md).
@@ -84,6 +86,7 @@ fn write_data(
         &common.pages,
         first,
         common.hinted,
+        common.features,
     );
     sheet.end_in(&mut page)?;
     page.extend_from_slice(b",\n\"glyphs\":[\n")?;
@@ -192,11 +195,13 @@ pub fn write(
     }
     let mut stopped = Stopped::new(rt);
     let mapped = by_glyph(rt.alloc(), &face.map)?;
+    let features = features(rt.alloc(), face, mapped.as_slice(), budget)?;
     let common = Common {
         face,
         pages,
         mapped: mapped.as_slice(),
         hinted: hinted(rt, face, budget, &mut stopped)?,
+        features: features.as_slice(),
     };
     write_pages(rt, &common, budget, &mut stopped)?;
     stopped.end()

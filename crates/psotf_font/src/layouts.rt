@@ -55,7 +55,7 @@ fn word(table: &[u8], offset: usize) -> usize {
 }
 
 /// Returns the distinct tags of a list of records, in ascending order. The offset of the list is at `place`.
-fn tags_of(alloc: Global, table: &[u8], place: usize) -> Result<Vec<u32>, AllocError> {
+pub fn tags_of(alloc: Global, table: &[u8], place: usize) -> Result<Vec<u32>, AllocError> {
     let list = word(table, place);
     let mut tags = Vec::new(alloc);
     if list == 0 {

@@ -1,4 +1,5 @@
 //! The parts of a report that are not drawn (docs/report-format.md).
+pub mod brought;
 pub mod head;
 pub mod operations;
 pub mod outlines;

@@ -1,4 +1,5 @@
 //! The data of a page about the file and the font (docs/report-format.md).
+use super::brought::{self, Feature};
 use super::pages::{Pages, put_index};
 use super::parts;
 use crate::dictionaries::{self, Kind};
@@ -111,6 +112,7 @@ pub fn put(
     pages: &Pages<'_>,
     first: u16,
     hinted: u64,
+    features: &[Feature],
 ) {
     sheet.begin_object();
     begin(sheet, face.source.bytes.len(), pages.face, first);
@@ -125,6 +127,7 @@ pub fn put(
     inspect::put(alloc, sheet, face, hinted);
     font_dictionaries(sheet, face);
     codes(sheet, face);
+    brought::put(sheet, features);
     subroutines(sheet, face);
     sheet.end_object();
 }

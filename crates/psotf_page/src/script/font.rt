@@ -20,6 +20,10 @@ function answers() {
 function kind() {
   return font.cff.is_cid ? `CID-keyed, ${many(font.cff.fds, "Font DICT")}` : "not CID-keyed";
 }
+function brought() {
+  const told = FEATURES.map(([tag, gids]) => (gids === null ? `${tag} (not searched)` : gids.size > 0 ? `${tag} (${count(gids.size)})` : tag));
+  return told.join(", ") || "none";
+}
 function facts() {
   const { cff } = font;
   const file = ["file", `${many(head.bytes, "byte")}, face ${head.face}${isRead ? ` of ${font.faces}` : ""}`];
@@ -33,6 +37,7 @@ function facts() {
     ["kind", kind()],
     ["encoding, charset", `${cff.encoding}, ${cff.char_set ?? "invalid"}`],
     ["strings", count(cff.strings)],
+    ["features of GSUB, glyphs they bring", brought()],
     ["subroutines", `${count(cff.global_subroutines)} global; local: ${cff.local_subroutines.map(count).join(", ")}`],
   ];
   return section("font", "Font", ...pages(), table([], rows), make("h3", {}, "The CFF table"), answers());

@@ -21,6 +21,14 @@ const FILTERS = {
   accented: ["seac", (glyph) => glyph.accent !== undefined],
   unmapped: ["without a character", (glyph) => glyph.chars.length === 0],
 };
+// The glyphs that each feature of `GSUB` brings: they have no character, and its lookups make them of glyphs with one.
+const FEATURES = (head.features ?? []).map(([tag, differences]) => {
+  let gid = 0;
+  return [tag, differences === null ? null : new Set(numbers(differences).map((by) => (gid += by)))];
+});
+for (const [tag, gids] of FEATURES) {
+  if (gids !== null && gids.size > 0) FILTERS[`feature ${tag}`] = [`brought by ${tag}`, (glyph) => gids.has(glyph.gid)];
+}
 const ORDERS = {
   gid: ["by number", () => 0],
   cost: ["highest cost first", (glyph) => -glyph.cost],
