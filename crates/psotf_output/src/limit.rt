@@ -1,5 +1,5 @@
 //! The budget of a command.
-ghost use Rattle.std.specs.Prelude.{◌≡◌, ◌<◌, ◌≤◌, ◌-◌, ◌*◌, ◌/◌, ◌^◌, min};
+ghost use Rattle.std.specs.Prelude.{◌≡◌, ◌×◌, ◌<◌, ◌≤◌, ◌+◌, ◌-◌, ◌*◌, ◌/◌, ◌^◌, min, max, MatchResult};
 ghost use Rattle.psotf_output.specs.declared.failure.Refusal.TheVariants as refusals;
 
 use crate::failure::Refusal;
@@ -48,19 +48,25 @@ pub struct Budget {
 
 /// The units of glyphs that may be written for each byte of the table that is read. In fonts with many subroutines a byte
 /// costs about five units.
-const COPIED: u64 = 8;
+pub const COPIED: u64 = 8;
 
 /// The part of the limit that an instance may write. Two commands may keep it: one that makes the instance, and another
 /// that writes it.
-const INSTANCE: u64 = 4;
+pub const INSTANCE: u64 = 4;
 
 /// Returns the most units of glyphs that `flat` and `subset` may write, of a table of `bytes` bytes.
-pub fn flat_room(limit: u64, bytes: u64) -> u64 {
+pub fn flat_room(limit: u64, bytes: u64) -> u64
+    // The room is the limit, or `COPIED` units for each byte if that is more, up to the greatest `u64`.
+    ensures { result ≡ max limit (min (bytes * COPIED) (2 ^ 64 - 1)) }
+{
     limit.max(bytes.saturating_mul(COPIED))
 }
 
 /// Returns the most units of glyphs that an instance may write, of a table of `bytes` bytes.
-pub fn instance_room(limit: u64, bytes: u64) -> u64 {
+pub fn instance_room(limit: u64, bytes: u64) -> u64
+    // The room is a quarter of the limit, or `COPIED` units for each byte if that is more.
+    ensures { result ≡ max (limit / INSTANCE) (min (bytes * COPIED) (2 ^ 64 - 1)) }
+{
     (limit / INSTANCE).max(bytes.saturating_mul(COPIED))
 }
 
@@ -132,6 +138,14 @@ impl Budget {
 
     /// Counts the units of a glyph that the command writes to a font. It fails if all of them are more than the room.
     pub fn write(&mut self, units: u64) -> Result<(), Refusal>
+        // The units are counted, up to the greatest `u64`.
+        ensures counted { self.new.written ≡ min (self.old.written + units) (2 ^ 64 - 1) }
+        // It fails exactly if the units that are counted are more than the room, with the room.
+        ensures exact { MatchResult result
+            (λ _. self.new.written ≤ self.old.room)
+            (λ e. (self.old.room < self.new.written) × (e ≡ refusals.Written self.old.room)) }
+        // The rest and the room are unchanged.
+        ensures same { (self.new.left ≡ self.old.left) × (self.new.room ≡ self.old.room) }
         // The limit is unchanged.
         ensures limit { self.new.limit ≡ self.old.limit }
     {
@@ -144,7 +158,12 @@ impl Budget {
     }
 
     /// Fails if a glyph of this cost is not kept in memory.
-    pub fn keep(&self, units: u64) -> Result<(), Refusal> {
+    pub fn keep(&self, units: u64) -> Result<(), Refusal>
+        // It fails exactly if the units are more than a glyph that is kept may cost, with that number.
+        ensures exact { MatchResult result
+            (λ _. units ≤ self.now.kept)
+            (λ e. (self.now.kept < units) × (e ≡ refusals.Kept self.now.kept)) }
+    {
         if units > self.kept {
             Err(Refusal::Kept(self.kept))
         } else {
