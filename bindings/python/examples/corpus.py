@@ -22,7 +22,7 @@ import sys
 
 COLUMNS = [
     "file", "error", "family", "style", "units_per_em", "glyphs", "characters", "axes", "instances", "is_cid", "hinted",
-    "global_subroutines", "local_subroutines", "strict", "features",
+    "costliest", "cost", "global_subroutines", "local_subroutines", "strict", "features",
 ]  # fmt: skip
 
 

@@ -5,7 +5,7 @@ mod unread;
 use postscript_base::index::IndexView;
 use psotf_font::characters::{Mapped, by_glyph};
 use psotf_font::face::Face;
-use psotf_font::hints::hinted;
+use psotf_font::hints::{Runs, runs};
 use psotf_font::report::brought::{Feature, features};
 use psotf_font::report::head;
 use psotf_font::report::pages::{PAGES, Pages};
@@ -64,7 +64,7 @@ struct Common<'c, 'l> {
     face: &'c Face<'l>,
     pages: Pages<'c>,
     mapped: &'c [Mapped],
-    hinted: u64,
+    runs: Runs,
     features: &'c [Feature],
 }
 
@@ -85,7 +85,7 @@ fn write_data(
         common.face,
         &common.pages,
         first,
-        common.hinted,
+        &common.runs,
         common.features,
     );
     sheet.end_in(&mut page)?;
@@ -200,7 +200,7 @@ pub fn write(
         face,
         pages,
         mapped: mapped.as_slice(),
-        hinted: hinted(rt, face, budget, &mut stopped)?,
+        runs: runs(rt, face, budget, &mut stopped)?,
         features: features.as_slice(),
     };
     write_pages(rt, &common, budget, &mut stopped)?;

@@ -2,7 +2,7 @@
 use crate::characters::count;
 use crate::dictionaries::{self, Kind};
 use crate::face::{Face, called};
-use crate::hints::hinted;
+use crate::hints::{Runs, runs};
 use crate::{layouts, readings};
 use postscript_base::compact1::Operator;
 use postscript_sfnt::Name;
@@ -96,10 +96,12 @@ fn dictionary_count(face: &Face<'_>) -> u64 {
 }
 
 /// Writes the counts of the `CFF ` table.
-fn counts(sheet: &mut Sheet, face: &Face<'_>, hinted: u64) {
+fn counts(sheet: &mut Sheet, face: &Face<'_>, runs: &Runs) {
     sheet.number("fds", dictionary_count(face));
     sheet.number("glyphs", face.font.char_strings.len() as u64);
-    sheet.number("hinted", hinted);
+    sheet.number("hinted", runs.hinted);
+    sheet.number("costliest", u64::from(runs.costliest));
+    sheet.number("cost", runs.cost);
     sheet.number("strings", face.font.strings.len() as u64);
     let globals = face.font.global_subroutines.len();
     sheet.number("global_subroutines", globals as u64);
@@ -119,10 +121,10 @@ fn keys(sheet: &mut Sheet, face: &Face<'_>) {
 }
 
 /// Writes the contents of the `CFF ` table.
-fn font(alloc: Global, sheet: &mut Sheet, face: &Face<'_>, hinted: u64) {
+fn font(alloc: Global, sheet: &mut Sheet, face: &Face<'_>, runs: &Runs) {
     sheet.begin_member("cff");
     keys(sheet, face);
-    counts(sheet, face, hinted);
+    counts(sheet, face, runs);
     sheet.key("top");
     dictionaries::write(sheet, &face.font, &face.font.dictionary, top(face));
     parts(sheet, face);
@@ -144,11 +146,11 @@ fn head(alloc: Global, sheet: &mut Sheet, face: &Face<'_>) {
 }
 
 /// Writes the font as a JSON object.
-pub fn put(alloc: Global, sheet: &mut Sheet, face: &Face<'_>, hinted: u64) {
+pub fn put(alloc: Global, sheet: &mut Sheet, face: &Face<'_>, runs: &Runs) {
     sheet.begin_object();
     head(alloc, sheet, face);
     layouts::put(alloc, sheet, &face.source.file);
-    font(alloc, sheet, face, hinted);
+    font(alloc, sheet, face, runs);
     sheet.end_object();
 }
 
@@ -156,11 +158,11 @@ pub fn put(alloc: Global, sheet: &mut Sheet, face: &Face<'_>, hinted: u64) {
 fn object<W: Write>(
     alloc: Global,
     face: &Face<'_>,
-    hinted: u64,
+    runs: &Runs,
     out: &mut W,
 ) -> Result<(), Failure> {
     let mut sheet = Sheet::new(alloc);
-    put(alloc, &mut sheet, face, hinted);
+    put(alloc, &mut sheet, face, runs);
     sheet.end(out)
 }
 
@@ -176,11 +178,13 @@ fn name_lines(alloc: Global, lines: &mut Text, face: &Face<'_>) {
 }
 
 /// Adds the lines of the counts.
-fn count_lines(lines: &mut Text, face: &Face<'_>, hinted: u64, characters: u64) {
+fn count_lines(lines: &mut Text, face: &Face<'_>, runs: &Runs, characters: u64) {
     lines.put_count("faces", face.faces as u64);
     lines.put_count("units per em", u64::from(face.units));
     lines.put_count("glyphs", u64::from(face.glyphs));
-    lines.put_count("glyphs with hints", hinted);
+    lines.put_count("glyphs with hints", runs.hinted);
+    lines.put_count("most expensive glyph", u64::from(runs.costliest));
+    lines.put_count("its cost in units", runs.cost);
     lines.put_count("characters", characters);
 }
 
@@ -217,13 +221,13 @@ fn part_lines(alloc: Global, lines: &mut Text, face: &Face<'_>) {
 fn lines<W: Write>(
     alloc: Global,
     face: &Face<'_>,
-    hinted: u64,
+    runs: &Runs,
     out: &mut W,
 ) -> Result<(), Failure> {
     let mut lines = Text::new(alloc);
     name_lines(alloc, &mut lines, face);
     let characters = lines.found(count(alloc, &face.map));
-    count_lines(&mut lines, face, hinted, characters);
+    count_lines(&mut lines, face, runs, characters);
     layouts::put_lines(alloc, &mut lines, &face.source.file);
     font_lines(alloc, &mut lines, face);
     part_lines(alloc, &mut lines, face);
@@ -241,11 +245,11 @@ pub fn write<W: Write>(
     out: &mut W,
 ) -> Result<(), Failure> {
     let mut stopped = Stopped::new(rt);
-    let hinted = hinted(rt, face, budget, &mut stopped)?;
+    let runs = runs(rt, face, budget, &mut stopped)?;
     if as_json {
-        object(rt.alloc(), face, hinted, out)?;
+        object(rt.alloc(), face, &runs, out)?;
     } else {
-        lines(rt.alloc(), face, hinted, out)?;
+        lines(rt.alloc(), face, &runs, out)?;
     }
     stopped.end()
 }

@@ -4,6 +4,7 @@ use super::pages::{Pages, put_index};
 use super::parts;
 use crate::dictionaries::{self, Kind};
 use crate::face::Face;
+use crate::hints::Runs;
 use crate::inspect;
 use postscript_base::index::IndexView;
 use postscript_sfnt::FontFile;
@@ -111,7 +112,7 @@ pub fn put(
     face: &Face<'_>,
     pages: &Pages<'_>,
     first: u16,
-    hinted: u64,
+    runs: &Runs,
     features: &[Feature],
 ) {
     sheet.begin_object();
@@ -124,7 +125,7 @@ pub fn put(
     tables(sheet, &face.source.file);
     parts::put(sheet, face);
     sheet.key("font");
-    inspect::put(alloc, sheet, face, hinted);
+    inspect::put(alloc, sheet, face, runs);
     font_dictionaries(sheet, face);
     codes(sheet, face);
     brought::put(sheet, features);
