@@ -39,3 +39,4 @@ pub mod RecordReading
 pub mod LanguageReading
 pub mod FeatureReading
 pub mod FeatureRows
+pub mod CalledRows
