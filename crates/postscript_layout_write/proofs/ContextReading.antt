@@ -7,8 +7,6 @@ use Rattle.std.proofs.lemmas.List.{ext_get_or, take_all, take_more}
 use Rattle.std.proofs.lemmas.List.Elements.{All-append, All-cons, All-nil, Contains-append_left, Contains-push, filter_passes}
 use Rattle.std.proofs.lemmas.List.FromFn.{get_or-map-range_with_len, get_or-range_with_len, length-map-range_with_len, length-range_with_len}
 use Rattle.postscript_layout.specs.Numbers.{word, long, words}
-use Rattle.postscript_layout.specs.Substitutions.{coverage_of}
-use Rattle.postscript_layout.specs.Substitutions.{set_of as rule_set}
 use Rattle.postscript_layout_write.specs.Contexts.{actions_at, after_at, all_have_formats, context_of, contexts_at, contexts_in, has_format, input_at, parts_of, sets_at}
 use Rattle.postscript_layout_write.specs.Sequences.{Context, can_apply, covered_of, covers, if_applies, kept_by}
 use Rattle.postscript_layout_write.specs.declared.contexts.Parts.{Parts}
@@ -24,7 +22,7 @@ use Rattle.postscript_layout_write.specs.Marks.{type_at, typed_at}
 use Rattle.postscript_layout_write.specs.PositionContexts.{contexts_by, is_context}
 use Rattle.postscript_layout_write.specs.PositionContexts.{all_have_formats as position_formats, contexts_at as positions_at}
 use Rattle.postscript_layout_write.specs.Ranges.{coverage_index, index_in, range_of}
-use Rattle.postscript_layout_write.specs.Rules.{or_none, part_at, rules_covered, rules_in, rules_of_several, rules_of_type}
+use Rattle.postscript_layout_write.specs.Rules.{part_at}
 use Rattle.postscript_layout_write.specs.Sets.{AreOffsets}
 use Rattle.postscript_layout_write.specs.Text.{array_text, coverage_text, offsets_text, uint16}
 use Rattle.postscript_layout_write.proofs.Covering.{filter-more, filter-same}

@@ -1,19 +1,19 @@
 -- Reverse chaining subtables: what is kept of one, and what is read of one that was written.
-use Rattle.std.proofs.Common.{◌≡◌, refl, sym, ap, subst, ◌∙◌, inl, inr, ℕ, zero, suc, ◌+◌, ◌*◌, ◌≤◌, ◌<◌, ◌==◌, ◌&&◌, List, [], ◌∷◌, ◌++◌, length, length-append, get_or, append-nil, arith, add-one, Bool, true, false}
-use Rattle.std.specs.Prelude.{Option, None, Some, is_some, nat_eq, nat_lt, slice_index, if◌then◌else◌}
+use Rattle.std.proofs.Common.{◌≡◌, refl, sym, ap, subst, ◌∙◌, inl, inr, ℕ, zero, suc, ◌+◌, ◌*◌, ◌<◌, ◌==◌, List, [], ◌∷◌, ◌++◌, length, length-append, get_or, append-nil, arith, Bool, true, false}
+use Rattle.std.specs.Prelude.{Option, None, Some, is_some, nat_lt, slice_index, if◌then◌else◌}
 use Rattle.std.specs.List.{All, Contains, range_with_len}
-use Rattle.std.proofs.lemmas.Bool.{eq-eqb, eqb-true, lt-ltb}
+use Rattle.std.proofs.lemmas.Bool.{eq-eqb, lt-ltb}
 use Rattle.std.proofs.lemmas.List.{get_or_append_left, get_or_push}
 use Rattle.std.proofs.lemmas.List.Elements.{All-append, All-cons, All-nil, Contains-append_left, Contains-push}
 use Rattle.std.proofs.lemmas.List.FromFn.{get_or-range_with_len, length-range_with_len}
-use Rattle.postscript_layout.specs.Numbers.{word, long}
+use Rattle.postscript_layout.specs.Numbers.{word}
 use Rattle.postscript_layout.specs.Substitutions.{coverage_of, reverse_offset}
 use Rattle.postscript_layout_write.specs.Coverages.{HasChained, HasCoverage, HasReverse, counted_text, no_context, reverse_base, reverse_text}
-use Rattle.postscript_layout_write.specs.First.{all_below, first_some}
+use Rattle.postscript_layout_write.specs.First.{all_below}
 use Rattle.postscript_layout_write.specs.Holds.{Holds}
 use Rattle.postscript_layout_write.specs.Ranges.{coverage_index}
 use Rattle.postscript_layout_write.specs.Renumbering.{new_number}
-use Rattle.postscript_layout_write.specs.Reverses.{ahead_at, if_some, new_substitute, number_of, reverse_of, reverses_at, reverses_in, substitute_at, substitute_of, substituted, substitutes}
+use Rattle.postscript_layout_write.specs.Reverses.{ahead_at, if_some, new_substitute, number_of, reverse_of, reverses_at, reverses_in, substitute_at, substitute_of, substitutes}
 use Rattle.postscript_layout_write.specs.Rules.{part_at}
 use Rattle.postscript_layout_write.specs.Sequences.{Context, can_apply, covers, if_applies}
 use Rattle.postscript_layout_write.specs.Text.{array_text, coverage_text, offsets_text, uint16}
@@ -22,7 +22,6 @@ use Rattle.postscript_layout_write.proofs.Firsts.{nat_cases}
 use Rattle.postscript_layout_write.proofs.Holding.{holds-array, holds-first, holds-in, holds-second, holds-word, length-array, length-uint16}
 use Rattle.postscript_layout_write.proofs.Reading.{Searched, any-default, length-offsets, missing, offsets-read, present, searched}
 use Rattle.postscript_layout_write.proofs.Renumbered.{number-small}
-use Rattle.postscript_layout_write.proofs.RuleRows.{below-more}
 
 -- glyphs with substitutes, and the substitutes, by a function
 abbrev keys : (ℕ → Option ℕ) → ℕ → List ℕ

@@ -7,7 +7,7 @@ use Rattle.postscript_layout_write.specs.Pairs.{lookup_at}
 use Rattle.postscript_layout_write.specs.Rules.{is_kept, type_at}
 use Rattle.postscript_layout_write.specs.Substituting.{is_chosen, takes_flag}
 
--- whether the lookup at an offset has a type and a flag with which rules or contexts are kept
+-- whether the lookup at an offset has a type and a flag with which rules, contexts or reverse chaining subtables are kept
 abbrev pub can_keep : (whole : Bool) → List ℕ → (lookup : ℕ) → Bool
 can_keep whole gsub lookup =
     ((is_kept (type_at gsub lookup) || is_contextual gsub lookup) || (type_at gsub lookup == 8)) && takes_flag whole (word gsub (lookup + 2))

@@ -1,6 +1,6 @@
 -- Reverse chaining substitutions (OpenType 1.9, "GSUB - Glyph Substitution Table", "Lookup type 8 subtable: reverse chaining contextual single substitution";
 -- ISO/IEC 14496-22, 6.3.4). A subtable has a context with one position of input, and a substitute for each glyph of that position.
-use Rattle.std.specs.Prelude.{ℕ, Bool, ◌+◌, ◌*◌, ◌==◌, List, [], ◌∷◌, Option, None, Some, is_some, length, nat_lt, slice_index, if◌then◌else◌}
+use Rattle.std.specs.Prelude.{ℕ, ◌+◌, ◌*◌, ◌==◌, List, [], ◌∷◌, Option, None, Some, is_some, length, nat_lt, slice_index, if◌then◌else◌}
 use Rattle.postscript_layout.specs.Numbers.{word}
 use Rattle.postscript_layout.specs.Substitutions.{coverage_of, reverse_offset}
 use Rattle.postscript_layout_write.specs.Contexts.{sets_at}
@@ -9,7 +9,7 @@ use Rattle.postscript_layout_write.specs.Pairs.{lookup_at}
 use Rattle.postscript_layout_write.specs.Ranges.{coverage_index}
 use Rattle.postscript_layout_write.specs.Renumbering.{new_number}
 use Rattle.postscript_layout_write.specs.Rules.{part_at, type_of}
-use Rattle.postscript_layout_write.specs.Sequences.{Context, if_applies, kept_by}
+use Rattle.postscript_layout_write.specs.Sequences.{Context, if_applies}
 
 -- the number of lookahead tables is after the coverage tables of the backtrack, and the number of substitutes after those of the lookahead
 abbrev pub ahead_at : List ℕ → (subtable : ℕ) → ℕ
@@ -45,7 +45,7 @@ substituted gsub kept subtable = all_below (λ k. if is_some (new_substitute gsu
 abbrev pub substitutes : (gsub kept : List ℕ) → (subtable : ℕ) → List ℕ
 substitutes gsub kept subtable = all_below (λ k. if_some (new_substitute gsub kept subtable k)) (length kept)
 
--- the context of a subtable; the substitutes of the glyphs of its input are in the place of actions
+-- the context of a subtable; instead of actions it has the substitute of each glyph of its input, in the same order
 abbrev pub reverse_of : (gsub kept : List ℕ) → (subtable : ℕ) → Context
 reverse_of gsub kept subtable = record {
   before = sets_at gsub kept subtable (subtable + 6) (word gsub (subtable + 4));

@@ -1,4 +1,4 @@
-use Rattle.std.proofs.Common.{◌+◌, ◌∷◌, ◌∙◌, [], sym, subst, ℕ, List}
+use Rattle.std.proofs.Common.{◌+◌, ◌∷◌, ◌∙◌, [], subst, ℕ, List}
 use Rattle.postscript_layout.specs.Numbers.{word}
 use Rattle.postscript_layout_write.specs.Contexts.{sets_at}
 use Rattle.postscript_layout_write.specs.Coverages.{IsPart}

@@ -1,4 +1,4 @@
-use Rattle.std.proofs.Common.{◌≡◌, ◌<◌, refl, sym, subst, ℕ, List, length, arith, rules}
+use Rattle.std.proofs.Common.{◌≡◌, ◌<◌, refl, sym, subst, ℕ, arith, rules}
 use Rattle.std.specs.Prelude.{IfSome, None, Option, Some}
 use Rattle.postscript_layout_write.specs.Renumbering.{new_number}
 use Rattle.postscript_layout_write.proofs.Renumbered.{number-small}

@@ -1,4 +1,4 @@
-use Rattle.std.proofs.Common.{◌≡◌, ◌∙◌, [], sym, subst, true, Bool}
+use Rattle.std.proofs.Common.{◌∙◌, [], sym, subst, true, Bool}
 use Rattle.std.specs.Prelude.{if◌then◌else◌}
 use Rattle.std.proofs.lemmas.Bool.{eq-eqb}
 use Rattle.postscript_layout.specs.Numbers.{word}
