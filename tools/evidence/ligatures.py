@@ -9,7 +9,7 @@ table, and fonts without GSUB, are skipped. `psotf subset` writes each font seve
 Latin-1, and with Vietnamese, Hebrew, Devanagari and Arabic letters, if the font has them; each with the features that it keeps by default,
 and with all features. The whole font and its subset then shape the same lines of these characters, drawn at random from SEED.
 
-A subset does not keep reverse chaining, and lookups with classes or sets of marks if GDEF has no glyph classes. So the features that name such a lookup, directly or by contexts, or that were not chosen, are turned off. Each list of LINES lines is
+A subset does not keep contexts of unknown formats, and lookups with classes or sets of marks if GDEF has no glyph classes. So the features that name such a lookup, directly or by contexts, or that were not chosen, are turned off. Each list of LINES lines is
 shaped with the other features as they are by default, with all of them on, with some of them on, and from right to left. Glyphs must have the
 same names, and clusters, advances and offsets must be the same. `psotf` must name the dropped lookups that fontTools finds. Fonts with a
 required feature that is not kept are only counted. `ots-sanitize` must accept the subset if it accepts the font. If `psotf` says that
@@ -86,7 +86,7 @@ def has_classes(font):
 
 def kept_lookups(font, tag):
     """Returns whether each lookup is kept, if it is chosen. A lookup without subtables has nothing to lose."""
-    types = (1, 2, 3, 4) if tag == "GSUB" else (1, 2, 3, 4, 5, 6)
+    types = (1, 2, 3, 4, 8) if tag == "GSUB" else (1, 2, 3, 4, 5, 6)
     flags = has_classes(font)
     return [
         not one.SubTable or ((type_of(one, EXTENSION[tag]) in types or is_contextual(one, tag)) and (flags or one.LookupFlag < 16))

@@ -96,6 +96,29 @@ const ROWS: &[Row] = &[
 
 const RULES: &[Row] = &[
     Row {
+        what: "in reverse: 1 to 6 after 6 and before 5 or 6, and not 2 to 5 or 5 to 7",
+        old: &[
+            1, 4, 8, 0, 1, 8, 1, 20, 1, 30, 1, 38, 3, 6, 5, 7, 1, 3, 1, 2, 5, 1, 2, 2, 6, 2, 1, 4,
+            6, 0,
+        ],
+        new: &[
+            1, 4, 8, 0, 1, 8, 1, 16, 1, 22, 1, 28, 1, 2, 1, 1, 0, 1, 1, 2, 1, 2, 1, 2,
+        ],
+    },
+    Row {
+        what: "in reverse, in extensions: 6 to 5, and not 1 to 6 after 2",
+        old: &[
+            1, 4, 7, 0, 2, 10, 18, 1, 8, 0, 16, 1, 8, 0, 34, 1, 14, 1, 20, 0, 1, 6, 1, 1, 1, 1, 1,
+            2, 1, 12, 0, 0, 1, 5, 1, 1, 6,
+        ],
+        new: &[1, 4, 8, 0, 1, 8, 1, 12, 0, 0, 1, 1, 1, 1, 2],
+    },
+    Row {
+        what: "in reverse: not 1 to 7",
+        old: &[1, 4, 8, 0, 1, 8, 1, 12, 0, 0, 1, 7, 1, 1, 1],
+        new: &[1, 4, 8, 0, 0],
+    },
+    Row {
         what: "a delta: 1 to 5, and not 2 to 6",
         old: &[1, 4, 1, 0, 1, 8, 1, 6, 4, 1, 2, 1, 2],
         new: &[1, 4, 1, 0, 1, 8, 2, 8, 1, 1, 1, 1, 0],
@@ -238,6 +261,11 @@ const RULES: &[Row] = &[
 
 /// Lookups with flags above 15, as they are with whole flags.
 const WHOLE: &[Row] = &[
+    Row {
+        what: "set 3 of marks, in reverse: 1 to 5",
+        old: &[1, 4, 8, 24, 1, 10, 3, 1, 12, 0, 0, 1, 5, 1, 1, 1],
+        new: &[1, 4, 8, 24, 1, 10, 3, 1, 12, 0, 0, 1, 1, 1, 1, 0],
+    },
     Row {
         what: "set 3 of marks: 1 to 5",
         old: &[1, 4, 1, 16, 1, 10, 3, 2, 8, 1, 5, 1, 1, 1],

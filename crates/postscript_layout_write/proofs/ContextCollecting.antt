@@ -7,7 +7,7 @@ use Rattle.std.proofs.lemmas.List.FromFn.{map-range_with_len_more}
 use Rattle.postscript_layout.specs.Numbers.{word}
 use Rattle.postscript_layout_write.specs.Contexts.{sets_at}
 use Rattle.postscript_layout_write.specs.Sequences.{Context, all_some, can_apply, covered_of, if_applies, is_some_glyph}
-use Rattle.postscript_layout_write.specs.Coverages.{AddsChained, AddsContexts, AddsSets, Fits, HasChained, HasContext, HasCoverage, HaveContexts, HaveCoverages, IsMade, IsPart, PutsChained, PutsContext, base_of, chained_text, context_text, no_context}
+use Rattle.postscript_layout_write.specs.Coverages.{AddsChained, AddsContexts, AddsSets, Fits, FitsReverse, HasChained, HasContext, HasCoverage, HasEither, HasReverse, HaveContexts, HaveCoverages, IsMade, IsPart, PutsChained, PutsContext, PutsReverse, base_of, chained_text, context_text, no_context, reverse_base, reverse_text}
 use Rattle.postscript_layout_write.specs.Holds.{Holds}
 use Rattle.postscript_layout_write.specs.Labels.{having_at}
 use Rattle.postscript_layout_write.specs.RuleSets.{Begins}
@@ -135,28 +135,29 @@ applies-same context made is =
     ∙ ap (λ (b : Bool). (all_some context.before && b) && made.after.all_some) is.input.some
     ∙ ap (λ (b : Bool). (all_some context.before && all_some context.input) && b) is.after.some
 
-pub adds-nothing : (old : Contexts) → AddsContexts [] old old
-adds-nothing old = record {
-  have = λ contexts has. subst (λ (xs : List Context). HaveContexts xs old.offsets.items old.bytes.items) (sym (append-nil contexts)) has;
-  more = begins-same old.bytes.items;
-}
+module _ {reverse : Bool} where
+  pub adds-nothing : (old : Contexts) → AddsContexts reverse [] old old
+  adds-nothing old = record {
+    have = λ contexts has. subst (λ (xs : List Context). HaveContexts reverse xs old.offsets.items old.bytes.items) (sym (append-nil contexts)) has;
+    more = begins-same old.bytes.items;
+  }
 
-pub adds-not : (context : Context) (old : Contexts) → can_apply context ≡ false → AddsContexts (if_applies context) old old
-adds-not context old never = subst (λ (b : Bool). AddsContexts (if b then context ∷ [] else []) old old) (sym never) (adds-nothing old)
+  pub adds-not : (context : Context) (old : Contexts) → can_apply context ≡ false → AddsContexts reverse (if_applies context) old old
+  adds-not context old never = subst (λ (b : Bool). AddsContexts reverse (if b then context ∷ [] else []) old old) (sym never) (adds-nothing old)
 
-pub adds-if : (context : Context) (old new : Contexts) → can_apply context ≡ true → AddsContexts (context ∷ []) old new → AddsContexts (if_applies context) old new
-adds-if context old new applies adds = subst (λ (b : Bool). AddsContexts (if b then context ∷ [] else []) old new) (sym applies) adds
+  pub adds-if : (context : Context) (old new : Contexts) → can_apply context ≡ true → AddsContexts reverse (context ∷ []) old new → AddsContexts reverse (if_applies context) old new
+  adds-if context old new applies adds = subst (λ (b : Bool). AddsContexts reverse (if b then context ∷ [] else []) old new) (sym applies) adds
 
-pub adds-then : (a b : List Context) (x y z : Contexts) → AddsContexts a x y → AddsContexts b y z → AddsContexts (a ++ b) x z
-adds-then a b x y z p q = record {
-  have = λ contexts has. subst (λ (xs : List Context). HaveContexts xs z.offsets.items z.bytes.items) (append_assoc contexts a b)
-      (q.have (contexts ++ a) (p.have contexts has));
-  more = begins-trans x.bytes.items y.bytes.items z.bytes.items p.more q.more;
-}
+  pub adds-then : (a b : List Context) (x y z : Contexts) → AddsContexts reverse a x y → AddsContexts reverse b y z → AddsContexts reverse (a ++ b) x z
+  adds-then a b x y z p q = record {
+    have = λ contexts has. subst (λ (xs : List Context). HaveContexts reverse xs z.offsets.items z.bytes.items) (append_assoc contexts a b)
+        (q.have (contexts ++ a) (p.have contexts has));
+    more = begins-trans x.bytes.items y.bytes.items z.bytes.items p.more q.more;
+  }
 
--- the contexts of one part more
-pub adds-below : (f : ℕ → List Context) (k : ℕ) (x y z : Contexts) → AddsContexts (all_below f k) x y → AddsContexts (f k) y z → AddsContexts (all_below f (k + 1)) x z
-adds-below f k x y z p q = subst (λ (xs : List Context). AddsContexts xs x z) (sym (below-more f k)) (adds-then (all_below f k) (f k) x y z p q)
+  -- the contexts of one part more
+  pub adds-below : (f : ℕ → List Context) (k : ℕ) (x y z : Contexts) → AddsContexts reverse (all_below f k) x y → AddsContexts reverse (f k) y z → AddsContexts reverse (all_below f (k + 1)) x z
+  adds-below f k x y z p q = subst (λ (xs : List Context). AddsContexts reverse xs x z) (sym (below-more f k)) (adds-then (all_below f k) (f k) x y z p q)
 
 -- contexts
 pub context-on : (context : Context) (bytes more : List ℕ) (offset : ℕ) → HasContext context bytes offset → HasContext context (bytes ++ more) offset
@@ -196,27 +197,69 @@ context-made context made count old new is puts =
           (holds-last old _));
     }
 
-pub contexts-more : (contexts : List Context) (context : Context) (offsets bytes new : List ℕ) → HaveContexts contexts offsets bytes → Begins bytes new →
-    HasContext context new (length bytes) → HaveContexts (contexts ++ context ∷ []) (offsets ++ length bytes ∷ []) new
-contexts-more contexts context offsets bytes new h b one = record {
-  same = (let same = h.same in omega (arith, same, length-append contexts (context ∷ []), length-append offsets (length bytes ∷ [])));
-  each = λ k less. elim (nat_cases k (length contexts)) [
-    | inl early ↦ subst (λ (c : Context). HasContext c new (get_or (offsets ++ length bytes ∷ []) k 0)) (sym (get_or_append_left contexts (context ∷ []) no_context k early))
-        (subst (λ n. HasContext (get_or contexts k no_context) new n)
-        (sym (get_or_append_left offsets (length bytes ∷ []) 0 k (let same = h.same in omega (arith, same, early))))
-        (subst (λ (xs : List ℕ). HasContext (get_or contexts k no_context) xs (get_or offsets k 0)) (sym b.is)
-        (context-on (get_or contexts k no_context) bytes b.more (get_or offsets k 0) (h.each k early))))
-    | inr late ↦ (let last = last-index contexts context k less late in
-        subst (λ (c : Context). HasContext c new (get_or (offsets ++ length bytes ∷ []) k 0)) (sym (get_or_push contexts context no_context k last))
-        (subst (λ n. HasContext context new n) (sym (get_or_push offsets (length bytes) 0 k (let same = h.same in omega (arith, same, last)))) one))
-  ];
+reverse-on : (context : Context) (bytes more : List ℕ) (offset : ℕ) → HasReverse context bytes offset → HasReverse context (bytes ++ more) offset
+reverse-on context bytes more offset h = record {
+  before = h.before;
+  input = h.input;
+  after = h.after;
+  tables = h.tables;
+  has_before = h.has_before;
+  has_input = h.has_input;
+  has_after = h.has_after;
+  fits = h.fits;
+  small = h.small;
+  there = holds-on more h.there;
 }
 
-pub contexts-none : (offsets bytes : List ℕ) → offsets ≡ [] → HaveContexts [] offsets bytes
-contexts-none offsets bytes empty = record {
-  same = ap length empty;
-  each = λ k less. absurd (omega (arith, less));
-}
+either-on : (reverse : Bool) (context : Context) (bytes more : List ℕ) (offset : ℕ) → HasEither reverse context bytes offset →
+    HasEither reverse context (bytes ++ more) offset
+either-on false context bytes more offset h = context-on context bytes more offset h
+either-on true context bytes more offset h = reverse-on context bytes more offset h
+
+pub reverse-made : (context : Context) (made : Made) (old new : List ℕ) → IsMade context made → PutsReverse made old new → HasReverse context new (length old)
+reverse-made context made old new is puts =
+    let acts = is.actions in
+    let a = made.before.offsets.items in
+    let b = made.input.offsets.items in
+    let d = made.after.offsets.items in
+    let tables = made.tables.bytes.items in
+    record {
+      before = a;
+      input = b;
+      after = d;
+      tables = tables;
+      has_before = is.before.have;
+      has_input = is.input.have;
+      has_after = is.after.have;
+      fits = subst (λ (xs : List ℕ). FitsReverse a b d xs) acts puts.fits;
+      small = is.small;
+      there = subst (λ (xs : List ℕ). Holds (reverse_text (reverse_base a d xs) a b d xs tables) new (length old)) acts
+          (subst (λ (xs : List ℕ). Holds (reverse_text (reverse_base a d made.actions.items) a b d made.actions.items tables) xs (length old)) (sym puts.text)
+          (holds-last old _));
+    }
+
+module _ {reverse : Bool} where
+  pub contexts-more : (contexts : List Context) (context : Context) (offsets bytes new : List ℕ) → HaveContexts reverse contexts offsets bytes → Begins bytes new →
+      HasEither reverse context new (length bytes) → HaveContexts reverse (contexts ++ context ∷ []) (offsets ++ length bytes ∷ []) new
+  contexts-more contexts context offsets bytes new h b one = record {
+    same = (let same = h.same in omega (arith, same, length-append contexts (context ∷ []), length-append offsets (length bytes ∷ [])));
+    each = λ k less. elim (nat_cases k (length contexts)) [
+      | inl early ↦ subst (λ (c : Context). HasEither reverse c new (get_or (offsets ++ length bytes ∷ []) k 0)) (sym (get_or_append_left contexts (context ∷ []) no_context k early))
+          (subst (λ n. HasEither reverse (get_or contexts k no_context) new n)
+          (sym (get_or_append_left offsets (length bytes ∷ []) 0 k (let same = h.same in omega (arith, same, early))))
+          (subst (λ (xs : List ℕ). HasEither reverse (get_or contexts k no_context) xs (get_or offsets k 0)) (sym b.is)
+          (either-on reverse (get_or contexts k no_context) bytes b.more (get_or offsets k 0) (h.each k early))))
+      | inr late ↦ (let last = last-index contexts context k less late in
+          subst (λ (c : Context). HasEither reverse c new (get_or (offsets ++ length bytes ∷ []) k 0)) (sym (get_or_push contexts context no_context k last))
+          (subst (λ n. HasEither reverse context new n) (sym (get_or_push offsets (length bytes) 0 k (let same = h.same in omega (arith, same, last)))) one))
+    ];
+  }
+
+  pub contexts-none : (offsets bytes : List ℕ) → offsets ≡ [] → HaveContexts reverse [] offsets bytes
+  contexts-none offsets bytes empty = record {
+    same = ap length empty;
+    each = λ k less. absurd (omega (arith, less));
+  }
 
 pub puts-begins : (made : Made) (count : ℕ) (old new : List ℕ) → PutsContext made count old new → Begins old new
 puts-begins made count old new puts = record { more = _; is = puts.text }
@@ -225,54 +268,58 @@ puts-begins made count old new puts = record { more = _; is = puts.text }
 pub all-fit : (xs : List ℕ) → ((k : ℕ) → get_or xs k 0 < 65536) → All (λ n. n < 65536) xs
 all-fit xs fits k d less = subst (λ n. n < 65536) (any-default xs k 0 d less) (fits k)
 
--- a lookup of contexts with more bytes after it, in other bytes, and as it is appended
-pub chained-on : (type flag set : ℕ) (contexts : List Context) (bytes more : List ℕ) (at : ℕ) → HasChained type flag set contexts bytes at →
-    HasChained type flag set contexts (bytes ++ more) at
-chained-on type flag set contexts bytes more at h = record {
-  offsets = h.offsets;
-  subtables = h.subtables;
-  have = h.have;
-  few = h.few;
-  fit = h.fit;
-  small = h.small;
-  set_small = h.set_small;
-  begins = h.begins;
-  type_small = h.type_small;
-  there = holds-on more h.there;
-}
+pub reverse-begins : (made : Made) (old new : List ℕ) → PutsReverse made old new → Begins old new
+reverse-begins made old new puts = record { more = _; is = puts.text }
 
-pub chained-in : (type flag set : ℕ) (contexts : List Context) (t bytes : List ℕ) (at offset : ℕ) → Holds bytes t at →
-    HasChained type flag set contexts bytes offset → HasChained type flag set contexts t (at + offset)
-chained-in type flag set contexts t bytes at offset held h = record {
-  offsets = h.offsets;
-  subtables = h.subtables;
-  have = h.have;
-  few = h.few;
-  fit = h.fit;
-  small = h.small;
-  set_small = h.set_small;
-  begins = h.begins;
-  type_small = h.type_small;
-  there = holds-in held h.there;
-}
+module _ {reverse : Bool} where
+  -- a lookup of contexts with more bytes after it, in other bytes, and as it is appended
+  pub chained-on : (type flag set : ℕ) (contexts : List Context) (bytes more : List ℕ) (at : ℕ) → HasChained reverse type flag set contexts bytes at →
+      HasChained reverse type flag set contexts (bytes ++ more) at
+  chained-on type flag set contexts bytes more at h = record {
+    offsets = h.offsets;
+    subtables = h.subtables;
+    have = h.have;
+    few = h.few;
+    fit = h.fit;
+    small = h.small;
+    set_small = h.set_small;
+    begins = h.begins;
+    type_small = h.type_small;
+    there = holds-on more h.there;
+  }
 
-pub chained-added : (type flag set : ℕ) (contexts : List Context) (offsets subtables old new : List ℕ) → type < 65536 → set < 65536 →
-    HaveContexts contexts offsets subtables → Holds (mark_set_text flag set) subtables 0 → PutsChained type flag offsets subtables old new →
-    AddsChained type flag set contexts old new
-chained-added type flag set contexts offsets subtables old new type-small set-small have begins puts = record {
-  more = chained_text type flag offsets subtables;
-  bytes = puts.text;
-  has = record {
-    offsets = offsets;
-    subtables = subtables;
-    have = have;
-    few = puts.few;
-    fit = puts.fit;
-    small = puts.small;
-    set_small = set-small;
-    begins = begins;
-    type_small = type-small;
-    there = subst (λ (xs : List ℕ). Holds (chained_text type flag offsets subtables) xs (length old)) (sym puts.text)
-        (holds-last old (chained_text type flag offsets subtables));
-  };
-}
+  pub chained-in : (type flag set : ℕ) (contexts : List Context) (t bytes : List ℕ) (at offset : ℕ) → Holds bytes t at →
+      HasChained reverse type flag set contexts bytes offset → HasChained reverse type flag set contexts t (at + offset)
+  chained-in type flag set contexts t bytes at offset held h = record {
+    offsets = h.offsets;
+    subtables = h.subtables;
+    have = h.have;
+    few = h.few;
+    fit = h.fit;
+    small = h.small;
+    set_small = h.set_small;
+    begins = h.begins;
+    type_small = h.type_small;
+    there = holds-in held h.there;
+  }
+
+  pub chained-added : (type flag set : ℕ) (contexts : List Context) (offsets subtables old new : List ℕ) → type < 65536 → set < 65536 →
+      HaveContexts reverse contexts offsets subtables → Holds (mark_set_text flag set) subtables 0 → PutsChained type flag offsets subtables old new →
+      AddsChained reverse type flag set contexts old new
+  chained-added type flag set contexts offsets subtables old new type-small set-small have begins puts = record {
+    more = chained_text type flag offsets subtables;
+    bytes = puts.text;
+    has = record {
+      offsets = offsets;
+      subtables = subtables;
+      have = have;
+      few = puts.few;
+      fit = puts.fit;
+      small = puts.small;
+      set_small = set-small;
+      begins = begins;
+      type_small = type-small;
+      there = subst (λ (xs : List ℕ). Holds (chained_text type flag offsets subtables) xs (length old)) (sym puts.text)
+          (holds-last old (chained_text type flag offsets subtables));
+    };
+  }

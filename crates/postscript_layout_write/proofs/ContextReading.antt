@@ -7,8 +7,6 @@ use Rattle.std.proofs.lemmas.List.{ext_get_or, take_all, take_more}
 use Rattle.std.proofs.lemmas.List.Elements.{All-append, All-cons, All-nil, Contains-append_left, Contains-push, filter_passes}
 use Rattle.std.proofs.lemmas.List.FromFn.{get_or-map-range_with_len, get_or-range_with_len, length-map-range_with_len, length-range_with_len}
 use Rattle.postscript_layout.specs.Numbers.{word, long, words}
-use Rattle.postscript_layout.specs.Substitutions.{coverage_of}
-use Rattle.postscript_layout.specs.Substitutions.{set_of as rule_set}
 use Rattle.postscript_layout_write.specs.Contexts.{actions_at, after_at, all_have_formats, context_of, contexts_at, contexts_in, has_format, input_at, parts_of, sets_at}
 use Rattle.postscript_layout_write.specs.Sequences.{Context, can_apply, covered_of, covers, if_applies, kept_by}
 use Rattle.postscript_layout_write.specs.declared.contexts.Parts.{Parts}
@@ -16,7 +14,7 @@ use Rattle.postscript_layout_write.specs.declared.labels.Role.{Role}
 use Rattle.postscript_layout_write.specs.declared.labels.Role.TheVariants.{After, Before, Input, Start}
 use Rattle.postscript_layout_write.specs.ContextRules.{by_rules, is_label, label_of, labelled, labelled_at, rule_context, rule_of, rule_parts, sets_of}
 use Rattle.postscript_layout_write.specs.ContextRules.{rules_in as context_rules, set_of as context_set}
-use Rattle.postscript_layout_write.specs.Coverages.{HasChained, HasContext, HasCoverage, HaveCoverages, base_of, chained_text, context_text, counted_text, no_context}
+use Rattle.postscript_layout_write.specs.Coverages.{HasChained, HasContext, HasCoverage, HasEither, HasReverse, HaveCoverages, base_of, chained_text, context_text, counted_text, no_context}
 use Rattle.postscript_layout_write.specs.First.{all_below, first_some}
 use Rattle.postscript_layout_write.specs.Flags.{set_of, uses_set}
 use Rattle.postscript_layout_write.specs.Holds.{Holds}
@@ -24,7 +22,7 @@ use Rattle.postscript_layout_write.specs.Marks.{type_at, typed_at}
 use Rattle.postscript_layout_write.specs.PositionContexts.{contexts_by, is_context}
 use Rattle.postscript_layout_write.specs.PositionContexts.{all_have_formats as position_formats, contexts_at as positions_at}
 use Rattle.postscript_layout_write.specs.Ranges.{coverage_index, index_in, range_of}
-use Rattle.postscript_layout_write.specs.Rules.{or_none, part_at, rules_covered, rules_in, rules_of_several, rules_of_type}
+use Rattle.postscript_layout_write.specs.Rules.{part_at}
 use Rattle.postscript_layout_write.specs.Sets.{AreOffsets}
 use Rattle.postscript_layout_write.specs.Text.{array_text, coverage_text, offsets_text, uint16}
 use Rattle.postscript_layout_write.proofs.Covering.{filter-more, filter-same}
@@ -53,7 +51,7 @@ passes-there p (suc m) k less passes =
 
 -- the glyphs of a coverage table
 module _ (t : List ℕ) (c : ℕ) (set : List ℕ) (has : HasCoverage set t c) where
-  index-read : (x : ℕ) → Searched set x (λ i. i) (coverage_index t c x)
+  pub index-read : (x : ℕ) → Searched set x (λ i. i) (coverage_index t c x)
   unfolding coverage_text
   index-read x =
       let h = has.there in
@@ -113,16 +111,16 @@ sets-read t s base n array sets offsets tables count many have held places kept 
     }) n (kept k within)))
 
 -- offsets after their number
-length-counted : (base : ℕ) (offsets : List ℕ) → length (counted_text base offsets) ≡ 2 + length offsets * 2
+pub length-counted : (base : ℕ) (offsets : List ℕ) → length (counted_text base offsets) ≡ 2 + length offsets * 2
 unfolding counted_text
 length-counted base offsets =
     omega (arith, length-append (uint16 (length offsets)) (offsets_text base offsets), length-uint16 (length offsets), length-offsets base offsets)
 
-record IsCounted (t : List ℕ) (at base : ℕ) (offsets : List ℕ) : Type 0 where
-  many : word t at ≡ length offsets
-  each : (k : ℕ) → k < length offsets → word t (at + 2 + k * 2) ≡ base + get_or offsets k 0
+pub record IsCounted (t : List ℕ) (at base : ℕ) (offsets : List ℕ) : Type 0 where
+  pub many : word t at ≡ length offsets
+  pub each : (k : ℕ) → k < length offsets → word t (at + 2 + k * 2) ≡ base + get_or offsets k 0
 
-counted-read : (t : List ℕ) (at base : ℕ) (offsets : List ℕ) → length offsets < 65536 → AreOffsets base offsets → Holds (counted_text base offsets) t at →
+pub counted-read : (t : List ℕ) (at base : ℕ) (offsets : List ℕ) → length offsets < 65536 → AreOffsets base offsets → Holds (counted_text base offsets) t at →
     IsCounted t at base offsets
 unfolding counted_text
 counted-read t at base offsets few fit h = record {
@@ -224,13 +222,48 @@ module _ (t : List ℕ) (s n : ℕ) (context : Context) (has : HasContext contex
       ∙ ap (λ m. words t (s + 8 + (length has.before + length has.input + length has.after) * 2 + 2) (m * 2)) r.count-read
       ∙ ap (λ p. words t p (has.count * 2)) (omega arith) ∙ r.actions-read)
 
--- a subtable of format 3 has no rules of other types
-no-rules-in : (t : List ℕ) (s x : ℕ) → word t s ≡ 3 → rules_in t 6 (Some s) x ≡ None
-no-rules-in t s x three = by (coverage_index t (coverage_of t s) x)
-  where
-    by : (index : Option ℕ) → rules_covered t 6 s index x ≡ None
-    by None = refl
-    by (Some i) = ap (λ m. rules_of_several t (if (m == 1) && nat_lt i (word t (s + 4)) then Some (rule_set t s i) else None)) three
+context-in : (context : Context) (t bytes : List ℕ) (at offset : ℕ) → Holds bytes t at → HasContext context bytes offset → HasContext context t (at + offset)
+context-in context t bytes at offset h c = record {
+  before = c.before;
+  input = c.input;
+  after = c.after;
+  count = c.count;
+  tables = c.tables;
+  has_before = c.has_before;
+  has_input = c.has_input;
+  has_after = c.has_after;
+  fits = c.fits;
+  small = c.small;
+  there = holds-in h c.there;
+}
+
+reverse-in : (context : Context) (t bytes : List ℕ) (at offset : ℕ) → Holds bytes t at → HasReverse context bytes offset → HasReverse context t (at + offset)
+reverse-in context t bytes at offset h c = record {
+  before = c.before;
+  input = c.input;
+  after = c.after;
+  tables = c.tables;
+  has_before = c.has_before;
+  has_input = c.has_input;
+  has_after = c.has_after;
+  fits = c.fits;
+  small = c.small;
+  there = holds-in h c.there;
+}
+
+either-in : (reverse : Bool) (context : Context) (t bytes : List ℕ) (at offset : ℕ) → Holds bytes t at → HasEither reverse context bytes offset →
+    HasEither reverse context t (at + offset)
+either-in false context t bytes at offset h c = context-in context t bytes at offset h c
+either-in true context t bytes at offset h c = reverse-in context t bytes at offset h c
+
+-- lists of one item each, one after the other
+pub all-one : {X : Type 0} (d : X) (xs : List X) (f : ℕ → List X) → ((k : ℕ) → k < length xs → f k ≡ get_or xs k d ∷ []) → (m : ℕ) → m ≤ length xs →
+    all_below f m ≡ take m xs
+all-one d xs f each zero less = refl
+all-one d xs f each (suc m) less =
+    let within : m < length xs = omega (arith, less) in
+    ap (all_below f) (sym (add-one m)) ∙ below-more f m ∙ ap (λ ys. ys ++ f m) (all-one d xs f each m (omega (arith, less)))
+    ∙ ap (λ ys. take m xs ++ ys) (each m within) ∙ sym (take_more xs m d within) ∙ ap (λ k. take k xs) (add-one m)
 
 -- a lookup of chained contexts
 record IsHead (t : List ℕ) (l type flag : ℕ) (offsets : List ℕ) : Type 0 where
@@ -239,7 +272,7 @@ record IsHead (t : List ℕ) (l type flag : ℕ) (offsets : List ℕ) : Type 0 w
   count-is : word t (l + 4) ≡ length offsets
   offset-is : (k : ℕ) → k < length offsets → word t (l + 6 + k * 2) ≡ 6 + length offsets * 2 + get_or offsets k 0
 
-module _ (t : List ℕ) (l type flag set : ℕ) (contexts : List Context) (has : HasChained type flag set contexts t l) where
+module _ {reverse : Bool} (t : List ℕ) (l type flag set : ℕ) (contexts : List Context) (has : HasChained reverse type flag set contexts t l) where
   head : IsHead t l type flag has.offsets
   unfolding chained_text
   head =
@@ -276,26 +309,18 @@ module _ (t : List ℕ) (l type flag set : ℕ) (contexts : List Context) (has :
   unfolding place
   part-word k less = let at = head.offset-is k less in omega (arith, at)
 
-  context-there : (k : ℕ) → k < length has.offsets → HasContext (get_or contexts k no_context) t (place k)
+  pub part-read : (k : ℕ) → k < length has.offsets → part_at t l type k ≡ Some (place k)
+  part-read k less =
+      let part = l + word t (l + 6 + k * 2) in
+      ap (λ (b : Bool). if b then Some part else (if (word t l == 7) && (word t (part + 2) == type) then Some (part + long t (part + 4)) else None))
+      (eq-eqb (word t l) type head.type-is)
+      ∙ ap (λ m. Some m) (part-word k less)
+
+  pub context-there : (k : ℕ) → k < length has.offsets → HasEither reverse (get_or contexts k no_context) t (place k)
   unfolding place
   context-there k less = (let same = has.have.same in
-      context-in (get_or contexts k no_context) has.subtables (l + (6 + length has.offsets * 2)) (get_or has.offsets k 0) subtables-held
+      either-in reverse (get_or contexts k no_context) t has.subtables (l + (6 + length has.offsets * 2)) (get_or has.offsets k 0) subtables-held
       (has.have.each k (omega (arith, less, same))))
-    where
-      context-in : (context : Context) (bytes : List ℕ) (at offset : ℕ) → Holds bytes t at → HasContext context bytes offset → HasContext context t (at + offset)
-      context-in context bytes at offset h c = record {
-        before = c.before;
-        input = c.input;
-        after = c.after;
-        count = c.count;
-        tables = c.tables;
-        has_before = c.has_before;
-        has_input = c.has_input;
-        has_after = c.has_after;
-        fits = c.fits;
-        small = c.small;
-        there = holds-in h c.there;
-      }
 
   pub type-read : word t l ≡ type
   type-read = head.type-is
@@ -312,73 +337,60 @@ module _ (t : List ℕ) (l type flag set : ℕ) (contexts : List Context) (has :
       let text : Holds (uint16 set) t (at + 0) = subst (λ (b : Bool). Holds (if b then uint16 set else []) t (at + 0)) uses (holds-in subtables-held has.begins) in
       ap (λ n. word t (l + 6 + n * 2)) head.count-is ∙ ap (word t) (omega arith) ∙ holds-word set has.set_small text
 
-  format-three : (k : ℕ) → k < length has.offsets → word t (place k) ≡ 3
-  format-three k less = format-read t (place k) 0 (get_or contexts k no_context) (context-there k less)
-
   -- the subtables, as a reader of the type finds them
-  module _ (part : ℕ → Option ℕ) (found : (k : ℕ) → k < length has.offsets → part k ≡ Some (place k)) where
-    pub format-there : (k : ℕ) → k < length has.offsets → has_format t (part k) ≡ true
-    format-there k less = ap (has_format t) (found k less) ∙ ap (λ w. nat_lt 0 w && nat_lt w 4) (format-three k less)
+  pub all-there : (f : ℕ → List Context) → ((k : ℕ) → k < length contexts → k < length has.offsets → f k ≡ get_or contexts k no_context ∷ []) →
+      all_below f (word t (l + 4)) ≡ contexts
+  all-there f each =
+      let same = has.have.same in
+      ap (all_below f) (head.count-is ∙ same)
+      ∙ all-one no_context contexts f (λ k less. each k less (omega (arith, less, same))) (length contexts) (omega arith)
+      ∙ take_all (length contexts) contexts (omega arith)
 
-    module _ (n : ℕ) (kept : (k : ℕ) → k < length contexts → IsKeptContext n (get_or contexts k no_context))
-        (apply : (k : ℕ) → k < length contexts → can_apply (get_or contexts k no_context) ≡ true) where
-      one-read : (k : ℕ) → k < length contexts → contexts_in t (range_with_len 0 n) 6 (part k) ≡ get_or contexts k no_context ∷ []
-      one-read k less =
-          let same = has.have.same in
-          let within : k < length has.offsets = omega (arith, less, same) in
-          let context = get_or contexts k no_context in
-          ap (contexts_in t (range_with_len 0 n) 6) (found k within)
-          ∙ ap (λ (b : Bool). if b then if_applies (context_of t (range_with_len 0 n) 6 (place k)) else by_rules t (range_with_len 0 n) 6 (place k))
-          (eq-eqb (word t (place k)) 3 (format-three k within))
-          ∙ ap if_applies (context-read t (place k) n context (context-there k within) (kept k less))
-          ∙ ap (λ (b : Bool). if b then context ∷ [] else []) (apply k less)
+module _ (t : List ℕ) (l type flag set : ℕ) (contexts : List Context) (has : HasChained false type flag set contexts t l) (part : ℕ → Option ℕ)
+    (found : (k : ℕ) → k < length has.offsets → part k ≡ Some (place t l type flag set contexts has k)) where
+  at : ℕ → ℕ
+  at k = place t l type flag set contexts has k
 
-      take-read : (k : ℕ) → k ≤ length contexts → all_below (λ j. contexts_in t (range_with_len 0 n) 6 (part j)) k ≡ take k contexts
-      take-read zero less = refl
-      take-read (suc m) less =
-          let within : m < length contexts = omega (arith, less) in
-          ap (all_below (λ j. contexts_in t (range_with_len 0 n) 6 (part j))) (sym (add-one m)) ∙ below-more (λ j. contexts_in t (range_with_len 0 n) 6 (part j)) m
-          ∙ ap (λ xs. xs ++ contexts_in t (range_with_len 0 n) 6 (part m)) (take-read m (omega (arith, less)))
-          ∙ ap (λ xs. take m contexts ++ xs) (one-read m within)
-          ∙ sym (take_more contexts m no_context within) ∙ ap (λ k. take k contexts) (add-one m)
+  format-three : (k : ℕ) → k < length has.offsets → word t (at k) ≡ 3
+  unfolding at
+  format-three k less = format-read t (at k) 0 (get_or contexts k no_context) (context-there t l type flag set contexts has k less)
 
-      pub all-read : all_below (λ j. contexts_in t (range_with_len 0 n) 6 (part j)) (word t (l + 4)) ≡ contexts
-      all-read =
-          let same = has.have.same in
-          ap (all_below (λ j. contexts_in t (range_with_len 0 n) 6 (part j))) (head.count-is ∙ same) ∙ take-read (length contexts) (omega arith)
-          ∙ take_all (length contexts) contexts (omega arith)
+  pub format-there : (k : ℕ) → k < length has.offsets → has_format t (part k) ≡ true
+  unfolding at
+  format-there k less = ap (has_format t) (found k less) ∙ ap (λ w. nat_lt 0 w && nat_lt w 4) (format-three k less)
+
+  module _ (n : ℕ) (kept : (k : ℕ) → k < length contexts → IsKeptContext n (get_or contexts k no_context))
+      (apply : (k : ℕ) → k < length contexts → can_apply (get_or contexts k no_context) ≡ true) where
+    one-read : (k : ℕ) → k < length contexts → k < length has.offsets → contexts_in t (range_with_len 0 n) 6 (part k) ≡ get_or contexts k no_context ∷ []
+    unfolding at
+    one-read k less within =
+        let context = get_or contexts k no_context in
+        ap (contexts_in t (range_with_len 0 n) 6) (found k within)
+        ∙ ap (λ (b : Bool). if b then if_applies (context_of t (range_with_len 0 n) 6 (at k)) else by_rules t (range_with_len 0 n) 6 (at k))
+        (eq-eqb (word t (at k)) 3 (format-three k within))
+        ∙ ap if_applies (context-read t (at k) n context (context-there t l type flag set contexts has k within) (kept k less))
+        ∙ ap (λ (b : Bool). if b then context ∷ [] else []) (apply k less)
+
+    pub all-read : all_below (λ j. contexts_in t (range_with_len 0 n) 6 (part j)) (word t (l + 4)) ≡ contexts
+    all-read = all-there t l type flag set contexts has (λ j. contexts_in t (range_with_len 0 n) 6 (part j)) one-read
 
 -- contexts of substitutions
-module _ (t : List ℕ) (l flag set : ℕ) (contexts : List Context) (has : HasChained 6 flag set contexts t l) where
-  part-read : (k : ℕ) → k < length has.offsets → part_at t l 6 k ≡ Some (place t l 6 flag set contexts has k)
-  part-read k less =
-      let part = l + word t (l + 6 + k * 2) in
-      ap (λ (b : Bool). if b then Some part else (if (word t l == 7) && (word t (part + 2) == 6) then Some (part + long t (part + 4)) else None))
-      (eq-eqb (word t l) 6 (type-read t l 6 flag set contexts has))
-      ∙ ap (λ m. Some m) (part-word t l 6 flag set contexts has k less)
-
+module _ (t : List ℕ) (l flag set : ℕ) (contexts : List Context) (has : HasChained false 6 flag set contexts t l) where
   sets-all : (m : ℕ) → m ≤ length has.offsets → all_have_formats t l 6 m ≡ true
   sets-all zero less = refl
   sets-all (suc m) less =
       ap (λ b. b && has_format t (part_at t l 6 m)) (sets-all m (omega (arith, less)))
-      ∙ format-there t l 6 flag set contexts has (part_at t l 6) part-read m (omega (arith, less))
+      ∙ format-there t l 6 flag set contexts has (part_at t l 6) (part-read t l 6 flag set contexts has) m (omega (arith, less))
 
   pub have-sets : all_have_formats t l 6 (word t (l + 4)) ≡ true
   have-sets = ap (all_have_formats t l 6) (many-read t l 6 flag set contexts has) ∙ sets-all (length has.offsets) (omega arith)
 
-  pub no-rules : (x : ℕ) → rules_of_type t l 6 x ≡ []
-  no-rules x = ap or_none (first-none (λ j. rules_in t 6 (part_at t l 6 j) x) (word t (l + 4))
-      (λ j less. (let count = many-read t l 6 flag set contexts has in
-      let within : j < length has.offsets = omega (arith, less, count) in
-      ap (λ p. rules_in t 6 p x) (part-read j within)
-      ∙ no-rules-in t (place t l 6 flag set contexts has j) x (format-three t l 6 flag set contexts has j within))))
-
   pub contexts-read : (n : ℕ) → ((k : ℕ) → k < length contexts → IsKeptContext n (get_or contexts k no_context)) →
       ((k : ℕ) → k < length contexts → can_apply (get_or contexts k no_context) ≡ true) → contexts_at t (range_with_len 0 n) l 6 ≡ contexts
-  contexts-read n kept apply = all-read t l 6 flag set contexts has (part_at t l 6) part-read n kept apply
+  contexts-read n kept apply = all-read t l 6 flag set contexts has (part_at t l 6) (part-read t l 6 flag set contexts has) n kept apply
 
 -- contexts of positions
-module _ (t : List ℕ) (l flag set : ℕ) (contexts : List Context) (has : HasChained 8 flag set contexts t l) where
+module _ (t : List ℕ) (l flag set : ℕ) (contexts : List Context) (has : HasChained false 8 flag set contexts t l) where
   typed-read : (k : ℕ) → k < length has.offsets → typed_at t l 8 k ≡ Some (place t l 8 flag set contexts has k)
   typed-read k less =
       let part = l + word t (l + 6 + k * 2) in
@@ -403,7 +415,7 @@ module _ (t : List ℕ) (l flag set : ℕ) (contexts : List Context) (has : HasC
       ∙ all-read t l 8 flag set contexts has (typed_at t l 8) typed-read n kept apply
 
 -- the contexts of an old lookup
-kept-sets : (kept : List ℕ) (f : ℕ → ℕ → Bool) (count : ℕ) → AreKeptSets (length kept) (map (λ p. kept_by kept (f p)) (range_with_len 0 count))
+pub kept-sets : (kept : List ℕ) (f : ℕ → ℕ → Bool) (count : ℕ) → AreKeptSets (length kept) (map (λ p. kept_by kept (f p)) (range_with_len 0 count))
 unfolding AreKeptSets
 kept-sets kept f count k less =
     let g = λ (p : ℕ). kept_by kept (f p) in
@@ -437,26 +449,30 @@ kept-rule gsub kept type s i parts =
       after = kept-sets kept (λ p. f After (word gsub (parts.after_at + p * 2))) parts.after;
     }
 
--- what holds of each context of a lookup, whose subtables are these
+-- what holds of each context of a lookup
+pub applying-if : (P : Context → Type 0) (context : Context) → P context → All (λ c. P c × (can_apply c ≡ true)) (if_applies context)
+applying-if P context is = by (can_apply context) refl
+  where
+    by : (b : Bool) → can_apply context ≡ b → All (λ c. P c × (can_apply c ≡ true)) (if b then context ∷ [] else [])
+    by true applies = All-cons (λ c. P c × (can_apply c ≡ true)) context [] (is, applies) (All-nil (λ c. P c × (can_apply c ≡ true)))
+    by false fails = All-nil (λ c. P c × (can_apply c ≡ true))
+
+pub all-of-each : (P : Context → Type 0) (f : ℕ → List Context) (count : ℕ) → ((k : ℕ) → All P (f k)) → All P (all_below f count)
+all-of-each P f zero each = All-nil P
+all-of-each P f (suc n) each = All-append P (all_below f n) (f n) (all-of-each P f n each) (each n)
+
+-- the subtables of the lookup are these
 module _ (gsub kept : List ℕ) (type : ℕ) (part : ℕ → Option ℕ) where
   IsGood : Context → Type 0
   IsGood context = IsKeptContext (length kept) context × (can_apply context ≡ true)
 
   good-if : (context : Context) → IsKeptContext (length kept) context → All IsGood (if_applies context)
   unfolding IsGood
-  good-if context kept-sets = by (can_apply context) refl
-    where
-      by : (b : Bool) → can_apply context ≡ b → All IsGood (if b then context ∷ [] else [])
-      by true applies = All-cons IsGood context [] (kept-sets, applies) (All-nil IsGood)
-      by false fails = All-nil IsGood
-
-  good-all : (f : ℕ → List Context) (count : ℕ) → ((k : ℕ) → All IsGood (f k)) → All IsGood (all_below f count)
-  good-all f zero each = All-nil IsGood
-  good-all f (suc n) each = All-append IsGood (all_below f n) (f n) (good-all f n each) (each n)
+  good-if context kept-sets = applying-if (IsKeptContext (length kept)) context kept-sets
 
   good-set : (s i : ℕ) (set : Option ℕ) → All IsGood (context_rules gsub kept type s i set)
   good-set s i None = All-nil IsGood
-  good-set s i (Some set) = good-all (λ r. if_applies (rule_context gsub kept type s i (rule_parts gsub type (rule_of gsub set r)))) (word gsub set)
+  good-set s i (Some set) = all-of-each IsGood (λ r. if_applies (rule_context gsub kept type s i (rule_parts gsub type (rule_of gsub set r)))) (word gsub set)
       (λ r. good-if (rule_context gsub kept type s i (rule_parts gsub type (rule_of gsub set r))) (kept-rule gsub kept type s i (rule_parts gsub type (rule_of gsub set r))))
 
   good-in : (part : Option ℕ) → All IsGood (contexts_in gsub kept type part)
@@ -465,15 +481,15 @@ module _ (gsub kept : List ℕ) (type : ℕ) (part : ℕ → Option ℕ) where
     where
       by : (b : Bool) → All IsGood (if b then if_applies (context_of gsub kept type s) else by_rules gsub kept type s)
       by true = good-if (context_of gsub kept type s) (kept-of gsub kept type s)
-      by false = good-all (λ i. context_rules gsub kept type s i (context_set gsub type s i)) (word gsub (sets_of gsub type s))
+      by false = all-of-each IsGood (λ i. context_rules gsub kept type s i (context_set gsub type s i)) (word gsub (sets_of gsub type s))
           (λ i. good-set s i (context_set gsub type s i))
 
   pub kept-context : (count k : ℕ) → k < length (all_below (λ j. contexts_in gsub kept type (part j)) count) →
       IsKeptContext (length kept) (get_or (all_below (λ j. contexts_in gsub kept type (part j)) count) k no_context)
   unfolding IsGood
-  kept-context count k less = (good-all (λ j. contexts_in gsub kept type (part j)) count (λ j. good-in (part j)) k no_context less).0
+  kept-context count k less = (all-of-each IsGood (λ j. contexts_in gsub kept type (part j)) count (λ j. good-in (part j)) k no_context less).0
 
   pub applying-context : (count k : ℕ) → k < length (all_below (λ j. contexts_in gsub kept type (part j)) count) →
       can_apply (get_or (all_below (λ j. contexts_in gsub kept type (part j)) count) k no_context) ≡ true
   unfolding IsGood
-  applying-context count k less = (good-all (λ j. contexts_in gsub kept type (part j)) count (λ j. good-in (part j)) k no_context less).1
+  applying-context count k less = (all-of-each IsGood (λ j. contexts_in gsub kept type (part j)) count (λ j. good-in (part j)) k no_context less).1

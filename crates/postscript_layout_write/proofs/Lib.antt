@@ -20,6 +20,7 @@ pub mod RuleKept
 pub mod Covering
 pub mod ContextCollecting
 pub mod ContextReading
+pub mod Reversing
 pub mod Labelling
 pub mod Reaching
 pub mod Calling
@@ -39,3 +40,4 @@ pub mod RecordReading
 pub mod LanguageReading
 pub mod FeatureReading
 pub mod FeatureRows
+pub mod CalledRows

@@ -162,7 +162,7 @@ typed-made scope gpos kept lookup distance front behind takes adds = record {
 }
 
 pub contexts-made : (scope : Scope) (gpos kept : List ℕ) (lookup distance : ℕ) (front behind : List ℕ) → takes_contexts scope gpos lookup ≡ true →
-    AddsChained 8 (new_flag scope (word gpos (lookup + 2))) (set_of gpos lookup) (contexts_by gpos kept lookup (type_at gpos lookup)) [] front →
+    AddsChained false 8 (new_flag scope (word gpos (lookup + 2))) (set_of gpos lookup) (contexts_by gpos kept lookup (type_at gpos lookup)) [] front →
     MakesPosition scope gpos kept lookup distance front behind
 contexts-made scope gpos kept lookup distance front behind takes adds = record {
   before = λ between long.

@@ -137,7 +137,7 @@ module _ (scope : Scope) (gpos kept : List ℕ) (lookup : ℕ) (t : List ℕ) (l
   type-said (has_typed takes m) _ = typed-type gpos kept lookup (new_flag scope (word gpos (lookup + 2))) t l m (is-kept scope gpos lookup takes)
   type-said (has_contexts takes m) own = (let wrong : true ≡ false = sym own ∙ not-typed scope gpos lookup takes in absurd (cc))
 
-  eight : HasChained 8 (new_flag scope (word gpos (lookup + 2))) (set_of gpos lookup) (contexts_by gpos kept lookup (type_at gpos lookup)) t l → type_at t l ≡ 8
+  eight : HasChained false 8 (new_flag scope (word gpos (lookup + 2))) (set_of gpos lookup) (contexts_by gpos kept lookup (type_at gpos lookup)) t l → type_at t l ≡ 8
   eight m = type-eight t l (new_flag scope (word gpos (lookup + 2))) (set_of gpos lookup) (contexts_by gpos kept lookup (type_at gpos lookup)) m
 
   two : HasLookup (new_flag scope (word gpos (lookup + 2))) (set_of gpos lookup) (new_pair scope gpos kept lookup) t l → type_at t l ≡ 2

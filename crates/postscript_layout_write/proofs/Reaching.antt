@@ -2,7 +2,7 @@
 use Rattle.std.proofs.Common.{◌≡◌, refl, sym, ap, subst, ◌∙◌, inl, inr, ℕ, zero, suc, ◌+◌, ◌≤◌, ◌<◌, ◌==◌, ◌||◌, List, [], ◌∷◌, ◌++◌, length, get_or, take, arith, Bool, true, false}
 use Rattle.std.specs.Prelude.{◌⊎◌, nat_eq, slice_set}
 use Rattle.std.specs.List.{Contains}
-use Rattle.std.proofs.lemmas.Bool.{eqb-true}
+use Rattle.std.proofs.lemmas.Bool.{eq-eqb, eqb-true}
 use Rattle.std.proofs.lemmas.List.{get_or_append_left, take_more}
 use Rattle.std.proofs.lemmas.List.Elements.{All-contains, All-contains_itself, All-weaker, Contains-append_cases, Contains-append_left, Contains-get_or, Contains-push}
 use Rattle.postscript_layout_write.specs.Calls.{Calls}
@@ -106,16 +106,17 @@ chosen-there (x ∷ xs) m is = by (nat_eq x m) refl is (chosen-there xs m)
     by true same h more = (0, omega arith, eqb-true x m same)
     by false other h more = (let rest = more h in let within = rest.1 in (suc rest.0, omega (arith, within), rest.2))
 
-pub noted-more : (marks : List Bool) (xs : List ℕ) (x : ℕ) → x < length marks → AreNoted marks xs → AreNoted (slice_set marks x true) (xs ++ x ∷ [])
-noted-more marks xs x less noted m is = chosen-more xs x m ∙ by (get_or marks m false) refl (sym (set-mark marks x m less) ∙ is)
+pub there-chosen : (xs : List ℕ) (m k : ℕ) → k < length xs → get_or xs k 0 ≡ m → is_chosen xs m ≡ true
+there-chosen [] m k less is = absurd (omega (arith, less))
+there-chosen (x ∷ xs) m zero less is = ap (λ b. b || is_chosen xs m) (eq-eqb x m is)
+there-chosen (x ∷ xs) m (suc k) less is = ap (λ b. (x == m) || b) (there-chosen xs m k (omega (arith, less)) is) ∙ by (nat_eq x m)
   where
-    by : (b : Bool) → get_or marks m false ≡ b → (b || (x == m)) ≡ true → (is_chosen xs m || (x == m)) ≡ true
-    by true e h = ap (λ c. c || (x == m)) (noted m e)
-    by false e h = second (is_chosen xs m) h
-      where
-        second : (c : Bool) → (x == m) ≡ true → (c || (x == m)) ≡ true
-        second true t = refl
-        second false t = t
+    by : (b : Bool) → (b || true) ≡ true
+    by true = refl
+    by false = refl
+
+pub noted-more : (marks : List Bool) (xs : List ℕ) (x : ℕ) → x < length marks → AreNoted marks xs → AreNoted (slice_set marks x true) (xs ++ x ∷ [])
+noted-more marks xs x less noted m = set-mark marks x m less ∙ ap (λ b. b || (x == m)) (noted m) ∙ sym (chosen-more xs x m)
 
 -- lookups whose calls were followed
 pub followed-none : (gsub kept given : List ℕ) → IsFollowed gsub kept given 0 given

@@ -10,10 +10,11 @@ use Rattle.postscript_layout_write.specs.Flags.{set_of, uses_set}
 use Rattle.postscript_layout_write.specs.Holds.{Holds}
 use Rattle.postscript_layout_write.specs.Pairs.{flag_of, lookup_at}
 use Rattle.postscript_layout_write.specs.Renumbering.{kept_rules}
-use Rattle.postscript_layout_write.specs.RuleLookups.{HasNewLookup, HasRuleLookups, PutsNext, has_contexts, has_rules, new_type, puts_contexts, puts_rules}
+use Rattle.postscript_layout_write.specs.RuleLookups.{HasNewLookup, HasRuleLookups, PutsNext, has_contexts, has_reverses, has_rules, new_type, puts_contexts, puts_reverses, puts_rules}
+use Rattle.postscript_layout_write.specs.Reverses.{reverses_at}
 use Rattle.postscript_layout_write.specs.RuleSets.{AddsRules, AreRuleSets, HasRuleLookup, HasRules, HasRuleSubtable, PutsRules, has_ligatures, has_none, has_one, has_several, has_single, bare_text, no_rules, puts_none, puts_one, rule_front_text, rule_head_text, rules_text, some_rules, subtable_offset}
-use Rattle.postscript_layout_write.specs.Rules.{rules_of_type, type_at}
-use Rattle.postscript_layout_write.specs.Substituting.{is_kept, is_taken, keeps, new_flag, new_rules, rules_at}
+use Rattle.postscript_layout_write.specs.Rules.{is_kept, rules_of_type, type_at}
+use Rattle.postscript_layout_write.specs.Substituting.{is_taken, keeps, new_flag, new_rules, rules_at}
 use Rattle.postscript_layout_write.specs.Sets.{Places}
 use Rattle.postscript_layout_write.specs.Text.{uint16}
 use Rattle.postscript_layout_write.proofs.Firsts.{nat_cases}
@@ -166,19 +167,24 @@ lookup-made type flag set f n firsts numbers sets old new far (puts_one small fi
 
 new-on : (whole : Bool) (gsub chosen kept : List ℕ) (i : ℕ) (bytes more : List ℕ) (at : ℕ) → HasNewLookup whole gsub chosen kept i bytes at →
     HasNewLookup whole gsub chosen kept i (bytes ++ more) at
-new-on whole gsub chosen kept i bytes more at (has_rules is h) =
-    has_rules is (lookup-on (new_type gsub (lookup_at gsub i)) (new_flag whole (flag_of gsub i)) (set_of gsub (lookup_at gsub i)) (new_rules whole gsub chosen kept i) bytes more at h)
+new-on whole gsub chosen kept i bytes more at (has_rules is never h) =
+    has_rules is never (lookup-on (new_type gsub (lookup_at gsub i)) (new_flag whole (flag_of gsub i)) (set_of gsub (lookup_at gsub i)) (new_rules whole gsub chosen kept i) bytes more at h)
 new-on whole gsub chosen kept i bytes more at (has_contexts is h) = has_contexts is
     (chained-on 6 (new_flag whole (flag_of gsub i)) (set_of gsub (lookup_at gsub i)) (contexts_at gsub kept (lookup_at gsub i) (type_at gsub (lookup_at gsub i))) bytes more at h)
+new-on whole gsub chosen kept i bytes more at (has_reverses is h) = has_reverses is
+    (chained-on 8 (new_flag whole (flag_of gsub i)) (set_of gsub (lookup_at gsub i)) (reverses_at gsub kept (lookup_at gsub i)) bytes more at h)
 
 -- lookup i is appended
 next-made : (whole : Bool) (gsub chosen kept : List ℕ) (i : ℕ) (old new : List ℕ) → PutsNext whole gsub chosen kept (lookup_at gsub i) i old new →
     HasNewLookup whole gsub chosen kept i new (length old)
-next-made whole gsub chosen kept i old new (puts_rules is p) = has_rules is
+next-made whole gsub chosen kept i old new (puts_rules is never p) = has_rules is never
     (lookup-made (new_type gsub (lookup_at gsub i)) (new_flag whole (flag_of gsub i)) (set_of gsub (lookup_at gsub i)) (new_rules whole gsub chosen kept i) (length kept)
     p.firsts p.numbers p.sets old new (λ x far. new-far whole gsub chosen kept i x far) p.puts p.are)
 next-made whole gsub chosen kept i old new (puts_contexts is p) = has_contexts is
     (chained-added 6 (new_flag whole (flag_of gsub i)) (set_of gsub (lookup_at gsub i)) (contexts_at gsub kept (lookup_at gsub i) (type_at gsub (lookup_at gsub i)))
+    p.offsets p.subtables old new (omega arith) p.set_small p.have p.begins p.puts).has
+next-made whole gsub chosen kept i old new (puts_reverses is p) = has_reverses is
+    (chained-added 8 (new_flag whole (flag_of gsub i)) (set_of gsub (lookup_at gsub i)) (reverses_at gsub kept (lookup_at gsub i))
     p.offsets p.subtables old new (omega arith) p.set_small p.have p.begins p.puts).has
 
 pub subtable-in : (type : ℕ) (f : ℕ → List (List ℕ)) (t bytes : List ℕ) (at offset : ℕ) → Holds bytes t at → HasRuleSubtable type f bytes offset →
@@ -203,11 +209,13 @@ lookup-in type flag set f t bytes at offset h (has_one small k s) =
 
 pub new-in : (whole : Bool) (gsub chosen kept : List ℕ) (i : ℕ) (t bytes : List ℕ) (at offset : ℕ) → Holds bytes t at →
     HasNewLookup whole gsub chosen kept i bytes offset → HasNewLookup whole gsub chosen kept i t (at + offset)
-new-in whole gsub chosen kept i t bytes at offset h (has_rules is k) = has_rules is
+new-in whole gsub chosen kept i t bytes at offset h (has_rules is never k) = has_rules is never
     (lookup-in (new_type gsub (lookup_at gsub i)) (new_flag whole (flag_of gsub i)) (set_of gsub (lookup_at gsub i)) (new_rules whole gsub chosen kept i) t bytes at offset h k)
 new-in whole gsub chosen kept i t bytes at offset h (has_contexts is k) = has_contexts is
     (chained-in 6 (new_flag whole (flag_of gsub i)) (set_of gsub (lookup_at gsub i)) (contexts_at gsub kept (lookup_at gsub i) (type_at gsub (lookup_at gsub i)))
     t bytes at offset h k)
+new-in whole gsub chosen kept i t bytes at offset h (has_reverses is k) = has_reverses is
+    (chained-in 8 (new_flag whole (flag_of gsub i)) (set_of gsub (lookup_at gsub i)) (reverses_at gsub kept (lookup_at gsub i)) t bytes at offset h k)
 
 -- the text of lookup i is placed
 pub rule-lookups-more : (whole : Bool) (gsub chosen kept : List ℕ) (i offset : ℕ) (text offsets bytes newoffsets newbytes : List ℕ) →

@@ -10,17 +10,19 @@ use Rattle.postscript_layout_write.specs.First.{first_some}
 use Rattle.postscript_layout_write.specs.Flags.{set_of, uses_set}
 use Rattle.postscript_layout_write.specs.Holds.{Holds}
 use Rattle.postscript_layout_write.specs.Pairs.{flag_of, lookup_at, lookups_of}
-use Rattle.postscript_layout_write.specs.RuleLookups.{HasNewLookup, HasRuleLookups, has_contexts, has_rules, new_type}
-use Rattle.postscript_layout_write.specs.Rules.{all_rules, first_rules, or_none, part_at, rules_in, rules_of, rules_of_type, type_at, type_of}
+use Rattle.postscript_layout_write.specs.RuleLookups.{HasNewLookup, HasRuleLookups, has_contexts, has_reverses, has_rules, new_type}
+use Rattle.postscript_layout_write.specs.Reverses.{reverses_at, reverses_of}
+use Rattle.postscript_layout_write.specs.Rules.{is_kept, all_rules, first_rules, or_none, part_at, rules_in, rules_of, rules_of_type, type_at, type_of}
 use Rattle.postscript_layout_write.specs.RuleSets.{HasRuleLookup, bare_text, has_none, has_one, rule_front_text, rule_head_text, subtable_offset}
 use Rattle.postscript_layout_write.specs.Scopes.{mark_set_text}
 use Rattle.postscript_layout_write.specs.ScriptLists.{ListsEnd}
 use Rattle.postscript_layout_write.specs.Sets.{AreOffsets}
-use Rattle.postscript_layout_write.specs.Substituting.{KeepsRules, is_kept, is_taken, keeps, keeps_contexts, new_contexts, new_flag, new_rules, rules_at}
+use Rattle.postscript_layout_write.specs.Substituting.{KeepsRules, is_taken, keeps, keeps_contexts, keeps_reverses, new_contexts, new_flag, new_reverses, new_rules, rules_at}
 use Rattle.postscript_layout_write.specs.Text.{front_text, list_text, uint16}
 use Rattle.postscript_layout_write.proofs.Holding.{holds-first, holds-second, holds-word, length-uint16}
 use Rattle.postscript_layout_write.proofs.Kept.{count-held, keeps-lists, lookups-held, place-read}
-use Rattle.postscript_layout_write.proofs.ContextReading.{applying-context, contexts-read, flag-read, have-sets, kept-context, no-rules as no-rules-six, set-read as chained-set, type-read}
+use Rattle.postscript_layout_write.proofs.ContextReading.{applying-context, contexts-read, flag-read, have-sets, kept-context, set-read as chained-set, type-read}
+use Rattle.postscript_layout_write.proofs.Reversing.{good-reverse, reverses-read}
 use Rattle.postscript_layout_write.proofs.RuleCollecting.{new-in}
 use Rattle.postscript_layout_write.proofs.RuleReading.{subtable-rules}
 
@@ -141,12 +143,22 @@ module _ (gsub : List ℕ) (lookup : ℕ) where
   pub not-six : nat_eq (new_type gsub lookup) 6 ≡ false
   not-six = other 6 refl (λ is. absurd (omega (arith, is)))
 
+  pub not-eight : nat_eq (new_type gsub lookup) 8 ≡ false
+  not-eight = other 8 refl (λ is. absurd (omega (arith, is)))
+
+  pub has-rules : is_kept (new_type gsub lookup) ≡ true
+  has-rules = by (is_kept (type_at gsub lookup)) refl
+    where
+      by : (b : Bool) → is_kept (type_at gsub lookup) ≡ b → is_kept (if b then type_at gsub lookup else 1) ≡ true
+      by true k = k
+      by false k = refl
+
+first-true : (a b : Bool) → (a && b) ≡ true → a ≡ true
+first-true true b is = refl
+first-true false b is = absurd (cc)
+
 -- a lookup that keeps contexts has a type that is not kept
 module _ (whole : Bool) (gsub chosen : List ℕ) (i lookup : ℕ) (keeps-them : keeps_contexts whole gsub chosen i lookup ≡ true) where
-  first-true : (a b : Bool) → (a && b) ≡ true → a ≡ true
-  first-true true b is = refl
-  first-true false b is = absurd (cc)
-
   either-type : (a b : Bool) → (a || b) ≡ true → (a ≡ true) ⊎ (b ≡ true)
   either-type true b is = inl refl
   either-type false b is = inr is
@@ -163,6 +175,23 @@ module _ (whole : Bool) (gsub chosen : List ℕ) (i lookup : ℕ) (keeps-them : 
   pub keeps-none : keeps whole gsub chosen i lookup ≡ false
   keeps-none = ap (λ (b : Bool). b && is_taken whole gsub chosen i lookup) not-kept
 
+  pub no-reverses : keeps_reverses whole gsub chosen i lookup ≡ false
+  no-reverses = ap (λ (b : Bool). b && is_taken whole gsub chosen i lookup) (elim (either-type _ _ (first-true _ _ contextual)) [
+    | inl five ↦ ap (λ n. nat_eq n 8) (eqb-true (type_at gsub lookup) 5 five)
+    | inr six ↦ ap (λ n. nat_eq n 8) (eqb-true (type_at gsub lookup) 6 six)
+  ])
+
+-- a lookup that keeps reverse chaining subtables
+module _ (whole : Bool) (gsub chosen : List ℕ) (i lookup : ℕ) (keeps-them : keeps_reverses whole gsub chosen i lookup ≡ true) where
+  pub eight : type_at gsub lookup ≡ 8
+  eight = eqb-true (type_at gsub lookup) 8 (first-true _ (is_taken whole gsub chosen i lookup) keeps-them)
+
+  pub keeps-no-rules : keeps whole gsub chosen i lookup ≡ false
+  keeps-no-rules = ap (λ n. is_kept n && is_taken whole gsub chosen i lookup) eight
+
+  pub no-contexts : keeps_contexts whole gsub chosen i lookup ≡ false
+  no-contexts = ap (λ n. (((n == 5) || (n == 6)) && all_have_formats gsub lookup n (word gsub (lookup + 4))) && is_taken whole gsub chosen i lookup) eight
+
 -- what a new lookup says
 record IsNewRead (whole : Bool) (old chosen kept new : List ℕ) (i : ℕ) : Type 0 where
   flag-is : flag_of new i ≡ new_flag whole (flag_of old i)
@@ -170,10 +199,12 @@ record IsNewRead (whole : Bool) (old chosen kept new : List ℕ) (i : ℕ) : Typ
   type-is : is_kept (type_of old i) ≡ true → type_of new i ≡ type_of old i
   rules-are : (x : ℕ) → rules_of new i x ≡ new_rules whole old chosen kept i x
   contexts-are : contexts_of new (range_with_len 0 (length kept)) i ≡ new_contexts whole old chosen kept i
+  reverses-are : reverses_of new (range_with_len 0 (length kept)) i ≡ new_reverses whole old chosen kept i
 
 rules-new-read : (whole : Bool) (old chosen kept new : List ℕ) (i : ℕ) → keeps_contexts whole old chosen i (lookup_at old i) ≡ false →
+    keeps_reverses whole old chosen i (lookup_at old i) ≡ false →
     IsLookupRead new (lookup_at new i) (new_type old (lookup_at old i)) (new_flag whole (flag_of old i)) (set_of old (lookup_at old i)) (new_rules whole old chosen kept i) → IsNewRead whole old chosen kept new i
-rules-new-read whole old chosen kept new i none r =
+rules-new-read whole old chosen kept new i none never r =
     let l = lookup_at new i in
     let t = r.type-is in
     let type : type_of new i ≡ new_type old (lookup_at old i) =
@@ -182,16 +213,20 @@ rules-new-read whole old chosen kept new i none r =
       flag-is = r.flag-is;
       set-is = r.set-is;
       type-is = λ k. type ∙ ap (λ (b : Bool). if b then type_of old i else 1) k;
-      rules-are = λ x. ap (λ n. rules_of_type new l n x) type ∙ r.rules-are x;
+      rules-are = λ x. ap (λ n. if is_kept n then rules_of_type new l n x else []) type
+          ∙ ap (λ (b : Bool). if b then rules_of_type new l (new_type old (lookup_at old i)) x else []) (has-rules old (lookup_at old i)) ∙ r.rules-are x;
       contexts-are = ap (λ (b : Bool). if (b || (type_at new l == 6)) && all_have_formats new l (type_at new l) (word new (l + 4)) then
           contexts_at new (range_with_len 0 (length kept)) l (type_of new i) else []) (ap (λ n. nat_eq n 5) type ∙ not-five old (lookup_at old i))
           ∙ ap (λ (b : Bool). if b && all_have_formats new l (type_at new l) (word new (l + 4)) then
           contexts_at new (range_with_len 0 (length kept)) l (type_of new i) else []) (ap (λ n. nat_eq n 6) type ∙ not-six old (lookup_at old i))
           ∙ sym (ap (λ (b : Bool). if b then contexts_at old kept (lookup_at old i) (type_of old i) else []) none);
+      reverses-are = ap (λ (b : Bool). if b then reverses_at new (range_with_len 0 (length kept)) l else [])
+          (ap (λ n. nat_eq n 8) type ∙ not-eight old (lookup_at old i))
+          ∙ sym (ap (λ (b : Bool). if b then reverses_at old kept (lookup_at old i) else []) never);
     }
 
 contexts-new-read : (whole : Bool) (old chosen kept new : List ℕ) (i : ℕ) → keeps_contexts whole old chosen i (lookup_at old i) ≡ true →
-    HasChained 6 (new_flag whole (flag_of old i)) (set_of old (lookup_at old i)) (contexts_at old kept (lookup_at old i) (type_at old (lookup_at old i))) new (lookup_at new i) → IsNewRead whole old chosen kept new i
+    HasChained false 6 (new_flag whole (flag_of old i)) (set_of old (lookup_at old i)) (contexts_at old kept (lookup_at old i) (type_at old (lookup_at old i))) new (lookup_at new i) → IsNewRead whole old chosen kept new i
 contexts-new-read whole old chosen kept new i keeps-them has =
     let l = lookup_at new i in
     let contexts = contexts_at old kept (lookup_at old i) (type_of old i) in
@@ -203,7 +238,7 @@ contexts-new-read whole old chosen kept new i keeps-them has =
       flag-is = flag-read new l 6 (new_flag whole (flag_of old i)) (set_of old (lookup_at old i)) contexts has;
       set-is = chained-set new l 6 (new_flag whole (flag_of old i)) (set_of old (lookup_at old i)) contexts has;
       type-is = λ k. absurd (let no = sym k ∙ not-kept whole old chosen i (lookup_at old i) keeps-them in cc);
-      rules-are = λ x. ap (λ n. rules_of_type new l n x) type ∙ no-rules-six new l (new_flag whole (flag_of old i)) (set_of old (lookup_at old i)) contexts has x
+      rules-are = λ x. ap (λ n. if is_kept n then rules_of_type new l n x else []) type
           ∙ sym (ap (λ (b : Bool). if b then rules_at old kept (lookup_at old i) x else []) (keeps-none whole old chosen i (lookup_at old i) keeps-them));
       contexts-are = ap (λ n. if ((n == 5) || (n == 6)) && all_have_formats new l n (word new (l + 4)) then
           contexts_at new (range_with_len 0 (length kept)) l n else []) type
@@ -212,12 +247,37 @@ contexts-new-read whole old chosen kept new i keeps-them has =
           (kept-context old kept (type_of old i) (part_at old (lookup_at old i) (type_of old i)) (word old (lookup_at old i + 4)))
           (applying-context old kept (type_of old i) (part_at old (lookup_at old i) (type_of old i)) (word old (lookup_at old i + 4)))
           ∙ sym (ap (λ (b : Bool). if b then contexts else []) keeps-them);
+      reverses-are = ap (λ n. if n == 8 then reverses_at new (range_with_len 0 (length kept)) l else []) type
+          ∙ sym (ap (λ (b : Bool). if b then reverses_at old kept (lookup_at old i) else []) (no-reverses whole old chosen i (lookup_at old i) keeps-them));
+    }
+
+reverses-new-read : (whole : Bool) (old chosen kept new : List ℕ) (i : ℕ) → keeps_reverses whole old chosen i (lookup_at old i) ≡ true →
+    HasChained true 8 (new_flag whole (flag_of old i)) (set_of old (lookup_at old i)) (reverses_at old kept (lookup_at old i)) new (lookup_at new i) → IsNewRead whole old chosen kept new i
+reverses-new-read whole old chosen kept new i keeps-them has =
+    let l = lookup_at new i in
+    let flag = new_flag whole (flag_of old i) in
+    let set = set_of old (lookup_at old i) in
+    let contexts = reverses_at old kept (lookup_at old i) in
+    let type : type_of new i ≡ 8 = ap (λ n. if nat_eq n 7 then word new (l + word new (l + 6) + 2) else n) (type-read new l 8 flag set contexts has) in
+    record {
+      flag-is = flag-read new l 8 flag set contexts has;
+      set-is = chained-set new l 8 flag set contexts has;
+      type-is = λ k. absurd (let no = sym k ∙ ap is_kept (eight whole old chosen i (lookup_at old i) keeps-them) in cc);
+      rules-are = λ x. ap (λ n. if is_kept n then rules_of_type new l n x else []) type
+          ∙ sym (ap (λ (b : Bool). if b then rules_at old kept (lookup_at old i) x else []) (keeps-no-rules whole old chosen i (lookup_at old i) keeps-them));
+      contexts-are = ap (λ n. if ((n == 5) || (n == 6)) && all_have_formats new l n (word new (l + 4)) then
+          contexts_at new (range_with_len 0 (length kept)) l n else []) type
+          ∙ sym (ap (λ (b : Bool). if b then contexts_at old kept (lookup_at old i) (type_of old i) else []) (no-contexts whole old chosen i (lookup_at old i) keeps-them));
+      reverses-are = ap (λ n. if n == 8 then reverses_at new (range_with_len 0 (length kept)) l else []) type
+          ∙ reverses-read new l flag set contexts has (length kept) (λ k less. good-reverse old kept (part_at old (lookup_at old i) 8) (word old (lookup_at old i + 4)) k less)
+          ∙ sym (ap (λ (b : Bool). if b then contexts else []) keeps-them);
     }
 
 new-read : (whole : Bool) (old chosen kept new : List ℕ) (i : ℕ) → HasNewLookup whole old chosen kept i new (lookup_at new i) → IsNewRead whole old chosen kept new i
-new-read whole old chosen kept new i (has_rules none h) =
-    rules-new-read whole old chosen kept new i none (lookup-read new (lookup_at new i) (new_type old (lookup_at old i)) (new_flag whole (flag_of old i)) (set_of old (lookup_at old i)) (new_rules whole old chosen kept i) h)
+new-read whole old chosen kept new i (has_rules none never h) =
+    rules-new-read whole old chosen kept new i none never (lookup-read new (lookup_at new i) (new_type old (lookup_at old i)) (new_flag whole (flag_of old i)) (set_of old (lookup_at old i)) (new_rules whole old chosen kept i) h)
 new-read whole old chosen kept new i (has_contexts keeps-them h) = contexts-new-read whole old chosen kept new i keeps-them h
+new-read whole old chosen kept new i (has_reverses keeps-them h) = reverses-new-read whole old chosen kept new i keeps-them h
 
 module _ (whole : Bool) (old chosen kept new offsets bytes : List ℕ) (end : ℕ) (lists : ListsEnd old end) (small : end < 65536) (within : end ≤ length old)
     (is : new ≡ front_text old end ++ list_text offsets bytes) (few : length offsets ≤ 32766) (fit : AreOffsets (2 + length offsets * 2) offsets)
@@ -238,4 +298,5 @@ module _ (whole : Bool) (old chosen kept new offsets bytes : List ℕ) (end : �
     types = λ i less k. (each-read i less).type-is k;
     rules = λ i x less. (each-read i less).rules-are x;
     contexts = λ i less. (each-read i less).contexts-are;
+    reverses = λ i less. (each-read i less).reverses-are;
   }

@@ -1,5 +1,5 @@
 -- Coverage tables and contexts as they are written. Only contracts of private functions and proofs name this.
-use Rattle.std.specs.Prelude.{◌≡◌, ℕ, ◌+◌, ◌*◌, ◌^◌, ◌==◌, ◌&&◌, ◌<◌, ◌≤◌, Bool, false, List, [], ◌++◌, None, Some, is_some, length, nat_le, slice_index, slice_index_or, if◌then◌else◌}
+use Rattle.std.specs.Prelude.{◌≡◌, ℕ, ◌+◌, ◌*◌, ◌^◌, ◌==◌, ◌&&◌, ◌<◌, ◌≤◌, Bool, true, false, List, [], ◌++◌, None, Some, is_some, length, nat_le, slice_index, slice_index_or, if◌then◌else◌}
 use Rattle.std.specs.List.{All}
 use Rattle.postscript_layout.specs.Numbers.{word}
 use Rattle.postscript_layout_write.specs.First.{first_some}
@@ -123,20 +123,61 @@ pub record HasContext (context : Context) (bytes : List ℕ) (offset : ℕ) : Ty
 abbrev pub no_context : Context
 no_context = record { before = []; input = []; after = []; actions = [] }
 
--- contexts are there
-pub record HaveContexts (contexts : List Context) (offsets bytes : List ℕ) : Type 0 where
-  pub same : length offsets ≡ length contexts
-  pub each : (k : ℕ) → k < length contexts → HasContext (slice_index_or contexts k no_context) bytes (slice_index offsets k)
+-- a reverse chaining subtable, with its coverage tables; the coverage table of its glyphs is the only one of the input
+unfoldable pub reverse_text : (base : ℕ) → (before input after : List ℕ) → (substitutes tables : List ℕ) → List ℕ
+reverse_text base before input after substitutes tables =
+    uint16 1 ++ (offsets_text base input ++ (counted_text base before ++ (counted_text base after ++ (uint16 (length substitutes) ++ (array_text substitutes ++ tables)))))
 
--- a lookup of chained contexts: of substitutions (type 6) or of positions (type 8)
+-- the offset of the first coverage table of a reverse chaining subtable
+abbrev pub reverse_base : (before after substitutes : List ℕ) → ℕ
+reverse_base before after substitutes = 10 + (length before + length after + length substitutes) * 2
+
+-- offsets that fit into two bytes
+pub record FitsReverse (before input after substitutes : List ℕ) : Type 0 where
+  pub near : reverse_base before after substitutes < 65536
+  pub one : length input ≡ 1
+  pub fit_before : AreOffsets (reverse_base before after substitutes) before
+  pub fit_input : AreOffsets (reverse_base before after substitutes) input
+  pub fit_after : AreOffsets (reverse_base before after substitutes) after
+
+-- a reverse chaining subtable is appended
+pub record PutsReverse (made : Made) (old new : List ℕ) : Type 0 where
+  pub fits : FitsReverse made.before.offsets.items made.input.offsets.items made.after.offsets.items made.actions.items
+  pub text : new ≡ old ++ reverse_text (reverse_base made.before.offsets.items made.after.offsets.items made.actions.items)
+      made.before.offsets.items made.input.offsets.items made.after.offsets.items made.actions.items made.tables.bytes.items
+
+-- a reverse chaining subtable is at an offset
+pub record HasReverse (context : Context) (bytes : List ℕ) (offset : ℕ) : Type 0 where
+  pub before : List ℕ
+  pub input : List ℕ
+  pub after : List ℕ
+  pub tables : List ℕ
+  pub has_before : HaveCoverages context.before before tables
+  pub has_input : HaveCoverages context.input input tables
+  pub has_after : HaveCoverages context.after after tables
+  pub fits : FitsReverse before input after context.actions
+  pub small : All (λ number. number < 65536) context.actions
+  pub there : Holds (reverse_text (reverse_base before after context.actions) before input after context.actions tables) bytes offset
+
+-- a context is at an offset, as a chained one or as a reverse chaining one
+abbrev pub HasEither : (reverse : Bool) → Context → (bytes : List ℕ) → (offset : ℕ) → Type 0
+HasEither false context bytes offset = HasContext context bytes offset
+HasEither true context bytes offset = HasReverse context bytes offset
+
+-- contexts are there
+pub record HaveContexts (reverse : Bool) (contexts : List Context) (offsets bytes : List ℕ) : Type 0 where
+  pub same : length offsets ≡ length contexts
+  pub each : (k : ℕ) → k < length contexts → HasEither reverse (slice_index_or contexts k no_context) bytes (slice_index offsets k)
+
+-- a lookup of chained contexts: of substitutions (type 6) or of positions (type 8), or of reverse chaining substitutions (type 8)
 unfoldable pub chained_text : (type flag : ℕ) → (offsets subtables : List ℕ) → List ℕ
 chained_text type flag offsets subtables =
     (uint16 type ++ (uint16 flag ++ uint16 (length offsets))) ++ (offsets_text (6 + length offsets * 2) offsets ++ subtables)
 
 -- contexts are added
-pub record AddsContexts (added : List Context) (old new : Contexts) : Type 0 where
-  pub have : (contexts : List Context) → HaveContexts contexts old.offsets.items old.bytes.items →
-      HaveContexts (contexts ++ added) new.offsets.items new.bytes.items
+pub record AddsContexts (reverse : Bool) (added : List Context) (old new : Contexts) : Type 0 where
+  pub have : (contexts : List Context) → HaveContexts reverse contexts old.offsets.items old.bytes.items →
+      HaveContexts reverse (contexts ++ added) new.offsets.items new.bytes.items
   pub more : Begins old.bytes.items new.bytes.items
 
 -- a lookup of chained contexts is appended
@@ -147,10 +188,10 @@ pub record PutsChained (type flag : ℕ) (offsets subtables old new : List ℕ) 
   pub text : new ≡ old ++ chained_text type flag offsets subtables
 
 -- a lookup of chained contexts is at an offset, with its set of marks before the subtables, if its flag uses one
-pub record HasChained (type flag set : ℕ) (contexts : List Context) (bytes : List ℕ) (offset : ℕ) : Type 0 where
+pub record HasChained (reverse : Bool) (type flag set : ℕ) (contexts : List Context) (bytes : List ℕ) (offset : ℕ) : Type 0 where
   pub offsets : List ℕ
   pub subtables : List ℕ
-  pub have : HaveContexts contexts offsets subtables
+  pub have : HaveContexts reverse contexts offsets subtables
   pub few : length offsets ≤ 32764
   pub fit : AreOffsets (6 + length offsets * 2) offsets
   pub small : flag < 65536
@@ -160,7 +201,7 @@ pub record HasChained (type flag set : ℕ) (contexts : List Context) (bytes : L
   pub there : Holds (chained_text type flag offsets subtables) bytes offset
 
 -- such a lookup is appended
-pub record AddsChained (type flag set : ℕ) (contexts : List Context) (old new : List ℕ) : Type 0 where
+pub record AddsChained (reverse : Bool) (type flag set : ℕ) (contexts : List Context) (old new : List ℕ) : Type 0 where
   pub more : List ℕ
   pub bytes : new ≡ old ++ more
-  pub has : HasChained type flag set contexts new (length old)
+  pub has : HasChained reverse type flag set contexts new (length old)

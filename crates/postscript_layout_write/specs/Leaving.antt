@@ -1,15 +1,16 @@
 -- The chosen lookups that are left out, because of their type, the format of their subtables or their flag.
-use Rattle.std.specs.Prelude.{ℕ, Bool, true, false, ◌+◌, ◌&&◌, ◌||◌, List, [], ◌∷◌, nat_lt, not, if◌then◌else◌}
+use Rattle.std.specs.Prelude.{ℕ, Bool, true, false, ◌+◌, ◌==◌, ◌&&◌, ◌||◌, List, [], ◌∷◌, nat_lt, not, if◌then◌else◌}
 use Rattle.postscript_layout.specs.Numbers.{word}
 use Rattle.postscript_layout_write.specs.Contexts.{is_contextual}
 use Rattle.postscript_layout_write.specs.First.{all_below}
 use Rattle.postscript_layout_write.specs.Pairs.{lookup_at}
-use Rattle.postscript_layout_write.specs.Rules.{type_at}
-use Rattle.postscript_layout_write.specs.Substituting.{is_chosen, is_kept, takes_flag}
+use Rattle.postscript_layout_write.specs.Rules.{is_kept, type_at}
+use Rattle.postscript_layout_write.specs.Substituting.{is_chosen, takes_flag}
 
--- whether the lookup at an offset has a type and a flag with which rules or contexts are kept
+-- whether the lookup at an offset has a type and a flag with which rules, contexts or reverse chaining subtables are kept
 abbrev pub can_keep : (whole : Bool) → List ℕ → (lookup : ℕ) → Bool
-can_keep whole gsub lookup = (is_kept (type_at gsub lookup) || is_contextual gsub lookup) && takes_flag whole (word gsub (lookup + 2))
+can_keep whole gsub lookup =
+    ((is_kept (type_at gsub lookup) || is_contextual gsub lookup) || (type_at gsub lookup == 8)) && takes_flag whole (word gsub (lookup + 2))
 
 -- whether lookup i is chosen and has subtables, but no rules or contexts of it are kept
 abbrev pub is_left : (whole : Bool) → (gsub chosen : List ℕ) → (i lookup : ℕ) → Bool

@@ -23,6 +23,7 @@ pub mod Leaving
 pub mod Sequences
 pub mod ContextRules
 pub mod Contexts
+pub mod Reverses
 pub mod Coverages
 pub mod Labels
 pub mod Calls

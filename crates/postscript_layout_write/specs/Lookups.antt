@@ -26,7 +26,7 @@ pub data HasPosition (scope : Scope) (gpos kept : List ℕ) (lookup : ℕ) (byte
   has_typed : takes_type scope gpos lookup ≡ true → HasTyped gpos kept lookup (new_flag scope (word gpos (lookup + 2))) bytes offset →
       HasPosition scope gpos kept lookup bytes offset
   has_contexts : takes_contexts scope gpos lookup ≡ true →
-      HasChained 8 (new_flag scope (word gpos (lookup + 2))) (set_of gpos lookup) (contexts_by gpos kept lookup (type_at gpos lookup)) bytes offset →
+      HasChained false 8 (new_flag scope (word gpos (lookup + 2))) (set_of gpos lookup) (contexts_by gpos kept lookup (type_at gpos lookup)) bytes offset →
       HasPosition scope gpos kept lookup bytes offset
 
 -- A lookup that is made: its bytes, and the bytes of subtables that begin at a distance after it. Without such subtables it can be anywhere.

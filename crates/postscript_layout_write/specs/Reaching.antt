@@ -1,5 +1,5 @@
 -- How a list of lookups grows. Only contracts of private functions and proofs name this.
-use Rattle.std.specs.Prelude.{◌≡◌, ◌⊎◌, ℕ, ◌<◌, Bool, true, false, List, slice_index, slice_index_or}
+use Rattle.std.specs.Prelude.{◌≡◌, ◌⊎◌, ℕ, ◌<◌, Bool, false, List, slice_index, slice_index_or}
 use Rattle.std.specs.List.{All, Contains}
 use Rattle.postscript_layout_write.specs.Calls.{AppliesTo, Calls, HasCalled}
 use Rattle.postscript_layout_write.specs.ContextRules.{rule_of, rule_parts}
@@ -10,7 +10,7 @@ use Rattle.postscript_layout_write.specs.declared.labels.Labels.{Labels}
 
 -- the marks that are set are those of lookups of the list
 abbrev pub AreNoted : (marks : List Bool) → (lookups : List ℕ) → Type 0
-AreNoted marks lookups = (m : ℕ) → slice_index_or marks m false ≡ true → is_chosen lookups m ≡ true
+AreNoted marks lookups = (m : ℕ) → slice_index_or marks m false ≡ is_chosen lookups m
 
 -- all numbers with a property are added to a list, and no others
 pub record AddsOnly (P : ℕ → Type 0) (old new : List ℕ) : Type 0 where

@@ -2,7 +2,7 @@
 -- "Lookup type 4 subtable: ligature substitution", "Lookup type 7 subtable: substitution subtable extension"; ISO/IEC 14496-22, 6.3.4). A lookup has
 -- a list of rules for each first glyph, and a rule is a list of glyphs: the result of a single substitution (type 1), the sequence of a multiple
 -- substitution (type 2), the alternates (type 3), or a ligature and then its components after the first glyph (type 4).
-use Rattle.std.specs.Prelude.{ℕ, ◌+◌, ◌*◌, ◌%◌, ◌==◌, ◌&&◌, List, [], ◌∷◌, Option, None, Some, map, nat_lt, if◌then◌else◌}
+use Rattle.std.specs.Prelude.{ℕ, Bool, ◌+◌, ◌*◌, ◌%◌, ◌==◌, ◌&&◌, List, [], ◌∷◌, Option, None, Some, map, nat_lt, if◌then◌else◌}
 use Rattle.std.specs.List.{range_with_len}
 use Rattle.postscript_layout.specs.Numbers.{word, long}
 use Rattle.postscript_layout.specs.Substitutions.{components_of, coverage_of, glyphs_of, ligature_of, set_of}
@@ -90,6 +90,10 @@ type_at gsub lookup = if word gsub lookup == 7 then word gsub (lookup + word gsu
 abbrev pub type_of : List ℕ → (i : ℕ) → ℕ
 type_of gsub i = type_at gsub (lookup_at gsub i)
 
+-- the types with rules: single, multiple, alternate and ligature substitutions
+abbrev pub is_kept : (type : ℕ) → Bool
+is_kept type = nat_lt 0 type && nat_lt type 5
+
 -- the rules of lookup i for a first glyph
 abbrev pub rules_of : List ℕ → (i glyph : ℕ) → List (List ℕ)
-rules_of gsub i glyph = rules_of_type gsub (lookup_at gsub i) (type_of gsub i) glyph
+rules_of gsub i glyph = if is_kept (type_of gsub i) then rules_of_type gsub (lookup_at gsub i) (type_of gsub i) glyph else []

@@ -8,16 +8,13 @@ use Rattle.postscript_layout_write.specs.Flags.{set_of, uses_set}
 use Rattle.postscript_layout_write.specs.Kerning.{KeepsLists}
 use Rattle.postscript_layout_write.specs.Pairs.{flag_of, lookup_at, lookups_of}
 use Rattle.postscript_layout_write.specs.Renumbering.{kept_rules}
-use Rattle.postscript_layout_write.specs.Rules.{rules_of, rules_of_type, type_at, type_of}
+use Rattle.postscript_layout_write.specs.Reverses.{reverses_at, reverses_of}
+use Rattle.postscript_layout_write.specs.Rules.{is_kept, rules_of, rules_of_type, type_at, type_of}
 
 -- whether a lookup is one of those that are chosen
 abbrev pub is_chosen : (lookups : List ℕ) → (i : ℕ) → Bool
 is_chosen [] i = false
 is_chosen (lookup ∷ lookups) i = (lookup == i) || is_chosen lookups i
-
--- the types that are kept: single, multiple, alternate and ligature substitutions
-abbrev pub is_kept : (type : ℕ) → Bool
-is_kept type = nat_lt 0 type && nat_lt type 5
 
 -- The bits of a flag above bit 3 select classes or sets of marks. Flags are kept whole, or lookups with such bits are left out.
 abbrev pub takes_flag : (whole : Bool) → (flag : ℕ) → Bool
@@ -53,9 +50,18 @@ abbrev pub new_contexts : (whole : Bool) → (gsub lookups kept : List ℕ) → 
 new_contexts whole gsub lookups kept i =
     if keeps_contexts whole gsub lookups i (lookup_at gsub i) then contexts_at gsub kept (lookup_at gsub i) (type_of gsub i) else []
 
+-- a lookup keeps its reverse chaining subtables if it has that type, and if it is taken
+abbrev pub keeps_reverses : (whole : Bool) → (gsub lookups : List ℕ) → (i lookup : ℕ) → Bool
+keeps_reverses whole gsub lookups i lookup = (type_at gsub lookup == 8) && is_taken whole gsub lookups i lookup
+
+-- the reverse chaining subtables of lookup i that can apply to kept glyphs, with these glyphs only, under new numbers
+abbrev pub new_reverses : (whole : Bool) → (gsub lookups kept : List ℕ) → (i : ℕ) → List Context
+new_reverses whole gsub lookups kept i =
+    if keeps_reverses whole gsub lookups i (lookup_at gsub i) then reverses_at gsub kept (lookup_at gsub i) else []
+
 -- The new table keeps scripts and features. It has as many lookups, each with its type, if that is kept, and with its flag and its set of marks, or with
 -- the lowest four bits of its flag. Each lookup has the rules of the old one whose glyphs are all kept, under new numbers, and its contexts, with the same
--- actions and in the same order.
+-- actions and in the same order, or its reverse chaining subtables.
 pub record KeepsRules (whole : Bool) (old chosen kept new : List ℕ) : Type 0 where
   pub lists : KeepsLists old new
   pub lookups : lookups_of new ≡ lookups_of old
@@ -65,6 +71,7 @@ pub record KeepsRules (whole : Bool) (old chosen kept new : List ℕ) : Type 0 w
   pub types : (i : ℕ) → i < lookups_of old → is_kept (type_of old i) ≡ true → type_of new i ≡ type_of old i
   pub rules : (i x : ℕ) → i < lookups_of old → rules_of new i x ≡ new_rules whole old chosen kept i x
   pub contexts : (i : ℕ) → i < lookups_of old → contexts_of new (range_with_len 0 (length kept)) i ≡ new_contexts whole old chosen kept i
+  pub reverses : (i : ℕ) → i < lookups_of old → reverses_of new (range_with_len 0 (length kept)) i ≡ new_reverses whole old chosen kept i
 
 -- without lookups that use classes or sets of marks
 abbrev pub KeepsSubstitutions : (old chosen kept new : List ℕ) → Type 0

@@ -1,6 +1,6 @@
 //! The lookups that contexts apply.
-ghost use Rattle.std.specs.Prelude.{◌≡◌, ◌⊎◌, ◌+◌, ◌*◌, ◌^◌, ◌<◌, ◌≤◌, ℕ, [], Some, false, length, slice_index_or, IfErr, IfOk, IfSome, OnOk};
-ghost use Rattle.std.specs.List.{Contains};
+ghost use Rattle.std.specs.Prelude.{◌≡◌, ◌≢◌, ◌⊎◌, ◌+◌, ◌*◌, ◌^◌, ◌<◌, ◌≤◌, ℕ, [], Some, false, length, slice_index_or, IfErr, IfOk, IfSome, OnOk};
+ghost use Rattle.std.specs.List.{AllPairs, Contains};
 ghost use Rattle.postscript_layout.specs.Numbers.{word as the_word};
 ghost use Rattle.postscript_layout_write.specs.Calls.{AppliesTo, Calls, CallsAt, CallsBy, CallsIn, CallsInSet, IsNamedBy};
 ghost use Rattle.postscript_layout_write.specs.ContextRules.{set_of as the_set};
@@ -28,6 +28,7 @@ pub(crate) struct Lookups {
     pub(crate) lookups: Vec<u16>,
     ghost many: { length marks.items ≡ 65536 },
     ghost noted: { AreNoted marks.items lookups.items },
+    ghost once: { AllPairs (λ x y. x ≢ y) lookups.items },
 }
 
 /// Returns this number of marks. None of them is set.

@@ -1,5 +1,5 @@
 //! Contexts by glyphs and by classes (formats 1 and 2 of types 5 and 6). Each rule is a context of sets of glyphs.
-ghost use Rattle.std.specs.Prelude.{◌≡◌, ◌⊎◌, ◌+◌, ◌*◌, ◌^◌, ◌<◌, ◌≤◌, length, IfErr, IfOk, IfSome, OnOk};
+ghost use Rattle.std.specs.Prelude.{◌≡◌, ◌⊎◌, ◌+◌, ◌*◌, ◌^◌, ◌<◌, ◌≤◌, length, IfErr, IfOk, IfSome, OnOk, false};
 ghost use Rattle.postscript_layout.specs.Numbers.{word as the_word};
 ghost use Rattle.postscript_layout_write.specs.ContextRules.{by_rules, chained_rule as the_chained, plain_rule as the_plain, rule_of as the_rule, rule_parts as the_parts, rules_in, set_of as the_set, sets_of as the_sets};
 ghost use Rattle.postscript_layout_write.specs.Coverages.{AddsContexts, AddsSets, IsMade, IsNear};
@@ -210,7 +210,7 @@ impl Contexts {
     ) -> Result<()>
         requires near { IsNear parts }
         requires few { AreFew labels.now }
-        ensures added { OnOk result (AddsContexts (if_applies (listed_context gsub.now labels.now start.now parts)) self.old self.new) }
+        ensures added { OnOk result (AddsContexts false (if_applies (listed_context gsub.now labels.now start.now parts)) self.old self.new) }
         ensures spends { limit.new ≤ limit.old }
         ensures why { IfErr result (λ e. Fails limit.new e) }
     {
@@ -232,7 +232,7 @@ impl Contexts {
     ) -> Result<()>
         requires near { set < 2 ^ 33 + 65536 }
         requires few { AreFew labels.now }
-        ensures added { OnOk result (AddsContexts (listed_below gsub.now kind labels.now start.now set (the_word gsub.now set)) self.old self.new) }
+        ensures added { OnOk result (AddsContexts false (listed_below gsub.now kind labels.now start.now set (the_word gsub.now set)) self.old self.new) }
         ensures spends { limit.new ≤ limit.old }
         ensures why { IfErr result (λ e. Fails limit.new e) }
     {
@@ -259,7 +259,7 @@ impl Contexts {
         requires near { subtable < 2 ^ 33 }
         requires few { i < 65536 }
         requires exact { AreLabels source.now.gsub.now source.now.kept.now kind subtable labels.now }
-        ensures added { OnOk result (AddsContexts (rules_in source.now.gsub.now source.now.kept.now kind subtable i (the_set source.now.gsub.now kind subtable i)) self.old self.new) }
+        ensures added { OnOk result (AddsContexts false (rules_in source.now.gsub.now source.now.kept.now kind subtable i (the_set source.now.gsub.now kind subtable i)) self.old self.new) }
         ensures spends { limit.new ≤ limit.old }
         ensures why { IfErr result (λ e. Fails limit.new e) }
     {
@@ -285,7 +285,7 @@ impl Contexts {
     ) -> Result<()>
         requires near { subtable < 2 ^ 33 }
         requires few { length source.now.kept.now < 65536 }
-        ensures added { OnOk result (AddsContexts (by_rules source.now.gsub.now source.now.kept.now kind subtable) self.old self.new) }
+        ensures added { OnOk result (AddsContexts false (by_rules source.now.gsub.now source.now.kept.now kind subtable) self.old self.new) }
         ensures spends { limit.new ≤ limit.old }
         ensures why { IfErr result (λ e. Fails limit.new e) }
     {

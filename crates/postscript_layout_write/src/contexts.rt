@@ -1,6 +1,6 @@
 //! Contexts of substitutions (types 5 and 6) and of positions (types 7 and 8), which are written as chained contexts of sets
 //! of glyphs (format 3).
-ghost use Rattle.std.specs.Prelude.{◌≡◌, ◌⊎◌, ◌+◌, ◌*◌, ◌^◌, ◌<◌, ◌≤◌, ◌++◌, ◌&&◌, [], ◌∷◌, ℕ, Some, true, length, IfErr, IfOk, IfSome, OnOk};
+ghost use Rattle.std.specs.Prelude.{◌≡◌, ◌⊎◌, ◌+◌, ◌*◌, ◌^◌, ◌<◌, ◌≤◌, ◌++◌, ◌&&◌, [], ◌∷◌, ℕ, Some, true, length, IfErr, IfOk, IfSome, OnOk, false};
 ghost use Rattle.std.specs.List.{All};
 ghost use Rattle.postscript_layout.specs.Numbers.{word as the_word, words as the_words};
 ghost use Rattle.postscript_layout_write.specs.Contexts.{all_have_formats as the_formats, chained_parts as the_chained, context_by, context_of, contexts_at, contexts_in, has_format as the_format, is_contextual as the_contextual, parts_of as the_parts, plain_parts as the_plain, sets_at};
@@ -195,7 +195,7 @@ impl Part {
 }
 
 /// Returns the coverage tables of an array of offsets, with the kept glyphs only.
-fn part_of(
+pub(crate) fn part_of(
     alloc: Global,
     source: &Source<'_>,
     subtable: usize,
@@ -224,7 +224,7 @@ fn part_of(
 
 /// Appends offsets after their number.
 #[tactic(auto, unfolding(crate::specs::Coverages::counted_text))]
-fn put_counted(out: &mut Vec<u8>, base: usize, offsets: &[usize]) -> Result<()>
+pub(crate) fn put_counted(out: &mut Vec<u8>, base: usize, offsets: &[usize]) -> Result<()>
     requires near { base < 65536 }
     requires few { length offsets.now < 65536 }
     ensures text { OnOk result (out.new.items ≡ out.old.items ++ counted_text base offsets.now) }
@@ -249,7 +249,7 @@ pub(crate) struct Made {
 }
 
 /// Returns the offset of the first coverage table of a chained context, if it fits into two bytes.
-fn base_of(made: &Made) -> Option<usize>
+pub(crate) fn base_of(made: &Made) -> Option<usize>
     ensures exact { IfSome result (λ base. base ≡ the_base made.now.before.offsets.items made.now.input.offsets.items made.now.after.offsets.items made.now.actions.items) }
     ensures near { IfSome result (λ base. base < 65536) }
 {
@@ -385,7 +385,7 @@ impl Contexts {
     /// Adds a context with `count` actions, if it can apply.
     pub(crate) fn add_made(&mut self, made: &Made, count: usize) -> Result<()>
         requires count { length made.now.actions.items ≡ count * 2 }
-        ensures added { OnOk result ((context : Context) → IsMade context made.now → AddsContexts (if_applies context) self.old self.new) }
+        ensures added { OnOk result ((context : Context) → IsMade context made.now → AddsContexts false (if_applies context) self.old self.new) }
         ensures why { IfErr result (λ e. (e ≡ errors.Memory) ⊎ (e ≡ errors.TooLarge)) }
     {
         if !can_apply(made) {
@@ -411,7 +411,7 @@ impl Contexts {
     ) -> Result<()>
         requires subtable { subtable < 2 ^ 33 }
         requires few { length source.now.kept.now < 65536 }
-        ensures added { OnOk result (AddsContexts (if_applies (context_of source.now.gsub.now source.now.kept.now kind subtable)) self.old self.new) }
+        ensures added { OnOk result (AddsContexts false (if_applies (context_of source.now.gsub.now source.now.kept.now kind subtable)) self.old self.new) }
         ensures spends { limit.new ≤ limit.old }
         ensures why { IfErr result (λ e. Fails limit.new e) }
     {
@@ -432,7 +432,7 @@ impl Contexts {
     ) -> Result<()>
         requires subtable { subtable < 2 ^ 33 }
         requires few { length source.now.kept.now < 65536 }
-        ensures added { OnOk result (AddsContexts (contexts_in source.now.gsub.now source.now.kept.now kind (Some subtable)) self.old self.new) }
+        ensures added { OnOk result (AddsContexts false (contexts_in source.now.gsub.now source.now.kept.now kind (Some subtable)) self.old self.new) }
         ensures spends { limit.new ≤ limit.old }
         ensures why { IfErr result (λ e. Fails limit.new e) }
     {
@@ -456,7 +456,7 @@ pub(crate) fn contexts_of(
 ) -> Result<Contexts>
     requires near { lookup < 2 ^ 31 }
     requires few { length source.now.kept.now < 65536 }
-    ensures exact { IfOk result (λ contexts. HaveContexts (contexts_at source.now.gsub.now source.now.kept.now lookup kind) contexts.offsets.items contexts.bytes.items) }
+    ensures exact { IfOk result (λ contexts. HaveContexts false (contexts_at source.now.gsub.now source.now.kept.now lookup kind) contexts.offsets.items contexts.bytes.items) }
     ensures begins { IfOk result (λ contexts. Holds (mark_set_text flag (set_of source.now.gsub.now lookup)) contexts.bytes.items 0) }
     ensures set { OnOk result (set_of source.now.gsub.now lookup < 65536) }
     ensures spends { limit.new ≤ limit.old }

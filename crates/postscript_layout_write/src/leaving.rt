@@ -16,7 +16,8 @@ fn can_keep(whole: bool, gsub: &[u8], lookup: usize) -> bool
     requires { lookup < 2 ^ 31 }
     ensures { result ≡ the_keeping whole gsub.now lookup }
 {
-    (is_kept(type_of(gsub, lookup)) || is_contextual(gsub, lookup))
+    let kind = type_of(gsub, lookup);
+    (is_kept(kind) || is_contextual(gsub, lookup) || kind == 8)
         && takes_flag(whole, word(gsub, lookup + 2))
 }
 

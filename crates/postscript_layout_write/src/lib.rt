@@ -32,6 +32,9 @@
 //! call, which have to be chosen too, and the glyphs that all of these can make of given ones: the least lists that lead to
 //! no others (specs/Calls.antt, specs/Reached.antt). Text keeps to these glyphs (`laws::text_stays`).
 //!
+//! A reverse chaining subtable of a `GSUB` table keeps the glyphs that are kept with their substitutes, and the kept glyphs
+//! of its backtrack and its lookahead (specs/Reverses.antt). It is dropped if one of these sets is empty.
+//!
 //! `with_features` returns such a table with only some of its features. The scripts and languages are the same, and the
 //! lookups have the same bytes (`HasOnlyFeatures` in specs/Features.antt).
 //!
@@ -41,8 +44,8 @@
 //!   adjustments (type 1), cursive attachment (type 3), marks (types 4 to 6), and contexts (types 7 and 8). Other lookups
 //!   have no subtables, so the lookup indices of features stay valid. `positions_left_out` and
 //!   `flagged_positions_left_out` list them.
-//! - Of `GSUB`, single, multiple, alternate and ligature substitutions are kept, and contexts, also in extensions. Reverse
-//!   chaining (type 8) is not, and lookups that are not chosen have no subtables.
+//! - Of `GSUB`, single, multiple, alternate and ligature substitutions are kept, contexts and reverse chaining, also in
+//!   extensions. Lookups that are not chosen have no subtables.
 //! - A lookup with a flag above bit 3, which uses a set or a class of marks, keeps its positions only by
 //!   `flagged_positions`, and rules and contexts only by `flagged_substitutions`.
 //! - Of `GDEF`, attachment points, carets and variations are dropped.
@@ -86,6 +89,7 @@ mod ranges;
 mod reached;
 mod records;
 mod renumbering;
+mod reverses;
 mod row_subtables;
 mod rule_sets;
 mod rules;

@@ -1,5 +1,5 @@
 //! Contexts of positions (types 7 and 8), which are written as chained contexts by sets of glyphs (format 3).
-ghost use Rattle.std.specs.Prelude.{◌≡◌, ◌^◌, ◌<◌, ◌≤◌, length, IfErr, IfOk, OnOk};
+ghost use Rattle.std.specs.Prelude.{◌≡◌, ◌^◌, ◌<◌, ◌≤◌, length, IfErr, IfOk, OnOk, false};
 ghost use Rattle.postscript_layout_write.specs.Coverages.{AddsChained, HaveContexts};
 ghost use Rattle.postscript_layout_write.specs.Flags.{has_contexts as the_having, set_of};
 ghost use Rattle.postscript_layout_write.specs.Holds.{Holds};
@@ -108,7 +108,7 @@ fn contexts_of(
 ) -> Result<Contexts>
     requires near { lookup < 2 ^ 31 }
     requires few { length source.now.kept.now < 65536 }
-    ensures exact { IfOk result (λ contexts. HaveContexts (contexts_by source.now.gsub.now source.now.kept.now lookup kind) contexts.offsets.items contexts.bytes.items) }
+    ensures exact { IfOk result (λ contexts. HaveContexts false (contexts_by source.now.gsub.now source.now.kept.now lookup kind) contexts.offsets.items contexts.bytes.items) }
     ensures begins { IfOk result (λ contexts. Holds (mark_set_text flag (set_of source.now.gsub.now lookup)) contexts.bytes.items 0) }
     ensures set { OnOk result (set_of source.now.gsub.now lookup < 65536) }
     ensures spends { limit.new ≤ limit.old }
@@ -142,7 +142,7 @@ pub(crate) fn put_contexts(
     requires near { lookup < 2 ^ 31 }
     requires few { length kept.now < 65536 }
     requires small { flag < 65536 }
-    ensures done { OnOk result (AddsChained 8 flag (set_of gpos.now lookup) (contexts_by gpos.now kept.now lookup (type_at gpos.now lookup)) out.old.items out.new.items) }
+    ensures done { OnOk result (AddsChained false 8 flag (set_of gpos.now lookup) (contexts_by gpos.now kept.now lookup (type_at gpos.now lookup)) out.old.items out.new.items) }
     ensures spends { limit.new ≤ limit.old }
     ensures why { IfErr result (λ e. Fails limit.new e) }
 {

@@ -170,7 +170,7 @@ fn contexts_piece(
     requires near { lookup < 2 ^ 31 }
     requires few { length kept.now < 65536 }
     requires small { flag < 65536 }
-    ensures done { IfOk result (λ piece. AddsChained 8 flag (set_of gpos.now lookup) (contexts_by gpos.now kept.now lookup (type_at gpos.now lookup)) [] piece.lookup.items) }
+    ensures done { IfOk result (λ piece. AddsChained false 8 flag (set_of gpos.now lookup) (contexts_by gpos.now kept.now lookup (type_at gpos.now lookup)) [] piece.lookup.items) }
     ensures spends { limit.new ≤ limit.old }
     ensures why { IfErr result (λ e. Fails limit.new e) }
 {

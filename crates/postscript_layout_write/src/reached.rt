@@ -1,5 +1,7 @@
 //! The closure of glyphs over lookups, in which contexts call others.
-ghost use Rattle.std.specs.Prelude.{◌≡◌, ◌⊎◌, ◌<◌, ◌≤◌, length, IfErr, IfOk};
+ghost use Rattle.std.specs.List.{AllPairs};
+ghost use Rattle.std.specs.List.Sorted.{IsStrictlyIncreasing};
+ghost use Rattle.std.specs.Prelude.{◌≡◌, ◌≢◌, ◌⊎◌, ◌<◌, ◌≤◌, length, IfErr, IfOk};
 ghost use Rattle.postscript_layout.specs.Closure.{IsClosure};
 ghost use Rattle.postscript_layout_write.specs.Reached.{AreReached};
 ghost use Rattle.postscript_layout_write.specs.Refusals.{IsUsedUp};
@@ -30,6 +32,7 @@ fn closed_over(
     limit: &mut u64,
 ) -> Result<Vec<u16>>
     ensures closed { IfOk result (λ closed. IsClosure gsub.now lookups.now glyphs.now closed.items) }
+    ensures rises { IfOk result (λ closed. IsStrictlyIncreasing closed.items) }
     ensures few { IfOk result (λ closed. length closed.items ≤ 65536) }
     ensures spends { limit.new ≤ limit.old }
     ensures why { IfErr result (λ e. (e ≡ errors.Memory) ⊎ IsUsedUp limit.new e) }
@@ -64,6 +67,10 @@ pub fn closure_with_called(
 ) -> Result<Reached>
     // The given lookups and glyphs, and exactly those that they lead to.
     ensures reached { IfOk result (λ all. AreReached gsub.now lookups.now glyphs.now all.lookups.items all.glyphs.items) }
+    // Each lookup is there once.
+    ensures once { IfOk result (λ all. AllPairs (λ x y. x ≢ y) all.lookups.items) }
+    // The glyphs are strictly ascending.
+    ensures rises { IfOk result (λ all. IsStrictlyIncreasing all.glyphs.items) }
     // The limit never grows.
     ensures spends { limit.new ≤ limit.old }
     // `TooLong` leaves nothing of the limit. The only other error is `Memory`.

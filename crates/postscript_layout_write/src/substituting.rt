@@ -4,10 +4,10 @@ ghost use Rattle.postscript_layout_write.specs.Flags.{set_of};
 ghost use Rattle.postscript_layout_write.specs.Pairs.{lookups_of};
 ghost use Rattle.postscript_layout_write.specs.Refusals.{Fails, Refuses};
 ghost use Rattle.postscript_layout_write.specs.Renumbering.{AreNumbers};
-ghost use Rattle.postscript_layout_write.specs.RuleLookups.{HasRuleLookups, PutsContexts, PutsNext, PutsOwnRules, PutsRuleList, new_type as the_type};
+ghost use Rattle.postscript_layout_write.specs.RuleLookups.{HasRuleLookups, PutsContexts, PutsNext, PutsOwnRules, PutsReverses, PutsRuleList, new_type as the_type};
 ghost use Rattle.postscript_layout_write.specs.RuleSets.{AreRuleSets, AreSmall, PutsRules, bare_text, rule_front_text, rule_head_text, subtable_offset as the_offset};
-ghost use Rattle.postscript_layout_write.specs.Rules.{type_at};
-ghost use Rattle.postscript_layout_write.specs.Substituting.{KeepsFlaggedSubstitutions, KeepsRules, KeepsSubstitutions, is_chosen as the_chosen, is_kept as the_kept, is_taken as the_taken, keeps as the_keeps, keeps_contexts as the_keeps_contexts, new_flag as the_flag, rules_at, takes_flag as the_taking};
+ghost use Rattle.postscript_layout_write.specs.Rules.{is_kept as the_kept, type_at};
+ghost use Rattle.postscript_layout_write.specs.Substituting.{KeepsFlaggedSubstitutions, KeepsRules, KeepsSubstitutions, is_chosen as the_chosen, is_taken as the_taken, keeps as the_keeps, keeps_contexts as the_keeps_contexts, keeps_reverses as the_keeps_reverses, new_flag as the_flag, rules_at, takes_flag as the_taking};
 ghost use Rattle.postscript_layout_write.specs.declared.error.Error.TheVariants as errors;
 
 use crate::contexts::{Source, contexts_of, is_contextual, put_chained};
@@ -16,6 +16,7 @@ use crate::limit::{pay, pay_all};
 use crate::numbers::{put_uint16, word};
 use crate::positioning::put_front;
 use crate::renumbering::new_numbers;
+use crate::reverses::reverses_of;
 use crate::rule_sets::put_rules;
 use crate::rules::{new_rules, type_of};
 use crate::scope::{put_set, uses_set};
@@ -260,6 +261,39 @@ fn put_contexts(
     Ok(())
 }
 
+/// Whether a lookup keeps its reverse chaining subtables: it has that type, and it is taken.
+fn keeps_reverses(whole: bool, gsub: &[u8], lookup: usize, lookups: &[u16], i: usize) -> bool
+    requires near { lookup < 2 ^ 31 }
+    ensures { result ≡ the_keeps_reverses whole gsub.now lookups.now i lookup }
+{
+    type_of(gsub, lookup) == 8 && is_taken(whole, gsub, lookup, lookups, i)
+}
+
+/// Appends a lookup with its reverse chaining subtables.
+fn put_reverses(
+    alloc: Global,
+    bytes: &mut Vec<u8>,
+    whole: bool,
+    gsub: &[u8],
+    lookup: usize,
+    kept: &[u16],
+    numbers: &[Option<usize>],
+    limit: &mut u64,
+) -> Result<()>
+    requires near { lookup < 2 ^ 31 }
+    requires small { length kept.now < 65536 }
+    requires exact { AreNumbers kept.now numbers.now }
+    ensures done { OnOk result (PutsReverses whole gsub.now kept.now lookup bytes.old.items bytes.new.items) }
+    ensures spends { limit.new ≤ limit.old }
+    ensures why { IfErr result (λ e. Fails limit.new e) }
+{
+    let source = Source { gsub, kept };
+    let flag = new_flag(whole, word(gsub, lookup + 2));
+    let contexts = reverses_of(alloc, &source, numbers, lookup, flag, limit)?;
+    put_chained(bytes, 8, flag as u16, &contexts)?;
+    Ok(())
+}
+
 /// Appends a lookup with its rules.
 fn put_own_rules(
     alloc: Global,
@@ -310,6 +344,8 @@ fn put_next(
     pay_all(limit, word(gsub, lookup + 4))?;
     if keeps_contexts(whole, gsub, lookup, lookups, i) {
         put_contexts(alloc, bytes, whole, gsub, lookup, kept, limit)?;
+    } else if keeps_reverses(whole, gsub, lookup, lookups, i) {
+        put_reverses(alloc, bytes, whole, gsub, lookup, kept, numbers, limit)?;
     } else {
         put_own_rules(
             alloc, bytes, whole, gsub, lookup, lookups, i, kept, numbers, limit,
@@ -423,14 +459,16 @@ fn written(
 /// and as many lookups in the same order. A chosen lookup of type 1 to 4, also by extensions, keeps the rules whose glyphs
 /// are all kept: single, multiple, alternate and ligature substitutions. A chosen lookup of type 5 or 6 whose subtables all
 /// have format 1, 2 or 3 keeps the contexts whose sets of glyphs all have kept glyphs. It is written as a lookup of type 6,
-/// with contexts by sets of glyphs (format 3). All other lookups have no subtables, and neither has a lookup with a flag
-/// above bit 3.
+/// with contexts by sets of glyphs (format 3). A chosen lookup of type 8 keeps the subtables whose sets of glyphs all have
+/// kept glyphs, of the input only those whose substitutes are kept. All other lookups have no subtables, and neither has a
+/// lookup with a flag above bit 3.
 ///
 /// One unit of the limit is paid for each language system, script, feature and lookup, and for each chosen lookup with which
 /// a lookup is compared. One more is paid for each kept glyph in each lookup that is kept, and for each subtable, covered
 /// glyph, range, ligature and glyph of a rule that is looked at. In contexts, 1,000 are paid for each coverage table. In
 /// contexts by glyphs and by classes, one is paid for each set of rules and each rule. Four are paid for each kept glyph in
-/// a subtable, and one for each kept glyph in a set of rules and in a position.
+/// a subtable, and one for each kept glyph in a set of rules and in a position. In reverse chaining, one is paid for each
+/// kept glyph in a subtable.
 ///
 /// # Errors
 ///

@@ -25,7 +25,7 @@
 //! # What is not proved
 //!
 //! - That there is enough memory, which limit suffices, and that a table is lost as `TooLarge` only if it is too large.
-//! - What `postscript_layout_write` leaves out, such as reverse chaining and device tables.
+//! - What `postscript_layout_write` leaves out, such as device tables.
 #![tactic(auto)]
 
 mod closing;

@@ -1,4 +1,4 @@
-use Rattle.std.proofs.Common.{◌+◌, ◌∙◌, ◌++◌, ap, sym, subst, append-nil, List, ℕ, arith}
+use Rattle.std.proofs.Common.{◌+◌, ◌∙◌, ◌++◌, ap, sym, subst, append-nil, List, ℕ, arith, false}
 use Rattle.std.specs.Prelude.{Option, Some}
 use Rattle.postscript_layout_write.specs.Contexts.{contexts_in}
 use Rattle.postscript_layout_write.specs.Sequences.{Context}
@@ -24,18 +24,18 @@ loop-j-preserved c =
     let more = below-more (λ j. contexts_in gsub kept (same_type kind) (typed_at gsub c.args.lookup kind j)) j in
     elim c.match-subtable_at.branch [
       | in-Some+in_ok-add w ↦ record {
-        have = subst (λ (new : Contexts). HaveContexts (contexts_below gsub kept c.args.lookup kind (j + 1)) new.offsets.items new.bytes.items) (sym w.contexts-is)
-            (subst (λ (xs : List Context). HaveContexts xs w.add.new.self.offsets.items w.add.new.self.bytes.items)
+        have = subst (λ (new : Contexts). HaveContexts false (contexts_below gsub kept c.args.lookup kind (j + 1)) new.offsets.items new.bytes.items) (sym w.contexts-is)
+            (subst (λ (xs : List Context). HaveContexts false xs w.add.new.self.offsets.items w.add.new.self.bytes.items)
             (sym (more ∙ ap (λ (p : Option ℕ). before ++ contexts_in gsub kept (same_type kind) p) (sym c.subtable_at.ensures.exact ∙ w.in-Some.is)))
-            ((subst (λ n. AddsContexts (contexts_in gsub kept n (Some w.in-Some.subtable)) c.loop-j.contexts w.add.new.self) w.same_type.ensures w.in_ok-add.ensures.added).have
+            ((subst (λ n. AddsContexts false (contexts_in gsub kept n (Some w.in-Some.subtable)) c.loop-j.contexts w.add.new.self) w.same_type.ensures w.in_ok-add.ensures.added).have
             before c.loop-j.invariant.have));
         begins = subst (λ (new : Contexts). Holds (mark_set_text c.args.flag (set_of gsub c.args.lookup)) new.bytes.items 0) (sym w.contexts-is)
             (holds-begins w.in_ok-add.ensures.added.more c.loop-j.invariant.begins);
         spent = (let is = w.limit-is in omega (arith, is, w.add.ensures.spends, c.pay.ensures.spends, c.loop-j.invariant.spent));
       }
       | in_default w ↦ record {
-        have = subst (λ (new : Contexts). HaveContexts (contexts_below gsub kept c.args.lookup kind (j + 1)) new.offsets.items new.bytes.items) (sym w.contexts-is)
-            (subst (λ (xs : List Context). HaveContexts xs c.loop-j.contexts.offsets.items c.loop-j.contexts.bytes.items)
+        have = subst (λ (new : Contexts). HaveContexts false (contexts_below gsub kept c.args.lookup kind (j + 1)) new.offsets.items new.bytes.items) (sym w.contexts-is)
+            (subst (λ (xs : List Context). HaveContexts false xs c.loop-j.contexts.offsets.items c.loop-j.contexts.bytes.items)
             (sym (more ∙ ap (λ (p : Option ℕ). before ++ contexts_in gsub kept (same_type kind) p) (sym c.subtable_at.ensures.exact ∙ w.in_default.is) ∙ append-nil before))
             c.loop-j.invariant.have);
         begins = subst (λ (new : Contexts). Holds (mark_set_text c.args.flag (set_of gsub c.args.lookup)) new.bytes.items 0) (sym w.contexts-is)

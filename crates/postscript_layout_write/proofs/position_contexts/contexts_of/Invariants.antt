@@ -1,4 +1,4 @@
-use Rattle.std.proofs.Common.{◌≤◌}
+use Rattle.std.proofs.Common.{◌≤◌, false}
 use Rattle.postscript_layout_write.specs.PositionContexts.{contexts_below}
 use Rattle.postscript_layout_write.specs.Coverages.{HaveContexts}
 use Rattle.postscript_layout_write.specs.Flags.{set_of}
@@ -8,7 +8,7 @@ use Rattle.postscript_layout_write.proofs.position_contexts.contexts_of.Given as
 
 abbrev pub invariant-loop-j : goal.invariant-loop-j
 invariant-loop-j l = record {
-  have : HaveContexts (contexts_below l.source.gsub.now l.source.kept.now l.lookup l.kind l.j) l.contexts.offsets.items l.contexts.bytes.items;
+  have : HaveContexts false (contexts_below l.source.gsub.now l.source.kept.now l.lookup l.kind l.j) l.contexts.offsets.items l.contexts.bytes.items;
   begins : Holds (mark_set_text l.flag (set_of l.source.gsub.now l.lookup)) l.contexts.bytes.items 0;
   spent : l.limit ≤ l.fn.limit;
 }

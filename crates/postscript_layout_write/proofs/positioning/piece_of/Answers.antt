@@ -1,4 +1,4 @@
-use Rattle.std.proofs.Common.{◌≡◌, ◌∙◌, ◌+◌, sym, ℕ, ap, subst, []}
+use Rattle.std.proofs.Common.{◌≡◌, ◌∙◌, ◌+◌, sym, ℕ, ap, subst, [], false}
 use Rattle.postscript_layout.specs.Numbers.{word}
 use Rattle.postscript_layout_write.specs.Coverages.{AddsChained}
 use Rattle.postscript_layout_write.specs.Flags.{set_of}
@@ -37,4 +37,4 @@ returns-then-contextual-clause-done c =
     let piece = c.in_ok-piece-2.piece in
     let flag : c.new_flag-flag.result ≡ new_flag c.args.scope (word gpos (lookup + 2)) = c.new_flag-flag.ensures.exact ∙ ap (new_flag c.args.scope) c.word.ensures.exact in
     contexts-made c.args.scope gpos kept lookup c.args.distance piece.lookup.items piece.subtables.items (sym c.in_ok-contextual.ensures.exact ∙ c.if-contextual.true)
-    (subst (λ (n : ℕ). AddsChained 8 n (set_of gpos lookup) (contexts_by gpos kept lookup (type_at gpos lookup)) [] piece.lookup.items) flag c.in_ok-piece-2.ensures.done)
+    (subst (λ (n : ℕ). AddsChained false 8 n (set_of gpos lookup) (contexts_by gpos kept lookup (type_at gpos lookup)) [] piece.lookup.items) flag c.in_ok-piece-2.ensures.done)

@@ -37,7 +37,7 @@ loop-is_done-preserved c =
       done = λ is.
           let many : c.len.result ≡ c.len-count.result = eqb-true c.len.result c.len-count.result is in
           let same : new ≡ old = begins-equal old new followed.begins (omega (arith, many, c.len.ensures, c.len-count.ensures)) in
-          (subst (λ (xs : List ℕ). IsClosure gsub xs given closed) (sym same) closure, followed.called);
+          (subst (λ (xs : List ℕ). IsClosure gsub xs given closed) (sym same) closure, followed.called, c.in_ok-closed.ensures.rises);
       spent = omega (arith, c.pay.ensures.spends, c.closed_over.ensures.spends, c.follow_all.ensures.spends, inv.spent);
     }
 
@@ -47,3 +47,9 @@ returns-clause-reached c =
     let done = inv.done c.loop-is_done-test.false in
     all-reached c.args.gsub.now c.args.lookups.now c.args.glyphs.now c.loop-is_done.found.lookups.items c.loop-is_done.closed.items inv.chosen inv.least
     done.0 done.1
+
+pub returns-clause-once : goal.returns-clause-once
+returns-clause-once c = c.loop-is_done.found.once
+
+pub returns-clause-rises : goal.returns-clause-rises
+returns-clause-rises c = (c.loop-is_done.invariant.done c.loop-is_done-test.false).2

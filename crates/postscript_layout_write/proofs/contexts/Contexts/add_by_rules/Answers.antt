@@ -1,4 +1,4 @@
-use Rattle.std.proofs.Common.{◌≡◌, ◌∙◌, ap, subst, ℕ, List, arith}
+use Rattle.std.proofs.Common.{◌≡◌, ◌∙◌, ap, subst, ℕ, List, arith, false}
 use Rattle.postscript_layout.specs.Numbers.{word}
 use Rattle.postscript_layout_write.specs.ContextRules.{rules_in, set_of, sets_below}
 use Rattle.postscript_layout_write.specs.Coverages.{AddsContexts}
@@ -23,5 +23,5 @@ pub returns-clause-added : goal.returns-clause-added
 returns-clause-added c =
     let gsub = c.args.source.now.gsub.now in
     let all : c.loop-i.i ≡ c.word-count.result = omega arith in
-    subst (λ n. AddsContexts (sets_below gsub c.args.source.now.kept.now c.args.kind c.args.subtable n) c.args.self.now c.loop-i.self)
+    subst (λ n. AddsContexts false (sets_below gsub c.args.source.now.kept.now c.args.kind c.args.subtable n) c.args.self.now c.loop-i.self)
     (all ∙ c.word-count.ensures.exact ∙ ap (word gsub) c.sets_of.ensures.exact) c.loop-i.invariant.added

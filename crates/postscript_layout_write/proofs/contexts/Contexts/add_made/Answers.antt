@@ -1,4 +1,4 @@
-use Rattle.std.proofs.Common.{◌≡◌, ◌∙◌, ◌++◌, ◌∷◌, [], sym, subst, ℕ, List, length, rules}
+use Rattle.std.proofs.Common.{◌≡◌, ◌∙◌, ◌++◌, ◌∷◌, [], sym, subst, ℕ, List, length, rules, false}
 use Rattle.postscript_layout_write.specs.Coverages.{HaveContexts}
 use Rattle.postscript_layout_write.proofs.ContextCollecting.{adds-if, adds-not, applies-same, context-made, contexts-more, puts-begins}
 use Rattle.postscript_layout_write.proofs.contexts.Contexts.add_made.Goals as goal
@@ -14,7 +14,7 @@ returns-clause-added c = λ context is.
     let puts = c.in_ok-put_context.ensures.done in
     let pushed : c.push.new.self.items ≡ old.offsets.items ++ length old.bytes.items ∷ [] = search rules in
     adds-if context old _ (sym (applies-same context c.args.made.now is) ∙ sym c.can_apply.ensures ∙ c.if-not-can_apply.false) (record {
-      have = λ contexts has. subst (λ (xs : List ℕ). HaveContexts (contexts ++ context ∷ []) xs bytes) (sym pushed)
+      have = λ contexts has. subst (λ (xs : List ℕ). HaveContexts false (contexts ++ context ∷ []) xs bytes) (sym pushed)
           (contexts-more contexts context old.offsets.items old.bytes.items bytes has (puts-begins _ _ _ _ puts)
           (context-made context c.args.made.now _ _ _ is puts));
       more = puts-begins _ _ _ _ puts;

@@ -1,4 +1,4 @@
-use Rattle.std.proofs.Common.{◌≡◌, ◌∙◌, ap, subst, ℕ, List, arith}
+use Rattle.std.proofs.Common.{◌≡◌, ◌∙◌, ap, subst, ℕ, List, arith, false}
 use Rattle.postscript_layout_write.specs.ContextRules.{rule_of, rule_parts}
 use Rattle.postscript_layout_write.specs.Coverages.{AddsContexts}
 use Rattle.postscript_layout_write.specs.Labels.{listed_below, listed_context}
@@ -18,7 +18,7 @@ loop-r-preserved c =
     c.rule_parts-parts.ensures.exact ∙ ap (rule_parts gsub c.args.kind) c.rule_of.ensures.exact in
     record {
       added = adds-below f c.loop-r.r c.args.self.now c.loop-r.self c.add_rule.new.self c.loop-r.invariant.added
-          (subst (λ (p : Parts). AddsContexts (if_applies (listed_context gsub c.args.labels.now c.args.start.now p)) c.loop-r.self c.add_rule.new.self) parts
+          (subst (λ (p : Parts). AddsContexts false (if_applies (listed_context gsub c.args.labels.now c.args.start.now p)) c.loop-r.self c.add_rule.new.self) parts
           c.in_ok-add_rule.ensures.added);
       spent = omega (arith, c.pay.ensures.spends, c.add_rule.ensures.spends, c.loop-r.invariant.spent);
     }
@@ -26,5 +26,5 @@ loop-r-preserved c =
 pub returns-clause-added : goal.returns-clause-added
 returns-clause-added c =
     let all : c.loop-r.r ≡ c.word-count.result = omega arith in
-    subst (λ n. AddsContexts (listed_below c.args.gsub.now c.args.kind c.args.labels.now c.args.start.now c.args.set n) c.args.self.now c.loop-r.self)
+    subst (λ n. AddsContexts false (listed_below c.args.gsub.now c.args.kind c.args.labels.now c.args.start.now c.args.set n) c.args.self.now c.loop-r.self)
     (all ∙ c.word-count.ensures.exact) c.loop-r.invariant.added

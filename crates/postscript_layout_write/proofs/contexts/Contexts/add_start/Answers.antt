@@ -1,4 +1,4 @@
-use Rattle.std.proofs.Common.{◌≡◌, ◌∙◌, [], ap, sym, subst, ℕ, List}
+use Rattle.std.proofs.Common.{◌≡◌, ◌∙◌, [], ap, sym, subst, ℕ, List, false}
 use Rattle.std.specs.Prelude.{Option}
 use Rattle.postscript_layout.specs.Numbers.{word}
 use Rattle.postscript_layout_write.specs.ContextRules.{labelled, rules_in}
@@ -21,8 +21,8 @@ returns-then-not-is_some_glyph-clause-added c =
     let none : labelled gsub kept c.args.kind s Start i ≡ [] = sym (having-same gsub kept c.args.kind s Start labels.start.items c.requires.exact.start i)
     ∙ sym (c.deref-2.ensures.value ∙ c.in_ok-start.ensures.exact ∙ ap (λ (ls : List (Option ℕ)). having ls i) c.deref.ensures.value)
     ∙ no-glyph c.deref-2.result.now (sym c.is_some_glyph.ensures ∙ c.if-not-is_some_glyph.true) in
-    subst (λ (p : Option ℕ). AddsContexts (rules_in gsub kept c.args.kind s i p) old old) (sym (sym c.set_of.ensures.exact ∙ c.in-Some.is))
-    (subst (λ (xs : List Context). AddsContexts xs old old) (sym (never-rules gsub kept c.args.kind s i c.in-Some.set (word gsub c.in-Some.set) none)) (adds-nothing old))
+    subst (λ (p : Option ℕ). AddsContexts false (rules_in gsub kept c.args.kind s i p) old old) (sym (sym c.set_of.ensures.exact ∙ c.in-Some.is))
+    (subst (λ (xs : List Context). AddsContexts false xs old old) (sym (never-rules gsub kept c.args.kind s i c.in-Some.set (word gsub c.in-Some.set) none)) (adds-nothing old))
 
 pub returns-clause-added : goal.returns-clause-added
 returns-clause-added c =
@@ -36,6 +36,6 @@ returns-clause-added c =
     let set = c.in-Some.set in
     let start : c.deref-3.result.now ≡ labelled gsub kept c.args.kind s Start i = c.deref-3.ensures.value ∙ c.in_ok-start.ensures.exact
     ∙ ap (λ (ls : List (Option ℕ)). having ls i) c.deref.ensures.value ∙ having-same gsub kept c.args.kind s Start labels.start.items c.requires.exact.start i in
-    subst (λ (p : Option ℕ). AddsContexts (rules_in gsub kept c.args.kind s i p) old new) (sym (sym c.set_of.ensures.exact ∙ c.in-Some.is))
-    (subst (λ (xs : List Context). AddsContexts xs old new)
+    subst (λ (p : Option ℕ). AddsContexts false (rules_in gsub kept c.args.kind s i p) old new) (sym (sym c.set_of.ensures.exact ∙ c.in-Some.is))
+    (subst (λ (xs : List Context). AddsContexts false xs old new)
     (listed-rules gsub kept c.args.kind s labels c.requires.exact i c.deref-3.result.now start set (word gsub set)) c.in_ok-add_set.ensures.added)
