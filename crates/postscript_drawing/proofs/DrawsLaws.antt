@@ -1,22 +1,21 @@
 -- How drawings into sinks follow one another.
 use Rattle.std.proofs.lemmas.List.{append_assoc, append-nil}
 use Rattle.std.proofs.Common.{◌≡◌, Bool, true, false, List, [], ◌∷◌, ◌++◌, Result, Ok, Err, IfOk, OnErr, refl, sym, ap, subst, ◌∙◌}
-use Rattle.std.specs.Prelude.{IsErrAnd}
+use Rattle.std.specs.Prelude.{IsErrAnd, if◌then◌else◌}
 use Rattle.postscript_base.specs.Refusal.{Refusal, overflow}
 use Rattle.postscript_outline.specs.declared.point.Point.{Point}
 use Rattle.postscript_outline.specs.declared.segment.Segment.{Segment}
 use Rattle.postscript_outline.specs.Sinks.{Receives}
 use Rattle.postscript_outline.proofs.Receiving.{received-both, received-more}
-use Rattle.postscript_outline.specs.declared.segment.Segment.TheVariants.{MoveTo, LineTo, CurveTo}
+use Rattle.postscript_outline.specs.declared.segment.Segment.TheVariants.{MoveTo, LineTo, CurveTo, Close}
 use Rattle.postscript_drawing.specs.declared.pen.Pen.{Pen}
 use Rattle.postscript_drawing.specs.declared.stroke.Stroke.{Stroke}
 use Rattle.postscript_drawing.specs.declared.stroke.Stroke.TheVariants.{Move, Line, Curve}
 use Rattle.postscript_drawing.specs.declared.stroke.Vector.{Vector}
 use Rattle.postscript_drawing.specs.declared.undrawn.Undrawn.{Undrawn}
 use Rattle.postscript_drawing.specs.declared.undrawn.Undrawn.TheVariants.{Overflow, Full}
-use Rattle.postscript_drawing.specs.Bends.{IsDrawnBy, IsCurveRefused}
-use Rattle.postscript_drawing.specs.Drawing.{Drawing, ◌>>=◌, begun, closed, closing, drawing, drawn, held, opening, reached}
-use Rattle.postscript_drawing.specs.Outcome.{AreOfFirst, DrawsInto, DrawsStrokes, IsFront}
+use Rattle.postscript_drawing.specs.Drawing.{Drawing, ◌>>=◌, begun, blank_at, closed, closing, drawing, drawn, held, opening, reached}
+use Rattle.postscript_drawing.specs.Outcome.{AreOfFirst, DrawsInto, DrawsStrokes, IsFront, OnStop}
 use Rattle.postscript_drawing.proofs.GivenLaws.{drawing-append, drawing-behind, drawing-grows, front-of, front-through, front-under, mapped, prefixed}
 
 -- a refusal that is passed on
@@ -48,11 +47,9 @@ both-drawn : (these those : List Stroke) (pen mid : Pen) (given : List Segment) 
 both-drawn these those pen mid given first =
     drawing-append these those (held pen []) ∙ ap (λ r. r >>= drawing those) first ∙ drawing-behind those (held mid given)
 
-both-first : (these those : List Stroke) (pen mid : Pen) (given more : List Segment) (r : Result (Unit {0}) Undrawn) →
-    drawing these (held pen []) ≡ Ok (held mid given) → OnErr r (AreOfFirst those (held mid []) more) →
-    OnErr r (AreOfFirst (these ++ those) (held pen []) (given ++ more))
-both-first these those pen mid given more (Ok done) is of_first = tt
-both-first these those pen mid given more (Err e) is of_first = record {
+both-first : (these those : List Stroke) (pen mid : Pen) (given more : List Segment) → drawing these (held pen []) ≡ Ok (held mid given) →
+    AreOfFirst those (held mid []) more → AreOfFirst (these ++ those) (held pen []) (given ++ more)
+both-first these those pen mid given more is of_first = record {
   first = these ++ of_first.first;
   rest = of_first.rest;
   parts = ap (λ v. these ++ v) of_first.parts ∙ sym (append_assoc these of_first.first of_first.rest);
@@ -60,6 +57,17 @@ both-first these those pen mid given more (Err e) is of_first = record {
   draws = both-drawn these of_first.first pen mid given is ∙ ap (mapped (prefixed given)) of_first.draws;
   front = front-under given more of_first.to.segments of_first.front;
 }
+
+both-stop : (these those : List Stroke) (pen mid : Pen) (given more : List Segment) (r : Result (Unit {0}) Undrawn) →
+    drawing these (held pen []) ≡ Ok (held mid given) → OnStop r more (AreOfFirst those (held mid [])) →
+    OnStop r (given ++ more) (AreOfFirst (these ++ those) (held pen []))
+both-stop these those pen mid given more (Ok done) is stop = tt
+both-stop these those pen mid given more (Err Overflow) is stop = both-first these those pen mid given more is stop
+both-stop these those pen mid given more (Err Full) is stop = (
+  stop.0,
+  subst (AreOfFirst (these ++ those) (held pen [])) (sym (append_assoc given more (stop.0 ∷ [])))
+      (both-first these those pen mid given (more ++ stop.0 ∷ []) is stop.1),
+)
 
 pub joined : {T : Type 0} {after : T → Segment → T → Type 0} {refuses : T → Type 0} {these those : List Stroke} {pen mid pen' : Pen}
     {old between new : T} {done : Unit {0}} {r : Result (Unit {0}) Undrawn} →
@@ -77,7 +85,7 @@ joined {T} {after} {refuses} {these} {those} {pen} {mid} {pen'} {old} {between} 
         front = subst (λ w. OnErr r (IfOk w (λ d. IsFront (first.given ++ next.given) d.segments))) whole
             (mapped-front first.given wanted r next.given next.draws.front);
       };
-      of_first = both-first these those pen mid first.given next.given r first.draws.exact next.of_first;
+      of_first = both-stop these those pen mid first.given next.given r first.draws.exact next.of_first;
       taken = received-both after old between new first.given next.given first.taken next.taken;
       full = next.full;
     }
@@ -99,6 +107,11 @@ more-behind these those from given are = record {
   front = are.front;
 }
 
+stop-behind : (these those : List Stroke) (from : Drawing) (given : List Segment) (e : Undrawn) →
+    OnStop (Err e) given (AreOfFirst these from) → OnStop (Err e) given (AreOfFirst (these ++ those) from)
+stop-behind these those from given Overflow stop = more-behind these those from given stop
+stop-behind these those from given Full stop = (stop.0, more-behind these those from (given ++ stop.0 ∷ []) stop.1)
+
 pub first-refused : {T : Type 0} {after : T → Segment → T → Type 0} {refuses : T → Type 0} {these : List Stroke} (those : List Stroke)
     {pen pen' : Pen} {old new : T} {e : Undrawn} →
     DrawsStrokes after refuses these pen old (Err e) pen' new → DrawsStrokes after refuses (these ++ those) pen old (Err e) pen' new
@@ -112,7 +125,7 @@ first-refused {T} {after} {refuses} {these} those {pen} {pen'} {old} {new} {e} d
         exact = first-into these those (held pen []) (held pen' draws.given) e draws.draws.exact;
         front = subst Fronts (sym (drawing-append these those (held pen []))) grows;
       };
-      of_first = more-behind these those (held pen []) draws.given draws.of_first;
+      of_first = stop-behind these those (held pen []) draws.given e draws.of_first;
       taken = draws.taken;
       full = draws.full;
     }
@@ -188,42 +201,30 @@ overflows s pen pen' out same = record {
     by-refusal (Ok d) is = refl
     by-refusal (Err e) is = tt
 
--- nothing is taken: the front is empty
-any-front : (w : Result Drawing Refusal) → IfOk w (λ d. IsFront [] d.segments)
-any-front (Ok d) = refl
-any-front (Err e) = tt
-
-pub full_at_once : {T : Type 0} {after : T → Segment → T → Type 0} {refuses : T → Type 0} (s : Stroke) (pen pen' : Pen) {old new : T} →
-    new ≡ old → refuses new → DrawsStrokes after refuses (s ∷ []) pen old (Err Full) pen' new
-full_at_once s pen pen' same full =
-    record {
-      given = [];
-      draws = record { exact = tt; front = any-front (drawing (s ∷ []) (held pen [])) };
-      of_first = none-first (s ∷ []) (held pen []);
-      taken = same;
-      full = full;
-    }
-
--- the contour is ended, or begun, and the segment itself is not taken
+-- some of its segments are taken, and the next one is not
 pub full_behind : {T : Type 0} {after : T → Segment → T → Type 0} {refuses : T → Type 0} (s : Stroke) (pen pen' : Pen)
-    (first : List Segment) (segment : Segment) (d : Drawing) {old mid new : T} →
-    drawn s (held pen []) ≡ Ok d → d.segments ≡ first ++ segment ∷ [] → Receives after old first mid → new ≡ mid → refuses
+    (first : List Segment) (segment : Segment) (more : List Segment) (d : Drawing) {old mid new : T} →
+    drawn s (held pen []) ≡ Ok d → d.segments ≡ first ++ segment ∷ more → Receives after old first mid → new ≡ mid → refuses
     new → DrawsStrokes after refuses (s ∷ []) pen old (Err Full) pen' new
-full_behind {T} {after} {refuses} s pen pen' first segment d {old} {mid} {new} is all begun same full = record {
+full_behind {T} {after} {refuses} s pen pen' first segment more d {old} {mid} {new} is all begun same full = record {
   given = first;
   draws = record {
     exact = tt;
     front = subst (λ (w : Result Drawing Refusal). IfOk w (λ e. IsFront first e.segments)) (sym (ap (λ r. r >>= drawing []) is))
-        (subst (IsFront first) (sym all) (front-of first (segment ∷ [])));
+        (subst (IsFront first) (sym all) (front-of first (segment ∷ more)));
   };
-  of_first = record {
-    first = s ∷ [];
-    rest = [];
-    parts = refl;
-    to = d;
-    draws = ap (λ r. r >>= drawing []) is;
-    front = subst (IsFront first) (sym all) (front-of first (segment ∷ []));
-  };
+  of_first = (
+    segment,
+    record {
+      first = s ∷ [];
+      rest = [];
+      parts = refl;
+      to = d;
+      draws = ap (λ r. r >>= drawing []) is;
+      front = subst (IsFront (first ++ segment ∷ [])) (append_assoc first (segment ∷ []) more ∙ sym all)
+          (front-of (first ++ segment ∷ []) more);
+    },
+  );
   taken = subst (Receives after old first) (sym same) begun;
   full = full;
 }
@@ -254,6 +255,12 @@ begun-there : (at : Point) (is_open : Bool) →
 begun-there at true = refl
 begun-there at false = refl
 
+pub closing-open : (pen : Pen) → pen.is_open ≡ true → closing pen ≡ Close ∷ []
+closing-open pen is = ap (λ b. if b then Close ∷ [] else []) is
+
+pub opening-closed : (pen : Pen) → pen.is_open ≡ false → opening pen ≡ MoveTo pen.at ∷ []
+opening-closed pen is = ap (λ b. if b then [] else MoveTo pen.at ∷ []) is
+
 abbrev pub standing : (at : Point) (segments : List Segment) → Drawing
 standing at segments = record { place = at; is_open = true; segments = segments }
 
@@ -275,9 +282,23 @@ lined pen by p is =
 pub lined-out : (pen : Pen) (by : Vector) → reached pen.at by ≡ Err overflow → drawn (Line by) (held pen []) ≡ Err overflow
 lined-out pen by is = ap (λ r. r >>= λ q. Ok (standing q ((begun (held pen [])).segments ++ LineTo q ∷ []))) is
 
-pub curved : (pen : Pen) (a b c : Vector) (p q r : Point) → IsDrawnBy pen.at a b c p q r → drawn (Curve a b c)
-    (held pen []) ≡ Ok (standing r (opening pen ++ CurveTo p q r ∷ []))
-curved pen a b c p q r is = is pen.is_open [] ∙ ap (λ v. Ok (standing r (v ++ CurveTo p q r ∷ []))) (begun-there pen.at pen.is_open)
+pub curved : (pen : Pen) (a b c : Vector) (p q r : Point) → reached pen.at a ≡ Ok p → reached p b ≡ Ok q → reached q c ≡ Ok r →
+    drawn (Curve a b c) (held pen []) ≡ Ok (standing r (opening pen ++ CurveTo p q r ∷ []))
+curved pen a b c p q r first second last =
+    let to : Point → Point → Point → Result Drawing Refusal = λ p q r.
+    Ok (standing r ((begun (held pen [])).segments ++ CurveTo p q r ∷ [])) in
+    ap (λ x. x >>= λ p. reached p b >>= λ q. reached q c >>= to p q) first
+    ∙ ap (λ x. x >>= λ q. reached q c >>= to p q) second
+    ∙ ap (λ x. x >>= to p q) last
+    ∙ ap (λ v. Ok (standing r (v ++ CurveTo p q r ∷ []))) (begun-there pen.at pen.is_open)
 
-pub curved-out : (pen : Pen) (a b c : Vector) → IsCurveRefused pen.at a b c → drawn (Curve a b c) (held pen []) ≡ Err overflow
-curved-out pen a b c is = is pen.is_open []
+-- one step leaves the range, or one behind it
+out-then : {A B C : Type 0} (r : Result A Refusal) (f : A → Result B Refusal) (g : A → Result C Refusal) →
+    ((x : A) → f x ≡ Err overflow → g x ≡ Err overflow) → r >>= f ≡ Err overflow → r >>= g ≡ Err overflow
+out-then (Ok x) f g next out = next x out
+out-then {A} {B} {C} (Err e) f g next out = ap (λ (x : Result B Refusal). x >>= λ y. Err overflow) out
+
+pub curved-out : (pen : Pen) (a b c : Vector) → drawn (Curve a b c) (blank_at pen.at) ≡ Err overflow →
+    drawn (Curve a b c) (held pen []) ≡ Err overflow
+curved-out pen a b c out =
+    out-then (reached pen.at a) _ _ (λ p. out-then (reached p b) _ _ (λ q. out-then (reached q c) _ _ (λ r is. cc))) out

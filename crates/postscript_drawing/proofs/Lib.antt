@@ -1,5 +1,6 @@
 pub mod ContourLaws
 pub mod DrawsLaws
+pub mod Filling
 pub mod FittingLaws
 pub mod FlatLaws
 pub mod Flexes

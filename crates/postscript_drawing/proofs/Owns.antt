@@ -19,15 +19,15 @@ use Rattle.postscript_view.specs.declared.font.Glyph.{Glyph}
 use Rattle.postscript_drawing.specs.Accents.{IsAccent, IsTold, run_by}
 use Rattle.postscript_drawing.specs.Components.{IsComponent}
 use Rattle.postscript_base.specs.Refusal.{Refusal}
-use Rattle.postscript_drawing.specs.DrawnProgram.{DrawsFront, DrawsOfFirst, IsUndrawn, IsWanting}
+use Rattle.postscript_drawing.specs.DrawnProgram.{DrawsOfFirst, IsUndrawn, IsWanting}
 use Rattle.postscript_drawing.specs.Drawing.{Drawing, ◌>>=◌, blank_at, closed, drawing}
 use Rattle.postscript_drawing.specs.Outcome.{IsFront}
 use Rattle.postscript_drawing.specs.Given.{GivesComponent, GivesComponents, GivesGlyph, GivesOwn, GivesOwnFront}
-use Rattle.postscript_drawing.specs.Outline.{drawing_of, finished, outlined_at}
+use Rattle.postscript_drawing.specs.Outline.{finished, outlined_at}
 use Rattle.postscript_drawing.specs.Drawn.{DrawsAt, DrawsComponent, DrawsComponents, HasOwn, IsDrawnAs, Takes, zero_point}
 use Rattle.postscript_drawing.specs.Refused.{AreRefused, IsAccented, IsComponentRefused, IsGlyphRefused, IsNested, IsUndrawnGlyph, IsUnread}
 use Rattle.postscript_drawing.proofs.GivenLaws.{front-of}
-use Rattle.postscript_drawing.proofs.ProgramLaws.{outlined-so, strokes_of}
+use Rattle.postscript_drawing.proofs.ProgramLaws.{front-of-first, outlined-so, strokes_of}
 use Rattle.postscript_drawing.specs.declared.accent.Accent.{Accent}
 use Rattle.postscript_drawing.specs.declared.glyph.Own.{Own}
 use Rattle.postscript_drawing.specs.declared.error.Error.{Error}
@@ -176,24 +176,6 @@ component-undrawn left font code glyph origin e component (inr refused) =
 
 -- what is given of a drawing that is refused
 
--- all that a run draws is a front of what its operations draw
-pub whole-front : {T : Type 0} {after : T → Segment → T → Type 0} {old new : T} (origin : Point) (answers : List Answer) (end : End)
-    (segments : List Segment) → outlined_at origin answers end ≡ Ok segments → Receives after old segments new →
-    DrawsFront after origin old new answers
-whole-front {T} {after} {old} {new} origin answers end segments drawn taken =
-    record { given = segments; front = by-drawing (drawing_of answers (blank_at origin)) end drawn; taken = taken }
-  where
-    by-drawing : (r : Result Drawing Refusal) (end : End) → r >>= finished end ≡ Ok segments → IfOk (r >>= finished UsedUp)
-        (λ all. IsFront segments all)
-    by-drawing (Err e) end is = tt
-    by-drawing (Ok d) (Fault e) is = cc
-    by-drawing (Ok d) UsedUp is =
-        let same : (closed d).segments ≡ segments = cc in subst (IsFront segments) (append-nil segments ∙ sym same) (front-of segments [])
-    by-drawing (Ok d) (Returned st) is =
-        let same : (closed d).segments ≡ segments = cc in subst (IsFront segments) (append-nil segments ∙ sym same) (front-of segments [])
-    by-drawing (Ok d) (Finished taken width) is =
-        let same : (closed d).segments ≡ segments = cc in subst (IsFront segments) (append-nil segments ∙ sym same) (front-of segments [])
-
 -- the drawing whose contour is ended there
 behind-end : (r : Result Drawing Refusal) (end : End) (segments : List Segment) → r >>= finished end ≡ Ok segments →
     (to : Drawing) × (r ≡ Ok to) × (segments ≡ (closed to).segments)
@@ -227,26 +209,31 @@ whole-first {T} {after} {old} {new} origin answers end segments drawn taken =
       taken = taken;
     }
 
-pub own-front : {A : Type 0} {T : Type 0} (after : T → Segment → T → Type 0) (old new : T) (r : Result A Error) (font : FontView) (i : ℕ)
-    (glyph : Glyph) (origin : Point) → HasRun font i glyph.part.now (run_by glyph) →
-    OnErr r (DrawsFront after origin old new (run_by glyph).answers) → OnErr r (DrawsOfFirst after origin old new (run_by glyph).answers) →
-    OnErr r (GivesOwn after origin old new font i)
-own-front after old new (Ok own) font i glyph origin has front of_first = tt
-own-front after old new (Err e) font i glyph origin has front of_first =
-    inr (record { part = glyph.part.now; run = run_by glyph; has = has; front = front; of_first = of_first })
+-- of a glyph that is not drawn
+pub own-front : {T : Type 0} {after : T → Segment → T → Type 0} {old new : T} (font : FontView) (i : ℕ) (glyph : Glyph) (origin : Point) →
+    HasRun font i glyph.part.now (run_by glyph) → DrawsOfFirst after origin old new (run_by glyph).answers →
+    GivesOwn after origin old new font i
+own-front font i glyph origin has of_first = inr (record {
+  part = glyph.part.now;
+  run = run_by glyph;
+  has = has;
+  front = front-of-first (run_by glyph).answers of_first;
+  of_first = of_first;
+})
 
 -- of a glyph that is drawn by itself
 pub own-whole : {T : Type 0} {after : T → Segment → T → Type 0} {old new : T} (font : FontView) (glyph : ℕ) (origin : Point)
     (segments : List Segment) (width : Option ℤ) (accent : Option Accent) →
     HasOwn font glyph origin segments width accent → Receives after old segments new → GivesOwnFront after origin old new font glyph
 own-whole font glyph origin segments width accent own taken =
+    let of_first = whole-first origin own.run.answers own.run.end segments own.draws taken in
     record {
       part =
           own.part;
       run = own.run;
       has = own.has;
-      front = whole-front origin own.run.answers own.run.end segments own.draws taken;
-      of_first = whole-first origin own.run.answers own.run.end segments own.draws taken;
+      front = front-of-first own.run.answers of_first;
+      of_first = of_first;
     }
 
 pub component-front : {T : Type 0} {after : T → Segment → T → Type 0} {old new : T} (font : FontView) (code glyph : ℕ) (origin : Point) →
@@ -271,10 +258,6 @@ accented-front {T} {after} {old} {between} font glyph segments width accent own 
       own = (segments, own.draws, taken);
       some = some;
     })
-
-pub on-err : {A : Type 0} {P : Type 0} (r : Result A Error) → P → OnErr r P
-on-err (Ok x) holds = tt
-on-err (Err e) holds = holds
 
 -- the base is drawn, and some of the accent
 pub accent-front : {T : Type 0} (after : T → Segment → T → Type 0) (old between new : T) (r : Result (Unit {0}) Error) (font : FontView)

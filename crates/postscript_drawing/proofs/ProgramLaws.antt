@@ -11,6 +11,7 @@ use Rattle.postscript_outline.specs.declared.segment.Segment.{Segment}
 use Rattle.postscript_outline.specs.Sinks.{Receives}
 use Rattle.postscript_outline.proofs.Receiving.{received-both}
 use Rattle.postscript_outline.specs.declared.segment.Segment.TheVariants.{Close}
+use Rattle.postscript_drawing.specs.declared.error.Error.{Error}
 use Rattle.postscript_drawing.specs.declared.error.Error.TheVariants as errors
 use Rattle.postscript_drawing.specs.declared.pen.Pen.{Pen}
 use Rattle.postscript_drawing.specs.declared.stroke.Stroke.{Stroke}
@@ -18,11 +19,12 @@ use Rattle.postscript_drawing.specs.declared.undrawn.Undrawn.{Undrawn}
 use Rattle.postscript_drawing.specs.declared.undrawn.Undrawn.TheVariants.{Overflow, Full}
 use Rattle.postscript_drawing.specs.DrawnProgram.{DrawsFront, DrawsOfFirst, IsUndrawn, IsWanting, all_strokes, so_far}
 use Rattle.postscript_drawing.specs.Drawing.{Drawing, ◌>>=◌, blank_at, closed, closing, drawing, held}
-use Rattle.postscript_drawing.specs.Outcome.{DrawsStrokes, IsFront}
+use Rattle.postscript_drawing.specs.Outcome.{AreOfFirst, DrawsStrokes, IsFront, OnStop, OrFull}
 use Rattle.postscript_drawing.specs.Operators.{strokes}
 use Rattle.postscript_drawing.specs.Outline.{drawing_of, finished, outlined_at}
 use Rattle.postscript_drawing.specs.Undrawn.{error_of}
-use Rattle.postscript_drawing.proofs.DrawsLaws.{SoFar, so_all}
+use Rattle.postscript_drawing.proofs.DrawsLaws.{SoFar, closing-open, so_all}
+use Rattle.postscript_drawing.proofs.Filling.{received-full}
 use Rattle.postscript_drawing.proofs.GivenLaws.{drawing-append, drawing-grows, front-of, front-through, front-trans}
 use Rattle.postscript_type2.specs.declared.program.within.Within.{Within}
 use Rattle.postscript_type2.specs.declared.program.within.Within.TheVariants.{End as AtEnd}
@@ -89,45 +91,12 @@ drawn-whole {T} {after} {refuses} {origin} {old} {now} {new} pen answers left en
       received-both after old now new draws.given (closing pen) draws.taken ended,
     )
 
--- a front of all that is drawn
+-- a front of what the first strokes draw
 
 closed-grows : (at : Point) (is_open : Bool) (segments : List Segment) →
     IsFront segments (closed (record { place = at; is_open = is_open; segments = segments })).segments
 closed-grows at true segments = front-of segments (Close ∷ [])
 closed-grows at false segments = subst (IsFront segments) (append-nil segments) (front-of segments [])
-
-front-of-all : (given : List Segment) (origin : Point) (answers : List Answer) →
-    IfOk (drawing (strokes_of answers) (held (pen_at origin) [])) (λ d. IsFront given d.segments) →
-    IfOk (outlined_at origin answers UsedUp) (λ segments. IsFront given segments)
-front-of-all given origin answers front =
-    subst (λ (r : Result (List Segment) Refusal). IfOk r (λ segments. IsFront given segments)) (sym (outlined-so origin answers UsedUp))
-    (front-through (λ d. d.segments) (λ ss. ss) given (drawing (strokes_of answers) (held (pen_at origin) [])) (finished UsedUp) front
-    (λ d. closed-grows d.place d.is_open d.segments))
-
-pub front-so-far : {T : Type 0} {after : T → Segment → T → Type 0} {refuses : T → Type 0} {origin : Point} {old now new : T} {pen : Pen}
-    (answers : List Answer) {left : List Stroke} → SoFar after refuses (strokes_of answers) left (pen_at origin) old pen now → new ≡ now →
-    DrawsFront after origin old new answers
-front-so-far {T} {after} {refuses} {origin} {old} {now} {new} {pen} answers {left} far same =
-    let start = held (pen_at origin) [] in
-    let given = far.draws.given in
-    let all = ap (λ v. drawing v start) far.parts ∙ drawing-append far.done left start
-    ∙ ap (λ r. r >>= drawing left) far.draws.draws.exact in
-    let grows = subst (λ (r : Result Drawing Refusal). IfOk r (λ d. IsFront given d.segments)) (sym all)
-    (drawing-grows left (held pen given)) in
-    record {
-      given =
-          given;
-      front = front-of-all given origin answers grows;
-      taken = subst (Receives after old given) (sym same) far.draws.taken;
-    }
-
-pub front-refused : {T : Type 0} {after : T → Segment → T → Type 0} {refuses : T → Type 0} {origin : Point} {old new : T} {pen : Pen}
-    {e : Undrawn} (answers : List Answer) → DrawsStrokes after refuses (strokes_of answers) (pen_at origin) old (Err e) pen new →
-    DrawsFront after origin old new answers
-front-refused {T} {after} {refuses} {origin} answers draws =
-    record { given = draws.given; front = front-of-all draws.given origin answers draws.draws.front; taken = draws.taken }
-
--- a front of what the first strokes draw, also where others behind them leave the range
 
 front-so : (rest : List Stroke) (d : Drawing) (given : List Segment) → IsFront given d.segments → IsFront given (so_far rest d)
 front-so [] d given front = front-trans given d.segments (closed d).segments front (closed-grows d.place d.is_open d.segments)
@@ -149,21 +118,101 @@ first-so-far {T} {after} {refuses} {origin} {old} {now} {new} {pen} answers {lef
       taken = subst (Receives after old given) (sym same) far.draws.taken;
     }
 
+-- of first strokes that are so drawn
+of-first : {T : Type 0} {after : T → Segment → T → Type 0} {origin : Point} {old new : T} (answers : List Answer) (given : List Segment) →
+    AreOfFirst (strokes_of answers) (blank_at origin) given → Receives after old given new → DrawsOfFirst after origin old new answers
+of-first answers given are taken = record {
+  first = are.first;
+  rest = are.rest;
+  parts = are.parts;
+  to = are.to;
+  draws = are.draws;
+  given = given;
+  front = front-so are.rest are.to given are.front;
+  taken = taken;
+}
+
+-- without the segment that was not taken
+stopped : (e : Undrawn) (strokes : List Stroke) (from : Drawing) (given : List Segment) → OnStop (Err e) given (AreOfFirst strokes from) →
+    AreOfFirst strokes from given
+stopped Overflow strokes from given stop = stop
+stopped Full strokes from given stop = record {
+  first = stop.1.first;
+  rest = stop.1.rest;
+  parts = stop.1.parts;
+  to = stop.1.to;
+  draws = stop.1.draws;
+  front = front-trans given (given ++ stop.0 ∷ []) stop.1.to.segments (front-of given (stop.0 ∷ [])) stop.1.front;
+}
+
 pub first-of-refused : {T : Type 0} {after : T → Segment → T → Type 0} {refuses : T → Type 0} {origin : Point} {old new : T} {pen : Pen}
     {e : Undrawn} (answers : List Answer) → DrawsStrokes after refuses (strokes_of answers) (pen_at origin) old (Err e) pen new →
     DrawsOfFirst after origin old new answers
-first-of-refused {T} {after} {refuses} {origin} answers draws =
-    let are = draws.of_first in
+first-of-refused {T} {after} {refuses} {origin} {old} {new} {pen} {e} answers draws =
+    of-first answers draws.given (stopped e (strokes_of answers) (blank_at origin) draws.given draws.of_first) draws.taken
+
+-- the segment that was not taken is the next one
+
+pub full-so : {A : Type 0} (r : Result A Error) (e : Error) → IsErrAnd r (λ x. x ≡ e) → r ≡ Err errors.Full → e ≡ errors.Full
+full-so (Ok x) e same is = absurd same
+full-so (Err x) e same is = cc
+
+pub full-of-refused : {A : Type 0} {T : Type 0} {after : T → Segment → T → Type 0} {refuses : T → Type 0} {origin : Point} {old new : T}
+    {pen : Pen} (answers : List Answer) (r : Result A Error) (e : Undrawn) → IsErrAnd r (λ x. x ≡ error_of e) → r ≡ Err errors.Full →
+    DrawsStrokes after refuses (strokes_of answers) (pen_at origin) old (Err e) pen new →
+    DrawsOfFirst (OrFull after) origin (old, false) (new, true) answers
+full-of-refused answers r Overflow same is draws = let other = full-so r (error_of Overflow) same is in absurd (cc)
+full-of-refused {A} {T} {after} {refuses} {origin} {old} {new} {pen} answers r Full same is draws =
+    of-first answers (draws.given ++ draws.of_first.0 ∷ []) draws.of_first.1
+    (received-full after old new draws.given draws.of_first.0 draws.taken)
+
+-- at the end of the program, where a contour is open
+pub full-at-end : {T : Type 0} {after : T → Segment → T → Type 0} {refuses : T → Type 0} {origin : Point} {old now new : T} {pen : Pen}
+    (answers left : List Answer) → left ≡ [] → SoFar after refuses (strokes_of answers) (strokes_of left) (pen_at origin) old pen now →
+    new ≡ now → pen.is_open ≡ true → DrawsOfFirst (OrFull after) origin (old, false) (new, true) answers
+full-at-end {T} {after} {refuses} {origin} {old} {now} {new} {pen} answers left none far same opened =
+    let draws = so_all (ap strokes_of none) far in
+    let given = draws.given in
+    let all = given ++ Close ∷ [] in
+    let ends = append-nil all ∙ ap (λ v. given ++ v) (sym (closing-open pen opened)) ∙ sym (closed-held pen.at pen.is_open given) in
     record {
-      first = are.first;
-      rest = are.rest;
-      parts = are.parts;
-      to = are.to;
-      draws = are.draws;
-      given = draws.given;
-      front = front-so are.rest are.to draws.given are.front;
-      taken = draws.taken;
+      first = strokes_of answers;
+      rest = [];
+      parts = sym (append-nil (strokes_of answers));
+      to = held pen given;
+      draws = draws.draws.exact;
+      given = all;
+      front = subst (IsFront all) ends (front-of all []);
+      taken = received-full after old new given Close (subst (Receives after old given) (sym same) draws.taken);
     }
+
+-- a front of what the first strokes draw is one of all that is drawn, if all stay in the range
+
+from-rest : (rest : List Stroke) (to : Drawing) (given : List Segment) → IsFront given (so_far rest to) →
+    IfOk (drawing rest to >>= finished UsedUp) (λ segments. IsFront given segments)
+from-rest [] to given front = front
+from-rest (s ∷ rest) to given front =
+    front-through (λ d. d.segments) (λ ss. ss) given (drawing (s ∷ rest) to) (finished UsedUp)
+    (front-through (λ d. d.segments) (λ d. d.segments) given (Ok to) (drawing (s ∷ rest)) front (drawing-grows (s ∷ rest)))
+    (λ d. closed-grows d.place d.is_open d.segments)
+
+pub front-of-first : {T : Type 0} {after : T → Segment → T → Type 0} {origin : Point} {old new : T} (answers : List Answer) →
+    DrawsOfFirst after origin old new answers → DrawsFront after origin old new answers
+front-of-first {T} {after} {origin} answers d =
+    let all = outlined-so origin answers UsedUp
+    ∙ ap (λ r. r >>= finished UsedUp) (ap (λ v. drawing v (blank_at origin)) d.parts ∙ drawing-append d.first d.rest (blank_at origin)
+    ∙ ap (λ r. r >>= drawing d.rest) d.draws) in
+    record {
+      given = d.given;
+      front = subst (λ (r : Result (List Segment) Refusal). IfOk r (λ segments. IsFront d.given segments)) (sym all)
+          (from-rest d.rest d.to d.given d.front);
+      taken = d.taken;
+    }
+
+pub front-so-far : {T : Type 0} {after : T → Segment → T → Type 0} {refuses : T → Type 0} {origin : Point} {old now new : T} {pen : Pen}
+    (answers : List Answer) {left : List Stroke} → SoFar after refuses (strokes_of answers) left (pen_at origin) old pen now → new ≡ now →
+    DrawsFront after origin old new answers
+front-so-far answers far same = front-of-first answers (first-so-far answers far same)
 
 -- why a program is not drawn
 
@@ -224,6 +273,10 @@ step-refused {T} {after} {refuses} {origin} {old} {now} {pen} answers end wantin
 pub on-err : {A E : Type 0} {P : Type 0} (r : Result A E) → P → OnErr r P
 on-err (Ok x) holds = tt
 on-err (Err e) holds = holds
+
+pub with-err : {A E : Type 0} {P Q : Type 0} (r : Result A E) → (P → Q) → OnErr r P → OnErr r Q
+with-err (Ok x) so holds = tt
+with-err (Err e) so holds = so holds
 
 pub if-err : {A E : Type 0} (r : Result A E) (e : E) (P : E → Type 0) → IsErrAnd r (λ x. x ≡ e) → P e → IfErr r P
 if-err (Ok x) e P same holds = tt

@@ -1,6 +1,5 @@
 pub mod Accents
 pub mod Applying
-pub mod Bends
 pub mod Components
 pub mod Drawing
 pub mod Drawn
@@ -8,7 +7,6 @@ pub mod DrawnProgram
 pub mod Fitting
 pub mod Flat
 pub mod Given
-pub mod Left
 pub mod Operations
 pub mod Operators
 pub mod Outline

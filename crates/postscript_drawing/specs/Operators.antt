@@ -1,5 +1,5 @@
 -- The strokes of each operator with its operands (Technical Note 5177, "Path Construction Operators").
-use Rattle.std.specs.Prelude.{ℤ, List, []}
+use Rattle.std.specs.Prelude.{◌≡◌, ℤ, Bool, true, false, List, [], ◌∷◌, Option, Some, None}
 use Rattle.postscript_drawing.specs.declared.stroke.Axis.TheVariants.{Horizontal, Vertical}
 use Rattle.postscript_drawing.specs.declared.stroke.Stroke.{Stroke}
 use Rattle.postscript_drawing.specs.Strokes.{move, move_along, lines, lines_in_turn, curves, curves_level, curves_in_turn, curves_then_line, lines_then_curve, flex, hflex, hflex1, flex1}
@@ -26,3 +26,16 @@ strokes HFlex1 xs = hflex1 xs
 strokes Flex1 xs = flex1 xs
 -- stems and masks draw nothing, nor do operators that are not operations of a run
 strokes op xs = []
+
+-- the operators with two curves
+abbrev pub is_flex : Operator → Bool
+is_flex Flex = true
+is_flex HFlex = true
+is_flex HFlex1 = true
+is_flex Flex1 = true
+is_flex op = false
+
+-- these are all strokes, or there are none
+abbrev pub AreTwo : List Stroke → Option (Stroke × Stroke) → Type 0
+AreTwo all (Some (first, second)) = all ≡ first ∷ second ∷ []
+AreTwo all None = all ≡ []

@@ -1,5 +1,5 @@
 -- The result of drawing: the expected drawing, or the expected error.
-use Rattle.std.specs.Prelude.{◌≡◌, ◌⊎◌, List, [], ◌++◌, length, take, Result, Ok, Err, IfOk, OnErr}
+use Rattle.std.specs.Prelude.{◌≡◌, ◌⊎◌, Bool, true, false, List, [], ◌∷◌, ◌++◌, length, take, Result, Ok, Err, IfOk, OnErr}
 use Rattle.postscript_base.specs.declared.error.Error.{Error}
 use Rattle.postscript_base.specs.declared.error.Error.TheVariants as errors
 use Rattle.postscript_base.specs.Refusal.{Refusal, overflow}
@@ -52,11 +52,23 @@ pub record AreOfFirst (strokes : List Stroke) (from : Drawing) (given : List Seg
   pub draws : drawing first from ≡ Ok to
   pub front : IsFront given to.segments
 
+-- On an error these segments have a property. If the sink is full, they also have it with one more, which the sink did not take.
+abbrev pub OnStop : Result (Unit {0}) Undrawn → (given : List Segment) → (List Segment → Type 0) → Type 0
+OnStop (Ok done) given Holds = Unit {0}
+OnStop (Err Overflow) given Holds = Holds given
+OnStop (Err Full) given Holds = (next : Segment) × Holds (given ++ next ∷ [])
+
+-- The states of a sink, each with whether it was full: it receives segments until it does not take one, which leaves its state unchanged.
+abbrev pub OrFull : {T : Type 0} (after : T → Segment → T → Type 0) → T × Bool → Segment → T × Bool → Type 0
+OrFull after (old, false) segment (new, false) = after old segment new
+OrFull after (old, false) segment (new, true) = new ≡ old
+OrFull after (old, true) segment new = ⊥
+
 -- A pen draws strokes from its current point into a sink, which receives the segments one after another.
 pub record DrawsStrokes {T : Type 0} (after : T → Segment → T → Type 0) (refuses : T → Type 0) (strokes : List Stroke) (pen : Pen) (old : T)
     (answered : Result (Unit {0}) Undrawn) (pen' : Pen) (new : T) : Type 0 where
   pub given : List Segment
   pub draws : DrawsTo (drawing strokes (held pen [])) answered (held pen' given)
-  pub of_first : OnErr answered (AreOfFirst strokes (held pen []) given)
+  pub of_first : OnStop answered given (AreOfFirst strokes (held pen []))
   pub taken : Receives after old given new
   pub full : IsFullWhere refuses answered new

@@ -1,15 +1,31 @@
 //! Flexes: two curves in one operation.
-ghost use Rattle.std.specs.Prelude.{◌≡◌, ◌+◌, ◌^◌, ◌≤◌, ◌+ℤ◌, pos, neg_ℤ, unsigned_abs};
-ghost use Rattle.postscript_drawing.specs.Left.{left};
+ghost use Rattle.std.specs.Prelude.{◌≡◌, ◌+◌, ◌^◌, ◌≤◌, ◌+ℤ◌, None, false, true, pos, neg_ℤ, unsigned_abs};
+ghost use Rattle.postscript_drawing.specs.Operators.{AreTwo, is_flex, strokes as the_strokes};
 ghost use Rattle.postscript_drawing.specs.Strokes.{along as the_along, by as the_by, back as the_back, flex as the_flex, hflex as the_hflex, hflex1 as the_hflex1, flex1 as the_flex1};
 
 use crate::operands::{by, wide};
-use crate::stroke::{Axis, Stroke, Strokes, Vector};
-use postscript_type2::Operand;
+use crate::stroke::{Axis, Stroke, Vector};
+use postscript_type2::{Operand, Operator};
+
+/// Returns the two strokes of a flex. `None` if the operator is not a flex, or takes another number of operands.
+pub fn flex_strokes(operator: Operator, operands: &[Operand]) -> Option<(Stroke, Stroke)>
+    // If the operator is a flex, these are its strokes, and `None` means that it has none.
+    ensures flex { is_flex operator ≡ true → AreTwo (the_strokes operator operands.now) result }
+    // If the operator is not a flex, the result is `None`.
+    ensures other { is_flex operator ≡ false → result ≡ None }
+{
+    match operator {
+        Operator::Flex => flex(operands),
+        Operator::HFlex => hflex(operands),
+        Operator::HFlex1 => hflex1(operands),
+        Operator::Flex1 => flex1(operands),
+        _ => None,
+    }
+}
 
 /// dx1 dy1 dx2 dy2 dx3 dy3 dx4 dy4 dx5 dy5 dx6 dy6 fd
-pub(crate) fn flex(operands: &[Operand]) -> Strokes<'_>
-    ensures { left result ≡ the_flex operands.now }
+fn flex(operands: &[Operand]) -> Option<(Stroke, Stroke)>
+    ensures { AreTwo (the_flex operands.now) result }
 {
     match operands {
         [
@@ -26,24 +42,24 @@ pub(crate) fn flex(operands: &[Operand]) -> Strokes<'_>
             dx6,
             dy6,
             _fd,
-        ] => Strokes::Two(
+        ] => Some((
             Stroke::Curve(by(*dx1, *dy1), by(*dx2, *dy2), by(*dx3, *dy3)),
             Stroke::Curve(by(*dx4, *dy4), by(*dx5, *dy5), by(*dx6, *dy6)),
-        ),
-        _ => Strokes::Nothing,
+        )),
+        _ => None,
     }
 }
 
 /// dx1 dx2 dy2 dx3 dx4 dx5 dx6
-pub(crate) fn hflex(operands: &[Operand]) -> Strokes<'_>
-    ensures { left result ≡ the_hflex operands.now }
+fn hflex(operands: &[Operand]) -> Option<(Stroke, Stroke)>
+    ensures { AreTwo (the_hflex operands.now) result }
 {
     match operands {
-        [dx1, dx2, dy2, dx3, dx4, dx5, dx6] => Strokes::Two(
+        [dx1, dx2, dy2, dx3, dx4, dx5, dx6] => Some((
             Stroke::Curve(level(*dx1), by(*dx2, *dy2), level(*dx3)),
             Stroke::Curve(level(*dx4), returning(*dx5, wide(*dy2)), level(*dx6)),
-        ),
-        _ => Strokes::Nothing,
+        )),
+        _ => None,
     }
 }
 
@@ -66,19 +82,19 @@ fn level(dx: Operand) -> Vector
 }
 
 /// dx1 dy1 dx2 dy2 dx3 dx4 dx5 dy5 dx6
-pub(crate) fn hflex1(operands: &[Operand]) -> Strokes<'_>
-    ensures { left result ≡ the_hflex1 operands.now }
+fn hflex1(operands: &[Operand]) -> Option<(Stroke, Stroke)>
+    ensures { AreTwo (the_hflex1 operands.now) result }
 {
     match operands {
-        [dx1, dy1, dx2, dy2, dx3, dx4, dx5, dy5, dx6] => Strokes::Two(
+        [dx1, dy1, dx2, dy2, dx3, dx4, dx5, dy5, dx6] => Some((
             Stroke::Curve(by(*dx1, *dy1), by(*dx2, *dy2), level(*dx3)),
             Stroke::Curve(
                 level(*dx4),
                 by(*dx5, *dy5),
                 returning(*dx6, sum_of_three(*dy1, *dy2, *dy5)),
             ),
-        ),
-        _ => Strokes::Nothing,
+        )),
+        _ => None,
     }
 }
 
@@ -124,18 +140,18 @@ fn back(dx: i64, dy: i64, d6: Operand) -> Vector
 }
 
 /// dx1 dy1 dx2 dy2 dx3 dy3 dx4 dy4 dx5 dy5 d6
-pub(crate) fn flex1(operands: &[Operand]) -> Strokes<'_>
-    ensures { left result ≡ the_flex1 operands.now }
+fn flex1(operands: &[Operand]) -> Option<(Stroke, Stroke)>
+    ensures { AreTwo (the_flex1 operands.now) result }
 {
     match operands {
         [dx1, dy1, dx2, dy2, dx3, dy3, dx4, dy4, dx5, dy5, d6] => {
             let dx = sum_of_five(*dx1, *dx2, *dx3, *dx4, *dx5);
             let dy = sum_of_five(*dy1, *dy2, *dy3, *dy4, *dy5);
-            Strokes::Two(
+            Some((
                 Stroke::Curve(by(*dx1, *dy1), by(*dx2, *dy2), by(*dx3, *dy3)),
                 Stroke::Curve(by(*dx4, *dy4), by(*dx5, *dy5), back(dx, dy, *d6)),
-            )
+            ))
         }
-        _ => Strokes::Nothing,
+        _ => None,
     }
 }

@@ -1,10 +1,11 @@
 //! Drawing of glyphs, with the components of `seac` glyphs.
-ghost use Rattle.std.specs.Prelude.{◌≡◌, ◌≢◌, ◌⊎◌, ◌<◌, Err, List, [], IfOk, IfErr, OnErr, OnOk};
+ghost use Rattle.std.specs.Prelude.{◌≡◌, ◌≢◌, ◌⊎◌, ◌<◌, Err, List, [], IfOk, IfErr, OnErr, OnOk, false, true};
 ghost use Rattle.postscript_base.specs.declared.error.Error.TheVariants as causes;
 ghost use Rattle.postscript_drawing.specs.Accents.{IsTold, run_by};
-ghost use Rattle.postscript_drawing.specs.DrawnProgram.{DrawsFront, DrawsOfFirst, IsUndrawn, IsWanting};
+ghost use Rattle.postscript_drawing.specs.DrawnProgram.{DrawsOfFirst, IsUndrawn, IsWanting};
 ghost use Rattle.postscript_drawing.specs.Drawn.{DrawsAt, DrawsComponent, DrawsComponents, DrawsGlyph, HasOwn, IsDrawnAs, Takes};
 ghost use Rattle.postscript_drawing.specs.Given.{GivesComponent, GivesComponents, GivesGlyph, GivesOwn};
+ghost use Rattle.postscript_drawing.specs.Outcome.{OrFull};
 ghost use Rattle.postscript_drawing.specs.Refused.{AreRefused, IsComponentRefused, IsGlyphRefused, IsUndrawnGlyph, IsUnread};
 ghost use Rattle.postscript_drawing.specs.Spending.{PaysCode, PaysComponents, PaysDrawing, PaysOwn, SpendsOnCode, SpendsOnComponents, SpendsOnGlyph, SpendsOnOwn, SpendsOnRuns, SufficesFor, SufficesForCode, SufficesForComponents, SufficesForOwn};
 ghost use Rattle.postscript_drawing.specs.declared.error.Error.TheVariants as errors;
@@ -110,6 +111,9 @@ pub fn draw_glyph<S: Sink>(
     ensures why { IfErr result (λ e. IsUndrawnGlyph font.now glyph limit.new e) }
     // On an error the sink has received some first segments, and none of a stroke out of range.
     ensures front { OnErr result (GivesGlyph S.after (S.state sink.old) (S.state sink.new) font.now glyph) }
+    // On `Full` the glyph has one more segment, which the sink did not take (`OrFull`).
+    ensures more { result ≡ Err errors.Full →
+        GivesGlyph (OrFull S.after) (S.state sink.old, false) (S.state sink.new, true) font.now glyph }
     // On `Full` the sink is in a state in which it may be full (`refuses`).
     ensures full { result ≡ Err errors.Full → S.refuses (S.state sink.new) }
     // On success all phrases of the glyph and its components are paid from the limit.
@@ -166,6 +170,8 @@ fn draw_own<S: Sink>(
     ensures suffices { SufficesForOwn font.now glyph limit.old → result ≢ Err errors.TooLong }
     ensures why { IfErr result (λ e. IsWanting limit.new e ⊎ IsGlyphRefused font.now glyph origin e) }
     ensures front { OnErr result (GivesOwn S.after origin (S.state sink.old) (S.state sink.new) font.now glyph) }
+    ensures more { result ≡ Err errors.Full →
+        GivesOwn (OrFull S.after) origin (S.state sink.old, false) (S.state sink.new, true) font.now glyph }
     ensures full { result ≡ Err errors.Full → S.refuses (S.state sink.new) }
 {
     match font.glyph(glyph) {
@@ -190,8 +196,9 @@ fn draw_run<S: Sink>(
     ensures suffices { cost (run_by glyph.now).trace < limit.old → result ≢ Err errors.TooLong }
     ensures why { IfErr result (λ e. IsWanting limit.new e ⊎ IsUndrawn origin e (run_by glyph.now).answers (run_by glyph.now).end
         ⊎ IsUnread e (run_by glyph.now)) }
-    ensures front { OnErr result (DrawsFront S.after origin (S.state sink.old) (S.state sink.new) (run_by glyph.now).answers) }
     ensures given { OnErr result (DrawsOfFirst S.after origin (S.state sink.old) (S.state sink.new) (run_by glyph.now).answers) }
+    ensures more { result ≡ Err errors.Full →
+        DrawsOfFirst (OrFull S.after) origin (S.state sink.old, false) (S.state sink.new, true) (run_by glyph.now).answers }
     ensures full { result ≡ Err errors.Full → S.refuses (S.state sink.new) }
 {
     runs_end_so();
@@ -228,6 +235,9 @@ pub fn draw_components<S: Sink>(
     ensures why { IfErr result (λ e. IsWanting limit.new e ⊎ AreRefused font.now accent.now e) }
     // On an error the sink has received some first segments, and none of a stroke out of range.
     ensures front { OnErr result (GivesComponents S.after (S.state sink.old) (S.state sink.new) font.now accent.now) }
+    // On `Full` the components have one more segment, which the sink did not take (`OrFull`).
+    ensures more { result ≡ Err errors.Full →
+        GivesComponents (OrFull S.after) (S.state sink.old, false) (S.state sink.new, true) font.now accent.now }
     // On `Full` the sink is in a state in which it may be full (`refuses`).
     ensures full { result ≡ Err errors.Full → S.refuses (S.state sink.new) }
 {
@@ -251,6 +261,8 @@ fn draw_component<S: Sink>(
     ensures suffices { SufficesForCode font.now code limit.old → result ≢ Err errors.TooLong }
     ensures why { IfErr result (λ e. IsWanting limit.new e ⊎ IsComponentRefused font.now code origin e) }
     ensures front { OnErr result (GivesComponent S.after origin (S.state sink.old) (S.state sink.new) font.now code) }
+    ensures more { result ≡ Err errors.Full →
+        GivesComponent (OrFull S.after) origin (S.state sink.old, false) (S.state sink.new, true) font.now code }
     ensures full { result ≡ Err errors.Full → S.refuses (S.state sink.new) }
 {
     let glyph = component_of(font, code)?;

@@ -1,14 +1,16 @@
 //! Drawing of paths. Each pattern of operands has a method that draws them as it reads them (Technical Note 5177, "Path
-//! Construction Operators"). Flexes are drawn by their strokes.
-ghost use Rattle.std.specs.Prelude.{◌≡◌};
+//! Construction Operators"). A flex is drawn by its two strokes.
+ghost use Rattle.std.specs.Prelude.{◌≡◌, true};
 ghost use Rattle.postscript_drawing.specs.Outcome.{DrawsStrokes};
-ghost use Rattle.postscript_drawing.specs.Operators.{strokes as the_strokes};
+ghost use Rattle.postscript_drawing.specs.Operators.{is_flex, strokes as the_strokes};
 ghost use Rattle.postscript_drawing.specs.Strokes.{move as the_move, move_along as the_move_along, lines as the_lines, lines_in_turn as the_lines_in_turn, curves as the_curves, curves_along as the_curves_along, curves_level as the_curves_level, curves_in_turn as the_curves_in_turn, curves_then_line as the_curves_then_line, lines_then_curve as the_lines_then_curve};
 
-use crate::operands::{by, vector, wide};
-use crate::operators::{curve, curve_along, curve_in_turn, first_aside, line_in_turn};
+use crate::flex::flex_strokes;
+use crate::operands::{
+    by, curve, curve_along, curve_in_turn, first_aside, line_in_turn, vector, wide,
+};
 use crate::pen::Pen;
-use crate::stroke::{Axis, Strokes};
+use crate::stroke::Axis;
 use crate::undrawn::Stroked;
 use postscript_outline::Sink;
 use postscript_type2::{Operand, Operator};
@@ -96,10 +98,14 @@ impl Pen {
     /// Draws a flex. It stays a call, since few glyphs have one and strokes are large.
     #[inline(never)]
     fn flexes<S: Sink>(&mut self, operator: Operator, operands: &[Operand], sink: &mut S) -> Stroked
-        ensures { DrawsStrokes S.after S.refuses (the_strokes operator operands.now) self.old (S.state sink.old) result self.new
-            (S.state sink.new) }
+        ensures { is_flex operator ≡ true → DrawsStrokes S.after S.refuses (the_strokes operator operands.now) self.old
+            (S.state sink.old) result self.new (S.state sink.new) }
     {
-        self.draw_all(Strokes::of(operator, operands), sink)
+        let Some((first, second)) = flex_strokes(operator, operands) else {
+            return Ok(());
+        };
+        self.draw(first, sink)?;
+        self.draw(second, sink)
     }
 
     /// dx1 dy1

@@ -1,16 +1,15 @@
 //! The pen, which turns strokes into segments.
-ghost use Rattle.std.specs.Prelude.{◌≡◌, ◌∷◌, OnOk, OnErr, IfErr, [], length, take, true};
+ghost use Rattle.std.specs.Prelude.{◌≡◌, ◌∷◌, OnOk, OnErr, IfErr, [], length, take, false, true};
 ghost use Rattle.postscript_base.specs.declared.error.Error.TheVariants as errors;
 ghost use Rattle.postscript_base.specs.Error.{IsListed};
 ghost use Rattle.postscript_drawing.specs.Applying.{applied};
 ghost use Rattle.postscript_drawing.specs.Drawing.{drawing, held, blank, closed, closing, opening};
 ghost use Rattle.postscript_drawing.specs.Outcome.{Draws, DrawsStrokes};
-ghost use Rattle.postscript_drawing.specs.Left.{left};
 ghost use Rattle.postscript_drawing.specs.Operators.{strokes as the_strokes};
 ghost use Rattle.postscript_outline.specs.Sinks.{Receives};
 
 use crate::reach::{reach, reach_by_curve};
-use crate::stroke::{Stroke, Strokes, Vector};
+use crate::stroke::{Stroke, Vector};
 use crate::undrawn::{Stroked, Undrawn};
 use postscript_base::{Error, Result};
 use postscript_outline::{Given, Point, Segment, Sink};
@@ -68,6 +67,8 @@ impl Pen {
         ensures full { OnErr result (S.state sink.new ≡ S.state sink.old) }
         // On an error the sink is in a state in which it may be full (`refuses`).
         ensures refuses { OnErr result (S.refuses (S.state sink.new)) }
+        // An error occurs only if a contour was open.
+        ensures open { OnErr result (self.old.is_open ≡ true) }
     {
         if self.is_open {
             sink.add(Segment::Close)?;
@@ -84,6 +85,7 @@ impl Pen {
         ensures refuses { OnErr result (S.refuses (S.state sink.new)) }
         ensures stays { self.new.at ≡ self.old.at }
         ensures open { OnOk result (self.new.is_open ≡ true) }
+        ensures closed { OnErr result (self.old.is_open ≡ false) }
     {
         if !self.is_open {
             sink.add(Segment::MoveTo(self.at))?;
@@ -142,7 +144,7 @@ impl Pen {
     }
 
     /// Draws a stroke.
-    fn draw<S: Sink>(&mut self, stroke: Stroke, sink: &mut S) -> Stroked
+    pub(crate) fn draw<S: Sink>(&mut self, stroke: Stroke, sink: &mut S) -> Stroked
         ensures { DrawsStrokes S.after S.refuses (stroke ∷ []) self.old (S.state sink.old) result self.new (S.state sink.new) }
     {
         match stroke {
@@ -150,18 +152,6 @@ impl Pen {
             Stroke::Line(by) => self.line_by(by, sink),
             Stroke::Curve(a, b, c) => self.curve_by(a, b, c, sink),
         }
-    }
-
-    /// Draws strokes, one after another.
-    pub(crate) fn draw_all<S: Sink>(&mut self, strokes: Strokes<'_>, sink: &mut S) -> Stroked
-        ensures { DrawsStrokes S.after S.refuses (left strokes.entry) self.old (S.state sink.old) result self.new (S.state sink.new) }
-    {
-        let mut ahead = strokes;
-        while let Some((stroke, behind)) = ahead.next() {
-            self.draw(stroke, sink)?;
-            ahead = behind;
-        }
-        Ok(())
     }
 
     /// Appends the segments that an operator draws with these operands. On an error, pen and segments are unchanged.

@@ -1,6 +1,7 @@
 //! Drawing of programs into sinks.
-ghost use Rattle.std.specs.Prelude.{◌≡◌, ◌≢◌, ◌<◌, Err, IfOk, IfErr, OnErr};
+ghost use Rattle.std.specs.Prelude.{◌≡◌, ◌≢◌, ◌<◌, Err, IfOk, IfErr, OnErr, false, true};
 ghost use Rattle.postscript_drawing.specs.DrawnProgram.{DrawsFront, DrawsOfFirst, DrawsProgram, IsProgramRefused, IsSpent};
+ghost use Rattle.postscript_drawing.specs.Outcome.{OrFull};
 ghost use Rattle.postscript_drawing.specs.declared.error.Error.TheVariants as errors;
 ghost use Rattle.postscript_type2.specs.Program.Limit.{cost};
 ghost use Rattle.postscript_type2.specs.Program.Programs.{ended_over};
@@ -42,6 +43,9 @@ pub fn draw_program<S: Sink>(
     ensures front { OnErr result (DrawsFront S.after origin (S.state sink.old) (S.state sink.new) program.old.answers) }
     // On an error it has received some first segments, and none of a stroke that leaves the range.
     ensures given { OnErr result (DrawsOfFirst S.after origin (S.state sink.old) (S.state sink.new) program.old.answers) }
+    // On `Full` the run has one more segment, which the sink did not take (`OrFull`).
+    ensures more { result ≡ Err errors.Full →
+        DrawsOfFirst (OrFull S.after) origin (S.state sink.old, false) (S.state sink.new, true) program.old.answers }
     // On `Full` the sink is in a state in which it may be full (`refuses`).
     ensures full { result ≡ Err errors.Full → S.refuses (S.state sink.new) }
     // On success the program is at its end, with the operands that `endchar` took.

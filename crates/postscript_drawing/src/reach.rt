@@ -1,8 +1,8 @@
 //! The end points of vectors.
 ghost use Rattle.std.specs.Prelude.{◌≡◌, ◌+ℤ◌, Ok, Err, MatchOption};
 ghost use Rattle.postscript_base.specs.Refusal.{overflow};
-ghost use Rattle.postscript_drawing.specs.Bends.{IsDrawnBy, IsCurveRefused};
-ghost use Rattle.postscript_drawing.specs.Drawing.{reached};
+ghost use Rattle.postscript_drawing.specs.Drawing.{blank_at, drawn, reached};
+ghost use Rattle.postscript_drawing.specs.declared.stroke.Stroke.TheVariants as strokes;
 ghost use Rattle.postscript_type2.specs.Program.FixedPoint.{fit};
 
 use crate::stroke::Vector;
@@ -27,7 +27,8 @@ pub(crate) fn reach_by_curve(
     b: Vector,
     c: Vector,
 ) -> Option<(Point, Point, Point)>
-    ensures { MatchOption result (IsCurveRefused from a b c) (λ p. IsDrawnBy from a b c p.0 p.1 p.2) }
+    ensures { MatchOption result (drawn (strokes.Curve a b c) (blank_at from) ≡ Err overflow)
+        (λ p. (reached from a ≡ Ok p.0) × (reached p.0 b ≡ Ok p.1) × (reached p.1 c ≡ Ok p.2)) }
 {
     let first = reach(from, a)?;
     let second = reach(first, b)?;

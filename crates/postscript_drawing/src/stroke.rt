@@ -2,8 +2,6 @@
 ghost use Rattle.std.specs.Prelude.{◌≡◌};
 ghost use Rattle.postscript_drawing.specs.Strokes.{aside as the_aside, along as the_along, other as the_other};
 
-use postscript_type2::Operand;
-
 /// A vector, in 16.16 format.
 #[derive(Clone, Copy, Debug, PartialEq, Eq)]
 pub struct Vector {
@@ -68,19 +66,4 @@ pub enum Stroke {
     Line(Vector),
     /// A Bézier curve: the vectors to its first control point, from there to its second, and from there to its end.
     Curve(Vector, Vector, Vector),
-}
-
-/// The strokes of an operation that are left to draw.
-#[derive(Clone, Copy)]
-pub enum Strokes<'o> {
-    Nothing,
-    One(Stroke),
-    Two(Stroke, Stroke),
-    Lines(&'o [Operand]),
-    LinesInTurn(Axis, &'o [Operand]),
-    Curves(&'o [Operand]),
-    CurvesAlong(Axis, i64, &'o [Operand]),
-    CurvesInTurn(Axis, &'o [Operand]),
-    CurvesThenLines(&'o [Operand], &'o [Operand]),
-    LinesThenCurves(&'o [Operand], &'o [Operand]),
 }

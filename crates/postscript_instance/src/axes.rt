@@ -1,12 +1,12 @@
 //! The axis of each operand (Technical Note 5177, "Path Construction Operators").
-ghost use Rattle.std.specs.Prelude.{◌≡◌, ◌<◌, ◌∷◌, ◌++◌, length, MatchOption, OnOk, IfOk, IfErr};
+ghost use Rattle.std.specs.Prelude.{◌≡◌, ◌<◌, ◌∷◌, ◌++◌, length, true, MatchOption, OnOk, IfOk, IfErr};
 ghost use Rattle.postscript_base.specs.declared.error.Error.TheVariants as causes;
-ghost use Rattle.postscript_drawing.specs.Left.{left};
+ghost use Rattle.postscript_drawing.specs.Operators.{is_flex, strokes as the_strokes};
 ghost use Rattle.postscript_instance.specs.Axes.{so_far, in_turn as the_in_turn, bows as the_bows, level as the_level, vector_steps, stroke_steps, coordinates as the_coordinates, steps_of as the_steps_of};
 ghost use Rattle.postscript_instance.specs.declared.error.Error.TheVariants as errors;
 
 use crate::error::Result;
-use postscript_drawing::{Axis, Stroke, Strokes, Vector};
+use postscript_drawing::{Axis, Stroke, Vector, flex_strokes};
 use postscript_type2::{Operand, Operator};
 use std::alloc::Global;
 
@@ -137,15 +137,14 @@ fn put_stroke(out: &mut Vec<Step>, stroke: Stroke) -> Result<()>
     }
 }
 
-/// Appends all coordinates of strokes.
-fn put_strokes(out: &mut Vec<Step>, strokes: Strokes<'_>) -> Result<()>
-    ensures ok { OnOk result (out.new.items ≡ out.old.items ++ the_coordinates (left strokes.entry)) }
+/// Appends all coordinates of a flex.
+fn put_flex(out: &mut Vec<Step>, operator: Operator, operands: &[Operand]) -> Result<()>
+    ensures ok { is_flex operator ≡ true → OnOk result (out.new.items ≡ out.old.items ++ the_coordinates (the_strokes operator operands.now)) }
     ensures err { IfErr result (λ e. e ≡ errors.Font causes.Memory) }
 {
-    let mut ahead = strokes;
-    while let Some((stroke, rest)) = ahead.next() {
-        put_stroke(out, stroke)?;
-        ahead = rest;
+    if let Some((first, second)) = flex_strokes(operator, operands) {
+        put_stroke(out, first)?;
+        put_stroke(out, second)?;
     }
     Ok(())
 }
@@ -167,7 +166,7 @@ pub(crate) fn steps_of(alloc: Global, operator: Operator, operands: &[Operand]) 
         Operator::HVCurveTo => put_bows(out, Axis::Horizontal, Axis::Vertical, operands)?,
         Operator::VHCurveTo => put_bows(out, Axis::Vertical, Axis::Horizontal, operands)?,
         Operator::HFlex | Operator::Flex | Operator::HFlex1 | Operator::Flex1 => {
-            put_strokes(out, Strokes::of(operator, operands))?
+            put_flex(out, operator, operands)?
         }
         _ => put_in_turn(out, Axis::Horizontal, operands)?,
     }

@@ -1,6 +1,7 @@
 //! Drawing of charstrings.
-ghost use Rattle.std.specs.Prelude.{◌≡◌, ◌≢◌, ◌<◌, Err, OnOk, OnErr, IfOk, IfErr};
+ghost use Rattle.std.specs.Prelude.{◌≡◌, ◌≢◌, ◌<◌, Err, OnOk, OnErr, IfOk, IfErr, false, true};
 ghost use Rattle.postscript_drawing.specs.DrawnProgram.{DrawsFront, DrawsOfFirst};
+ghost use Rattle.postscript_drawing.specs.Outcome.{OrFull};
 ghost use Rattle.postscript_drawing.specs.declared.error.Error.TheVariants as errors;
 ghost use Rattle.postscript_variable.specs.Charstrings.{run_from};
 ghost use Rattle.postscript_variable.specs.Limit.{cost};
@@ -46,6 +47,9 @@ pub fn draw_program<S: Sink>(
     ensures front { OnErr result (DrawsFront S.after origin (S.state sink.old) (S.state sink.new) program.old.answers) }
     // On an error it was given some first segments, and none of a stroke that leaves the range.
     ensures given { OnErr result (DrawsOfFirst S.after origin (S.state sink.old) (S.state sink.new) program.old.answers) }
+    // On `Full` the run has one more segment, which the sink did not accept (`OrFull`).
+    ensures more { result ≡ Err errors.Full →
+        DrawsOfFirst (OrFull S.after) origin (S.state sink.old, false) (S.state sink.new, true) program.old.answers }
     // The error `Full` means that the sink accepts no further segment.
     ensures full { result ≡ Err errors.Full → S.refuses (S.state sink.new) }
     // On success the program is at its end.
@@ -95,6 +99,9 @@ pub fn draw<S: Sink>(
     ensures front { OnErr result (DrawsFront S.after the_origin (S.state sink.old) (S.state sink.new) (run_from charstring.entry).answers) }
     // On an error it was given some first segments, and none of a stroke that leaves the range.
     ensures given { OnErr result (DrawsOfFirst S.after the_origin (S.state sink.old) (S.state sink.new) (run_from charstring.entry).answers) }
+    // On `Full` the run has one more segment, which the sink did not accept (`OrFull`).
+    ensures more { result ≡ Err errors.Full →
+        DrawsOfFirst (OrFull S.after) the_origin (S.state sink.old, false) (S.state sink.new, true) (run_from charstring.entry).answers }
     // The error `Full` means that the sink accepts no further segment.
     ensures full { result ≡ Err errors.Full → S.refuses (S.state sink.new) }
     // The cost of everything that was read is subtracted, on success of the whole run.

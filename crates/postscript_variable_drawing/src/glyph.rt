@@ -1,5 +1,6 @@
 //! Drawing of glyphs.
-ghost use Rattle.std.specs.Prelude.{◌≡◌, ◌≢◌, Err, OnOk, OnErr, IfErr};
+ghost use Rattle.std.specs.Prelude.{◌≡◌, ◌≢◌, Err, OnOk, OnErr, IfErr, false, true};
+ghost use Rattle.postscript_drawing.specs.Outcome.{OrFull};
 ghost use Rattle.postscript_drawing.specs.declared.error.Error.TheVariants as errors;
 ghost use Rattle.postscript_variable_drawing.specs.Drawn.{Gives};
 ghost use Rattle.postscript_variable_drawing.specs.Glyphs.{DrawsGlyph, DrawsGlyphFront, GivesGlyphFirst, IsGlyphUndrawn, SpendsOnGlyph, SufficesFor};
@@ -40,6 +41,9 @@ pub fn draw_glyph<S: Sink>(
     ensures front { OnErr result (DrawsGlyphFront S.after (S.state sink.old) (S.state sink.new) font.now glyph place.now) }
     // On an error it was given some first segments, and none of a stroke that leaves the range.
     ensures given { OnErr result (GivesGlyphFirst S.after (S.state sink.old) (S.state sink.new) font.now glyph place.now) }
+    // On `Full` the glyph has one more segment, which the sink did not accept (`OrFull`).
+    ensures more { result ≡ Err errors.Full →
+        GivesGlyphFirst (OrFull S.after) (S.state sink.old, false) (S.state sink.new, true) font.now glyph place.now }
     // The error `Full` means that the sink accepts no further segment.
     ensures full { result ≡ Err errors.Full → S.refuses (S.state sink.new) }
     // The cost of everything that was read is subtracted, and a missing glyph costs nothing.

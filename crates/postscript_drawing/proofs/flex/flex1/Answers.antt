@@ -28,5 +28,5 @@ returns-in-len11 c =
     ∙ (ap (λ x. back x (to_z w64 (of_z w64 c.sum_of_five-dy.result)) c.d6-item.result) dx
     ∙ ap (λ y. back (c.dx1-item.result +ℤ c.dx2-item.result +ℤ c.dx3-item.result +ℤ c.dx4-item.result +ℤ c.dx5-item.result) y
     c.d6-item.result) dy) in
-    same-two c.by.ensures c.by-in-len11.ensures c.by-in-len11-2.ensures c.by-in-len11-3.ensures c.by-in-len11-4.ensures last
-    ∙ sym (ap flex1 operands)
+    ap flex1 operands
+    ∙ sym (same-two c.by.ensures c.by-in-len11.ensures c.by-in-len11-2.ensures c.by-in-len11-3.ensures c.by-in-len11-4.ensures last)

@@ -11,5 +11,5 @@ returns-in-len7 c =
     (c.dx1-item.is, (c.dx2-item.is, (c.dy2-item.is, (c.dx3-item.is, (c.dx4-item.is, (c.dx5-item.is, (c.dx6-item.is, tt))))))) in
     let dy : to_z w64 (of_z w64 c.wide.result) ≡ c.dy2-item.result = search rules in
     let last = c.returning.ensures ∙ ap (λ y. by c.dx5-item.result (neg_ℤ y)) dy in
-    same-two c.level.ensures c.by.ensures c.level-in-len7.ensures c.level-in-len7-2.ensures last c.level-in-len7-3.ensures
-    ∙ sym (ap hflex operands)
+    ap hflex operands
+    ∙ sym (same-two c.level.ensures c.by.ensures c.level-in-len7.ensures c.level-in-len7-2.ensures last c.level-in-len7-3.ensures)

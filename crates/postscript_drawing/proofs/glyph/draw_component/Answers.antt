@@ -1,9 +1,10 @@
-use Rattle.std.proofs.Common.{Option, inr, rules, refl, subst}
+use Rattle.std.proofs.Common.{Err, Option, ap, inr, rules, refl, subst}
 use Rattle.postscript_drawing.specs.Drawn.{HasOwn}
 use Rattle.postscript_drawing.specs.Spending.{PaysOwn}
 use Rattle.postscript_drawing.specs.declared.accent.Accent.{Accent}
 use Rattle.postscript_drawing.proofs.GlyphSpending.{code-spends, not-too-long, nothing-spent}
-use Rattle.postscript_drawing.proofs.Owns.{component-front, component-undrawn, draws-component, is-nested, on-err, own-whole, passed-on}
+use Rattle.postscript_drawing.proofs.Owns.{component-front, component-undrawn, draws-component, is-nested, own-whole, passed-on}
+use Rattle.postscript_drawing.proofs.ProgramLaws.{full-so, on-err}
 use Rattle.postscript_drawing.proofs.glyph.draw_component.Goals as goal
 
 pub returns-in_err-glyph-clause-spends : goal.returns-in_err-glyph-clause-spends
@@ -42,6 +43,12 @@ pub returns-in_err-own-clause-front : goal.returns-in_err-own-clause-front
 returns-in_err-own-clause-front g c =
     on-err c.from_residual-in_err-own.result
     (component-front c.args.font.now c.args.code c.in_ok-glyph.glyph c.args.origin c.in_ok-glyph.ensures.found c.in_err-own.ensures.front)
+
+pub returns-in_err-own-clause-more : goal.returns-in_err-own-clause-more
+returns-in_err-own-clause-more g c = λ full.
+    component-front c.args.font.now c.args.code c.in_ok-glyph.glyph c.args.origin c.in_ok-glyph.ensures.found
+    (c.in_err-own.ensures.more (ap Err (full-so c.from_residual-in_err-own.result c.in_err-own.field-0.0
+    c.from_residual-in_err-own.ensures.1 full)))
 
 pub returns-in-Some-clause-front : goal.returns-in-Some-clause-front
 returns-in-Some-clause-front g c =

@@ -1,12 +1,15 @@
-use Rattle.std.proofs.Common.{inl, subst}
+use Rattle.std.proofs.Common.{Err, ap, false, inl, inr, subst, true}
 use Rattle.std.specs.Prelude.{IfErr, OnErr, OnOk, ◌⊎◌}
 use Rattle.postscript_outline.specs.declared.point.Point.{Point}
 use Rattle.postscript_drawing.specs.DrawnProgram.{IsWanting}
 use Rattle.postscript_drawing.specs.Drawn.{DrawsComponent, Takes}
 use Rattle.postscript_drawing.specs.Given.{GivesComponent}
+use Rattle.postscript_drawing.specs.Outcome.{OrFull}
 use Rattle.postscript_drawing.specs.Refused.{IsComponentRefused}
+use Rattle.postscript_drawing.proofs.Filling.{received-before}
 use Rattle.postscript_drawing.proofs.GlyphSpending.{pays-both, spends-both, spends-more, suffices-behind}
-use Rattle.postscript_drawing.proofs.Owns.{accent-front, accent-refused, draws-both, on-err}
+use Rattle.postscript_drawing.proofs.Owns.{accent-front, accent-refused, draws-both}
+use Rattle.postscript_drawing.proofs.ProgramLaws.{full-so, on-err}
 use Rattle.postscript_drawing.proofs.glyph.draw_components.Goals as goal
 
 pub returns-in_err-draw_component-clause-spends : goal.returns-in_err-draw_component-clause-spends
@@ -53,6 +56,25 @@ returns-clause-front g c =
     accent-front g.S.Sink.after
     (g.S.Sink.state c.args.sink.now) between new c.draw_component-2.result font accent c.in_ok-draw_component.ensures.drawn
     (subst P c.place_of.ensures c.draw_component-2.ensures.front)
+
+pub returns-in_err-draw_component-clause-more : goal.returns-in_err-draw_component-clause-more
+returns-in_err-draw_component-clause-more g c = λ full.
+    inl (c.in_err-draw_component.ensures.more (ap Err (full-so c.from_residual.result c.in_err-draw_component.field-0.0
+    c.from_residual.ensures.1 full)))
+
+pub returns-clause-more : goal.returns-clause-more
+returns-clause-more g c = λ full.
+    let accent = c.args.accent.now in
+    let between = g.S.Sink.state c.draw_component.new.sink in
+    let new = g.S.Sink.state c.draw_component-2.new.sink in
+    let P : Point → Type 0 = λ origin.
+    GivesComponent (OrFull g.S.Sink.after) origin (between, false) (new, true) c.args.font.now accent.accent in
+    let base = c.in_ok-draw_component.ensures.drawn in
+    inr (
+      (between, false),
+      (base.0, base.1, received-before g.S.Sink.after (g.S.Sink.state c.args.sink.now) between base.0 base.2),
+      subst P c.place_of.ensures (c.draw_component-2.ensures.more full),
+    )
 
 pub returns-clause-paid : goal.returns-clause-paid
 returns-clause-paid g c =

@@ -1,10 +1,12 @@
-use Rattle.std.proofs.Common.{◌++◌, Option, inl, inr, rules, subst}
+use Rattle.std.proofs.Common.{◌++◌, Err, Option, ap, inl, inr, rules, subst}
 use Rattle.postscript_drawing.specs.Drawn.{HasOwn, zero_point}
 use Rattle.postscript_drawing.specs.Spending.{PaysOwn}
 use Rattle.postscript_drawing.specs.declared.accent.Accent.{Accent}
+use Rattle.postscript_drawing.proofs.Filling.{received-before}
 use Rattle.postscript_drawing.proofs.GlyphSpending.{not-too-long, spends-both, spends-more, suffices-then}
-use Rattle.postscript_drawing.proofs.Owns.{accented-front, components-refused, draws-accented, draws-plain, on-err, passed-on}
+use Rattle.postscript_drawing.proofs.Owns.{accented-front, components-refused, draws-accented, draws-plain, passed-on}
 use Rattle.postscript_outline.proofs.Receiving.{received-both}
+use Rattle.postscript_drawing.proofs.ProgramLaws.{full-so, on-err}
 use Rattle.postscript_drawing.proofs.glyph.draw_glyph.Goals as goal
 
 pub returns-in_err-width-clause-spends : goal.returns-in_err-width-clause-spends
@@ -65,6 +67,21 @@ returns-in_err-draw_components-in-Some-clause-front g c =
     on-err c.from_residual-in_err-draw_components-in-Some.result
     (accented-front c.args.font.now c.args.glyph own.0 width c.in-Some.accent
     (subst P c.in-Some.is own.1) own.2 c.in_err-draw_components-in-Some.ensures.front)
+
+pub returns-in_err-width-clause-more : goal.returns-in_err-width-clause-more
+returns-in_err-width-clause-more g c = λ full.
+    inl (c.in_err-width.ensures.more (ap Err (full-so c.from_residual.result c.in_err-width.field-0.0 c.from_residual.ensures.1 full)))
+
+pub returns-in_err-draw_components-in-Some-clause-more : goal.returns-in_err-draw_components-in-Some-clause-more
+returns-in_err-draw_components-in-Some-clause-more g c = λ full.
+    let own = c.in_ok-width.ensures.own in
+    let width = c.in_ok-width.field-0.width in
+    let P : Option Accent → Type 0 = λ accent. HasOwn c.args.font.now c.args.glyph zero_point own.0 width accent in
+    let back = c.from_residual-in_err-draw_components-in-Some in
+    accented-front c.args.font.now c.args.glyph own.0 width c.in-Some.accent (subst P c.in-Some.is own.1)
+    (received-before g.S.Sink.after _ _ own.0 own.2)
+    (c.in_err-draw_components-in-Some.ensures.more (ap Err (full-so back.result c.in_err-draw_components-in-Some.field-0.0 back.ensures.1
+    full)))
 
 pub returns-in-None-clause-paid : goal.returns-in-None-clause-paid
 returns-in-None-clause-paid g c =

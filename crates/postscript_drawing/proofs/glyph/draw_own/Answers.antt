@@ -2,6 +2,7 @@ use Rattle.std.proofs.Common.{inr}
 use Rattle.postscript_drawing.specs.Accents.{run_by}
 use Rattle.postscript_drawing.proofs.GlyphSpending.{nothing-spent, pays-own, spends-one}
 use Rattle.postscript_drawing.proofs.Owns.{has-run, own-front, own-so, refused-so}
+use Rattle.postscript_drawing.proofs.ProgramLaws.{with-err}
 use Rattle.postscript_drawing.proofs.glyph.draw_own.Goals as goal
 
 pub returns-in-Some-clause-own : goal.returns-in-Some-clause-own
@@ -28,9 +29,12 @@ returns-in-None-clause-spends g c = nothing-spent c.args.font.now 0 c.args.limit
 pub returns-in-Some-clause-front : goal.returns-in-Some-clause-front
 returns-in-Some-clause-front g c =
     let has = has-run c.args.font.now c.args.glyph c.in-Some.found c.in-Some.ensures.found c.in-Some.ensures.subroutines in
-    own-front g.S.Sink.after (g.S.Sink.state c.args.sink.now)
-    (g.S.Sink.state c.draw_run.new.sink) c.draw_run.result c.args.font.now c.args.glyph c.in-Some.found c.args.origin has
-    c.draw_run.ensures.front c.draw_run.ensures.given
+    with-err c.draw_run.result (own-front c.args.font.now c.args.glyph c.in-Some.found c.args.origin has) c.draw_run.ensures.given
+
+pub returns-in-Some-clause-more : goal.returns-in-Some-clause-more
+returns-in-Some-clause-more g c = λ full.
+    let has = has-run c.args.font.now c.args.glyph c.in-Some.found c.in-Some.ensures.found c.in-Some.ensures.subroutines in
+    own-front c.args.font.now c.args.glyph c.in-Some.found c.args.origin has (c.draw_run.ensures.more full)
 
 pub returns-in-Some-clause-paid : goal.returns-in-Some-clause-paid
 returns-in-Some-clause-paid g c =

@@ -1,10 +1,13 @@
-use Rattle.std.proofs.Common.{◌≡◌, ◌∙◌, ap, inr, rules, subst}
+use Rattle.std.proofs.Common.{◌≡◌, ◌∙◌, Err, List, ap, false, inr, rules, subst, true}
 use Rattle.postscript_base.specs.Index.Lent.{items_of}
 use Rattle.postscript_type2.specs.Program.Programs.{told_at_end}
 use Rattle.postscript_type2.specs.Program.Routines.{lent}
-use Rattle.postscript_type2.specs.Program.Runs.{taken_by}
+use Rattle.postscript_type2.specs.Program.Runs.{Answer, taken_by}
 use Rattle.postscript_drawing.specs.Accents.{HasNoCodes, run_by}
-use Rattle.postscript_drawing.proofs.Owns.{on-err, passed-on, told-so, whole-first, whole-front}
+use Rattle.postscript_drawing.specs.DrawnProgram.{DrawsOfFirst}
+use Rattle.postscript_drawing.specs.Outcome.{OrFull}
+use Rattle.postscript_drawing.proofs.Owns.{passed-on, told-so, whole-first}
+use Rattle.postscript_drawing.proofs.ProgramLaws.{full-so, on-err}
 use Rattle.postscript_drawing.proofs.glyph.draw_run.Goals as goal
 
 pub returns-in_err-accent-clause-why : goal.returns-in_err-accent-clause-why
@@ -23,14 +26,16 @@ returns-clause-told g c =
     (c.runs_end_so.ensures (lent (items_of glyph.global_subroutines) (items_of glyph.part.now.subroutines)) glyph.code.now)
     c.in_ok-accent.ensures.told
 
-pub returns-in_err-accent-clause-front : goal.returns-in_err-accent-clause-front
-returns-in_err-accent-clause-front g c =
-    let run = run_by c.args.glyph.now in
-    let drawn = c.in_ok-width.ensures.drawn in
-    on-err c.from_residual-in_err-accent.result (whole-front c.args.origin run.answers run.end drawn.segments (search rules) drawn.taken)
-
 pub returns-in_err-accent-clause-given : goal.returns-in_err-accent-clause-given
 returns-in_err-accent-clause-given g c =
     let run = run_by c.args.glyph.now in
     let drawn = c.in_ok-width.ensures.drawn in
     on-err c.from_residual-in_err-accent.result (whole-first c.args.origin run.answers run.end drawn.segments (search rules) drawn.taken)
+
+pub returns-in_err-width-clause-more : goal.returns-in_err-width-clause-more
+returns-in_err-width-clause-more g c = λ full.
+    let old = g.S.Sink.state c.args.sink.now in
+    let new = g.S.Sink.state c.draw_program.new.sink in
+    let P : List Answer → Type 0 = λ answers. DrawsOfFirst (OrFull g.S.Sink.after) c.args.origin (old, false) (new, true) answers in
+    subst P (ap (λ p. p.answers) c.program-program.ensures)
+    (c.in_err-width.ensures.more (ap Err (full-so c.from_residual.result c.in_err-width.field-0.0 c.from_residual.ensures.1 full)))

@@ -5,7 +5,7 @@ use Rattle.postscript_drawing.specs.Outline.{outlined_at}
 use Rattle.postscript_drawing.specs.Undrawn.{error_of}
 use Rattle.postscript_drawing.specs.declared.error.Error.TheVariants as errors
 use Rattle.postscript_drawing.proofs.DrawsLaws.{at_first, so_more, so_refused}
-use Rattle.postscript_drawing.proofs.ProgramLaws.{at-end, drawn-whole, first-of-refused, first-so-far, front-refused, front-so-far, if-err, on-err, step-refused, stroke-refused, strokes_of}
+use Rattle.postscript_drawing.proofs.ProgramLaws.{at-end, drawn-whole, first-of-refused, first-so-far, front-of-first, front-so-far, full-at-end, full-of-refused, if-err, on-err, step-refused, stroke-refused, strokes_of, with-err}
 use Rattle.postscript_drawing.proofs.Spending.{head-is, no-pause, on-operation, on-end, on-pause, on-refusal}
 use Rattle.postscript_drawing.proofs.program.draw_program.Goals as goal
 use Rattle.postscript_type2.specs.Program.Limit.{nothing}
@@ -67,16 +67,6 @@ returns-in_err-draw_path-in-Operation-clause-why g c =
     (so_refused (strokes c.in-Operation.operator c.in-Operation.operands.now) (strokes_of rest.answers)
     (ap strokes_of left) c.loop-operator.invariant.far c.in_err-draw_path-in-Operation.ensures))
 
-pub returns-in_err-draw_path-in-Operation-clause-front : goal.returns-in_err-draw_path-in-Operation-clause-front
-returns-in_err-draw_path-in-Operation-clause-front g c =
-    let rest = c.step_within_for.follows.lender-at-none in
-    let left = (head-is c.loop-operator.program rest c.loop-operator.limit c.step_within_for.new.limit
-    (ap with_error (c.in_ok-operator.was ∙ ap Ok c.in-Operation.is)) c.step_within_for.follows.holds-at-none).1 in
-    on-err c.from_residual-in_err-draw_path-in-Operation.result
-    (front-refused c.args.program.now.answers
-    (so_refused (strokes c.in-Operation.operator c.in-Operation.operands.now) (strokes_of rest.answers)
-    (ap strokes_of left) c.loop-operator.invariant.far c.in_err-draw_path-in-Operation.ensures))
-
 pub returns-in_err-draw_path-in-Operation-clause-given : goal.returns-in_err-draw_path-in-Operation-clause-given
 returns-in_err-draw_path-in-Operation-clause-given g c =
     let rest = c.step_within_for.follows.lender-at-none in
@@ -86,6 +76,21 @@ returns-in_err-draw_path-in-Operation-clause-given g c =
     (first-of-refused c.args.program.now.answers
     (so_refused (strokes c.in-Operation.operator c.in-Operation.operands.now) (strokes_of rest.answers)
     (ap strokes_of left) c.loop-operator.invariant.far c.in_err-draw_path-in-Operation.ensures))
+
+pub returns-in_err-draw_path-in-Operation-clause-front : goal.returns-in_err-draw_path-in-Operation-clause-front
+returns-in_err-draw_path-in-Operation-clause-front g c =
+    with-err c.from_residual-in_err-draw_path-in-Operation.result (front-of-first c.args.program.now.answers)
+    (returns-in_err-draw_path-in-Operation-clause-given g c)
+
+pub returns-in_err-draw_path-in-Operation-clause-more : goal.returns-in_err-draw_path-in-Operation-clause-more
+returns-in_err-draw_path-in-Operation-clause-more g c = λ full.
+    let rest = c.step_within_for.follows.lender-at-none in
+    let left = (head-is c.loop-operator.program rest c.loop-operator.limit c.step_within_for.new.limit
+    (ap with_error (c.in_ok-operator.was ∙ ap Ok c.in-Operation.is)) c.step_within_for.follows.holds-at-none).1 in
+    let back = c.from_residual-in_err-draw_path-in-Operation in
+    full-of-refused c.args.program.now.answers back.result c.in_err-draw_path-in-Operation.field-0.0 back.ensures.1 full
+    (so_refused (strokes c.in-Operation.operator c.in-Operation.operands.now) (strokes_of rest.answers)
+    (ap strokes_of left) c.loop-operator.invariant.far c.in_err-draw_path-in-Operation.ensures)
 
 pub returns-in_err-draw_path-in-Operation-clause-spends : goal.returns-in_err-draw_path-in-Operation-clause-spends
 returns-in_err-draw_path-in-Operation-clause-spends g c =
@@ -109,6 +114,14 @@ pub returns-in_err-end-in-End-clause-given : goal.returns-in_err-end-in-End-clau
 returns-in_err-end-in-End-clause-given g c =
     on-err c.from_residual-in_err-end-in-End.result
     (first-so-far c.args.program.now.answers c.loop-operator.invariant.far c.in_err-end-in-End.ensures.full)
+
+pub returns-in_err-end-in-End-clause-more : goal.returns-in_err-end-in-End-clause-more
+returns-in_err-end-in-End-clause-more g c = λ full.
+    let left = c.loop-operator.program in
+    let end = at-end left c.step_within_for.follows.lender-at-none _ _
+    (ap with_error (c.in_ok-operator.was ∙ ap Ok c.in-End.is)) c.step_within_for.follows.holds-at-none in
+    full-at-end c.args.program.now.answers left.answers end.0 c.loop-operator.invariant.far c.in_err-end-in-End.ensures.full
+    c.in_err-end-in-End.ensures.open
 
 pub returns-in_err-end-in-End-clause-spends : goal.returns-in_err-end-in-End-clause-spends
 returns-in_err-end-in-End-clause-spends g c =

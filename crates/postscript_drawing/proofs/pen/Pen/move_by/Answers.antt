@@ -1,11 +1,11 @@
 use Rattle.postscript_base.specs.Refusal.{overflow}
-use Rattle.std.proofs.Common.{◌≡◌, Err, Ok, refl, rules, subst, sym, true}
-use Rattle.postscript_outline.specs.declared.segment.Segment.TheVariants.{MoveTo}
+use Rattle.std.proofs.Common.{◌≡◌, Err, Ok, refl, rules, subst, sym, true, [], ◌∷◌, ◌++◌, ap}
+use Rattle.postscript_outline.specs.declared.segment.Segment.TheVariants.{MoveTo, Close}
 use Rattle.postscript_drawing.specs.declared.pen.Pen.{Pen}
 use Rattle.postscript_drawing.specs.declared.stroke.Stroke.TheVariants.{Move}
 use Rattle.postscript_drawing.specs.Drawing.{closing, reached}
 use Rattle.postscript_drawing.specs.declared.undrawn.Undrawn.TheVariants.{Full}
-use Rattle.postscript_drawing.proofs.DrawsLaws.{full_at_once, full_behind, moved, moved-out, overflows, passed-on, standing, stroke_drawn}
+use Rattle.postscript_drawing.proofs.DrawsLaws.{closing-open, full_behind, moved, moved-out, overflows, passed-on, standing, stroke_drawn}
 use Rattle.postscript_drawing.proofs.pen.Pen.move_by.Goals as goal
 
 pub returns : goal.returns
@@ -25,8 +25,12 @@ returns-in_default g c =
 
 pub returns-in_err-end : goal.returns-in_err-end
 returns-in_err-end g c =
+    let pen = c.args.self.now in
+    let at = c.in-Some.at in
+    let reach : reached pen.at c.args.by ≡ Ok at = search rules in
     passed-on c.from_residual.result Full c.from_residual.ensures.1
-    (full_at_once (Move c.args.by) c.args.self.now _ c.in_err-end.ensures.full c.in_err-end.ensures.refuses)
+    (full_behind (Move c.args.by) pen _ [] Close (MoveTo at ∷ []) (standing at _) {mid = g.S.Sink.state c.args.sink.now} (moved pen c.args.by at reach)
+    (ap (λ v. v ++ MoveTo at ∷ []) (closing-open pen c.in_err-end.ensures.open)) refl c.in_err-end.ensures.full c.in_err-end.ensures.refuses)
 
 pub returns-in_err-add : goal.returns-in_err-add
 returns-in_err-add g c =
@@ -34,5 +38,5 @@ returns-in_err-add g c =
     let at = c.in-Some.at in
     let reach : reached pen.at c.args.by ≡ Ok at = search rules in
     passed-on c.from_residual-in_err-add.result Full c.from_residual-in_err-add.ensures.1
-    (full_behind (Move c.args.by) pen _ (closing pen) (MoveTo at) (standing at _) {mid = g.S.Sink.state c.end.new.sink} {new = g.S.Sink.state c.add.new.self} (moved pen c.args.by at reach) refl c.in_ok-end.ensures.ended c.in_err-add.ensures.full
+    (full_behind (Move c.args.by) pen _ (closing pen) (MoveTo at) [] (standing at _) {mid = g.S.Sink.state c.end.new.sink} {new = g.S.Sink.state c.add.new.self} (moved pen c.args.by at reach) refl c.in_ok-end.ensures.ended c.in_err-add.ensures.full
     (subst g.S.Sink.refuses (sym c.in_err-add.ensures.full) c.in_err-add.ensures.refuses))
