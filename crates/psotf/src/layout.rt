@@ -101,7 +101,7 @@ pub fn tell(rt: &HostRuntime, subset: &Subset) -> Result<(), Failure> {
     telling::tell(
         rt,
         format_args!(
-            "GSUB lookups dropped (unknown formats, or too many glyphs for classes of marks):{list}"
+            "GSUB lookups dropped (unknown formats, classes or sets of marks):{list}"
         ),
     )
 }

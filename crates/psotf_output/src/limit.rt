@@ -56,7 +56,7 @@ pub const INSTANCE: u64 = 4;
 
 /// Returns the most units of glyphs that `flat` and `subset` may write, of a table of `bytes` bytes.
 pub fn flat_room(limit: u64, bytes: u64) -> u64
-    // The room is the limit, or `COPIED` units for each byte if that is more, up to the greatest `u64`.
+    // The result is the limit, or `COPIED` units for each byte if that is more, up to the greatest `u64`.
     ensures { result ≡ max limit (min (bytes * COPIED) (2 ^ 64 - 1)) }
 {
     limit.max(bytes.saturating_mul(COPIED))
@@ -64,7 +64,7 @@ pub fn flat_room(limit: u64, bytes: u64) -> u64
 
 /// Returns the most units of glyphs that an instance may write, of a table of `bytes` bytes.
 pub fn instance_room(limit: u64, bytes: u64) -> u64
-    // The room is a quarter of the limit, or `COPIED` units for each byte if that is more.
+    // The result is a quarter of the limit, or `COPIED` units for each byte if that is more.
     ensures { result ≡ max (limit / INSTANCE) (min (bytes * COPIED) (2 ^ 64 - 1)) }
 {
     (limit / INSTANCE).max(bytes.saturating_mul(COPIED))
@@ -140,11 +140,11 @@ impl Budget {
     pub fn write(&mut self, units: u64) -> Result<(), Refusal>
         // The units are counted, up to the greatest `u64`.
         ensures counted { self.new.written ≡ min (self.old.written + units) (2 ^ 64 - 1) }
-        // It fails exactly if the units that are counted are more than the room, with the room.
+        // It fails exactly if the units that are counted are more than `room`, with that number.
         ensures exact { MatchResult result
             (λ _. self.new.written ≤ self.old.room)
             (λ e. (self.old.room < self.new.written) × (e ≡ refusals.Written self.old.room)) }
-        // The rest and the room are unchanged.
+        // The rest and `room` are unchanged.
         ensures same { (self.new.left ≡ self.old.left) × (self.new.room ≡ self.old.room) }
         // The limit is unchanged.
         ensures limit { self.new.limit ≡ self.old.limit }
