@@ -100,8 +100,6 @@ pub fn tell(rt: &HostRuntime, subset: &Subset) -> Result<(), Failure> {
     let list = list_of(rt.alloc(), &subset.left_out)?;
     telling::tell(
         rt,
-        format_args!(
-            "GSUB lookups dropped (unknown formats, classes or sets of marks):{list}"
-        ),
+        format_args!("GSUB lookups dropped (unknown formats, classes or sets of marks):{list}"),
     )
 }
