@@ -1,6 +1,7 @@
 -- A new `name` table gets one more record.
 use Rattle.std.proofs.Common.{◌≡◌, inl, inr, refl, sym, ap, subst, ◌∙◌, ℕ, ◌*◌, List, [], ◌∷◌, ◌++◌, length, append_assoc, append-nil, flat_map, length-append, arith}
 use Rattle.std.specs.List.{Contains}
+use Rattle.std.specs.Prelude.{Err, IfNone, IfOk, IfSome, MatchOption, None, Ok, Option, Result, Some}
 use Rattle.std.proofs.lemmas.List.Elements.{Contains-append_cases, Contains-append_left, Contains-append_right}
 use Rattle.postscript_text.specs.NameTables.{AreStored, Holds, IsIn, IsLike, nothing, own, row, shared, texts_at, word}
 use Rattle.postscript_text.specs.Places.{HasNoPlace, HasPlace, IsPlaced, added, found}
@@ -170,3 +171,16 @@ joined count t2 t1 t0 t d1 d2 rows texts len begin a b c d e f g h =
     ∙ append_assoc head d1 d2
     ∙ ap (λ (xs : List ℕ). head ++ (xs ++ d2)) e
     ∙ ap (λ (xs : List ℕ). head ++ (rows ++ xs)) f
+
+-- a table that is made, and one that is not
+pub some-of : {V E : Type 0} (r : Result (Option V) E) (A : Type 0) (B C : V → Type 0) → ((v : V) → B v → C v) →
+    IfOk r (λ made. MatchOption made A B) → IfOk r (λ made. IfSome made C)
+some-of (Ok (Some v)) A B C f h = f v h
+some-of (Ok None) A B C f h = tt
+some-of (Err e) A B C f h = tt
+
+pub none-of : {V E : Type 0} (r : Result (Option V) E) (A D : Type 0) (B : V → Type 0) → (A → D) → IfOk r (λ made. MatchOption made A B) →
+    IfOk r (λ made. IfNone made D)
+none-of (Ok (Some v)) A D B f h = tt
+none-of (Ok None) A D B f h = f h
+none-of (Err e) A D B f h = tt

@@ -1,7 +1,7 @@
 -- The `name` table (ISO/IEC 14496-22). It has its format, the number of records, the offset of the texts, the records, and the texts.
-use Rattle.std.specs.Prelude.{◌≡◌, ◌⊎◌, ℕ, ◌+◌, ◌*◌, ◌<◌, ◌≤◌, List, [], ◌∷◌, ◌++◌, length, min, nat_lt, if◌then◌else◌, flat_map}
+use Rattle.std.specs.Prelude.{◌≡◌, ◌⊎◌, ℕ, ◌+◌, ◌*◌, ◌<◌, ◌≤◌, Bool, true, List, [], ◌∷◌, ◌++◌, length, min, nat_eq, nat_lt, if◌then◌else◌, flat_map}
 use Rattle.std.specs.Int.{to_be_bytes, w16}
-use Rattle.std.specs.List.{Contains, slice_range}
+use Rattle.std.specs.List.{Contains, list_any, slice_range}
 use Rattle.postscript_base.specs.Index.{number_at}
 use Rattle.postscript_text.specs.declared.names.NameTable.{NameTable}
 use Rattle.postscript_text.specs.declared.names.Record.{Record}
@@ -84,3 +84,26 @@ pub record HaveNoSpace (records : List Record) : Type 0 where
   pub texts : List ℕ
   pub stored : AreStored records rows texts
   pub large : (65535 < texts_at (length records)) ⊎ (65535 < length texts)
+
+-- the identifiers of names that systems and browsers read, and of names about the licence
+abbrev pub are_read : List ℕ
+are_read = 1 ∷ 2 ∷ 3 ∷ 4 ∷ 5 ∷ 6 ∷ 16 ∷ 17 ∷ 21 ∷ 22 ∷ 25 ∷ []
+
+abbrev pub of_licence : List ℕ
+of_licence = 0 ∷ 7 ∷ 13 ∷ 14 ∷ []
+
+-- a list has a number
+abbrev pub Has : List ℕ → ℕ → Type 0
+Has numbers number = list_any (λ one. nat_eq one number) numbers ≡ true
+
+-- a name that is read, or with `licence` one about the licence, in a language with a number
+abbrev pub IsChosen : (licence : Bool) → Record → Type 0
+IsChosen licence entry =
+    (entry.language < 0x8000) × (Has are_read entry.identifier ⊎ ((licence ≡ true) × Has of_licence entry.identifier))
+
+-- Records among the first `count` of a table, in order. Each one is chosen and has its whole text.
+pub data AreChosen (table : List ℕ) (licence : Bool) : (count : ℕ) → List Record → Type 0 where
+  no_record : AreChosen table licence 0 []
+  chosen : (count : ℕ) (records : List Record) (entry : Record) → AreChosen table licence count records → IsRecordAt table count entry →
+      IsChosen licence entry → AreChosen table licence (count + 1) (records ++ entry ∷ [])
+  left_out : (count : ℕ) (records : List Record) → AreChosen table licence count records → AreChosen table licence (count + 1) records

@@ -1,6 +1,7 @@
 //! `name` tables (ISO/IEC 14496-22).
-ghost use Rattle.std.specs.Prelude.{◌≡◌, ◌+◌, ◌<◌, ◌∷◌, ◌++◌, [], List, IfOk, MatchOption, OnOk, flat_map, length, min};
-ghost use Rattle.postscript_text.specs.NameTables.{HaveNoSpace, Holds, IsNameTable, IsRecordAt, field_of, row, start_of, word as the_word, word_at};
+ghost use Rattle.std.specs.Prelude.{◌≡◌, ◌+◌, ◌<◌, ◌∷◌, ◌++◌, ◌⊎◌, ◌↔◌, [], List, IfNone, IfOk, IfSome, IsTrue, MatchOption, OnOk, flat_map, length, min};
+ghost use Rattle.postscript_sfnt.specs.NameTable.{HasRecords};
+ghost use Rattle.postscript_text.specs.NameTables.{AreChosen, HaveNoSpace, Holds, IsChosen, IsNameTable, IsRecordAt, field_of, row, start_of, word as the_word, word_at};
 ghost use Rattle.postscript_text.specs.Places.{HasNoPlace, HasPlace, IsPlaced};
 ghost use Rattle.postscript_text.specs.declared.names.Record.{Record as TheRecord};
 
@@ -215,17 +216,26 @@ impl NameTable {
 
 /// Returns whether a subset keeps a record: a name that is read, or one of the licence if `licence` is true, in a
 /// language with a number.
-fn is_kept(record: &Record<'_>, licence: bool) -> bool {
-    if record.language >= 0x8000 {
+fn is_kept(entry: &Record<'_>, licence: bool) -> bool
+    ensures { IsTrue result ↔ IsChosen licence entry.now }
+{
+    if entry.language >= 0x8000 {
         return false;
     }
-    READ.contains(&record.identifier) || (licence && LICENCE.contains(&record.identifier))
+    READ.contains(&entry.identifier) || (licence && LICENCE.contains(&entry.identifier))
 }
 
 /// Returns the table with the records that a subset keeps, in their order. Records that only repeat a better one are
-/// dropped. Returns `None` if the table has another format or too many records.
-pub fn trimmed(alloc: Global, table: &[u8], licence: bool) -> Result<Option<Vec<u8>>, AllocError> {
-    let count = number_within(table, 2, 2).unwrap_or(0);
+/// dropped. Returns `None` if the table has another format, more than [`MOST`] records, or texts that need too much space.
+pub fn trimmed(alloc: Global, table: &[u8], licence: bool) -> Result<Option<Vec<u8>>, AllocError>
+    // The table has only chosen records of the old one, in their order.
+    ensures has { IfOk result (λ made. IfSome made (λ new. (records : List TheRecord)
+        × AreChosen table.now licence (word_at table.now 2) records × IsNameTable records new.items)) }
+    // Without a table the old one has too few bytes or too many records, or there is no space.
+    ensures none { IfOk result (λ made. IfNone made ((HasRecords table.now → ⊥) ⊎ (1000 < word_at table.now 2)
+        ⊎ ((records : List TheRecord) × AreChosen table.now licence (word_at table.now 2) records × HaveNoSpace records))) }
+{
+    let count = word(table, 2);
     let (Some(names), true) = (Names::read(table), count <= MOST) else {
         return Ok(None);
     };
