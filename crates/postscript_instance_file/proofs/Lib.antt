@@ -1,3 +1,4 @@
 mod Advancing
 mod Drawing
 mod Refusing
+mod Weighing
