@@ -172,7 +172,7 @@ fn font_of(
 
 /// Returns the error of a table that is not made.
 fn error_of_table(unmade: Unmade) -> Error
-    ensures { (face : Face) → IsUnmadeBy face.file unmade → NoTables face result }
+    ensures { (face : Face) → IsUnmadeBy face unmade → NoTables face result }
 {
     match unmade {
         Unmade::Memory => Error::Memory,
