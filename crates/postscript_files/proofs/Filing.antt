@@ -13,7 +13,7 @@ use Rattle.std.proofs.lemmas.Option.{get_or_from_slice_get, slice_get-get_or, sl
 use Rattle.std.specs.Int.{to_be_bytes, w32}
 use Rattle.postscript_base.specs.Numbers.{big_endian}
 use Rattle.postscript_sfnt.specs.declared.file.FontFile.{FontFile}
-use Rattle.postscript_sfnt_write.specs.Files.{AreLent, HasTables, Opens}
+use Rattle.postscript_sfnt_write.specs.Files.{AreLent, HasTables, IsSoundFile, Opens}
 use Rattle.postscript_sfnt_write.specs.Numbers.{uint32}
 use Rattle.postscript_sfnt_write.specs.Tables.{IsGiven, TagsRise, adjusts, in_file, room_of, rooms, size_of}
 use Rattle.postscript_sfnt_write.specs.declared.file.Table.{Table}
@@ -21,7 +21,6 @@ use Rattle.postscript_sfnt_write.proofs.Placing.{length-in_file}
 use Rattle.postscript_sfnt_write.proofs.Sums.{adjusts-long, length-uint32, value-uint32, with_none, with_number}
 use Rattle.postscript_files.specs.Copies.{HasAll, IsCopy, IsFileOf, NoFileOf, NoNeighbours}
 use Rattle.postscript_files.specs.Refused.{IsTooMuch}
-use Rattle.postscript_files.specs.Sound.{IsSoundFile}
 use Rattle.postscript_files.specs.declared.error.Error.{Error}
 use Rattle.postscript_files.specs.declared.error.Error.TheVariants.{Cut, File, Font, Memory, MissingCharacter, MissingTable, NoAdvances, NoMap, Overlap, SameTag, TooLarge}
 

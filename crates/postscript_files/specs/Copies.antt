@@ -4,10 +4,9 @@ use Rattle.std.specs.List.{sum_by}
 use Rattle.std.specs.List.Sorted.{IsPermutation}
 use Rattle.postscript_sfnt.specs.Lent.{IsFaceOf, IsTableOf, tables_of, tag_of}
 use Rattle.postscript_sfnt.specs.declared.file.FontFile.{FontFile}
-use Rattle.postscript_sfnt_write.specs.Files.{Opens}
+use Rattle.postscript_sfnt_write.specs.Files.{IsSoundFile, Opens}
 use Rattle.postscript_sfnt_write.specs.Tables.{IsGiven, size_of}
 use Rattle.postscript_sfnt_write.specs.declared.file.Table.{Table}
-use Rattle.postscript_files.specs.Sound.{IsSoundFile}
 use Rattle.postscript_files.specs.declared.error.Error.{Error}
 use Rattle.postscript_files.specs.declared.error.Error.TheVariants.{Memory, SameTag, TooLarge}
 

@@ -4,7 +4,7 @@ use Rattle.std.specs.List.{sum_by}
 use Rattle.postscript_sfnt.specs.Lent.{HasNoTable, IsFaceOf, IsTableOf, tables_of, tag_of}
 use Rattle.postscript_sfnt.specs.Refusals.{NoFace}
 use Rattle.postscript_sfnt.specs.declared.file.FontFile.{FontFile}
-use Rattle.postscript_sfnt_write.specs.Files.{Opens}
+use Rattle.postscript_sfnt_write.specs.Files.{IsSoundFile, Opens}
 use Rattle.postscript_sfnt_write.specs.Tables.{IsGiven}
 use Rattle.postscript_sfnt_write.specs.declared.file.Table.{Table}
 use Rattle.postscript_write.specs.Drawings.{KeepsDrawings}
@@ -16,7 +16,7 @@ use Rattle.postscript_write.specs.declared.error.Error.{Error as Refusal}
 use Rattle.postscript_write.specs.declared.error.Error.TheVariants.{SeveralFonts}
 use Rattle.postscript_files.specs.Copies.{AreTooLarge, HasCopy}
 use Rattle.postscript_files.specs.Faces.{OfFile, cff_tag}
-use Rattle.postscript_files.specs.Sound.{IsSoundFile, IsSoundFont}
+use Rattle.postscript_files.specs.Sound.{IsSoundFont}
 use Rattle.postscript_files.specs.declared.error.Error.{Error}
 use Rattle.postscript_files.specs.declared.error.Error.TheVariants.{File, Font, Memory, MissingTable, Overlap, TooLarge}
 

@@ -3,13 +3,12 @@ use Rattle.std.specs.Prelude.{◌≡◌, ◌⊎◌, ℕ, ◌+◌, ◌<◌, ◌�
 use Rattle.std.specs.List.{Contains}
 use Rattle.postscript_sfnt.specs.Lent.{HasNoTable, IsFaceOf, IsTableOf, tables_of, tag_of}
 use Rattle.postscript_sfnt.specs.declared.file.FontFile.{FontFile}
-use Rattle.postscript_sfnt_write.specs.Files.{Opens}
+use Rattle.postscript_sfnt_write.specs.Files.{IsSoundFile, Opens}
 use Rattle.postscript_sfnt_write.specs.Tables.{IsGiven}
 use Rattle.postscript_sfnt_write.specs.declared.file.Table.{Table}
 use Rattle.postscript_files.specs.Copies.{AreTooLarge, HasCopy, IsListed, tagged}
 use Rattle.postscript_files.specs.Faces.{IsNeeded, cff_tag, cmap_tag, hhea_tag, hmtx_tag, maxp_tag, post_tag}
 use Rattle.postscript_files.specs.Others.{Has}
-use Rattle.postscript_files.specs.Sound.{IsSoundFile}
 use Rattle.postscript_files.specs.Subsets.{IsExpected, IsTwice, given_tag, times}
 use Rattle.postscript_files.specs.declared.choice.Choice.{Choice}
 use Rattle.postscript_files.specs.declared.choice.Given.{Given}

@@ -4,7 +4,7 @@ use Rattle.postscript_base.specs.Index.{number_at}
 use Rattle.postscript_sfnt.specs.Lent.{IsTableOf}
 use Rattle.postscript_sfnt.specs.Metrics.{IsGlyphs, IsWord}
 use Rattle.postscript_sfnt.specs.declared.file.FontFile.{FontFile}
-use Rattle.postscript_sfnt_write.specs.Files.{Opens}
+use Rattle.postscript_sfnt_write.specs.Files.{IsSoundFile, Opens}
 use Rattle.postscript_sfnt_write.specs.Headers.{HaveHeaders}
 use Rattle.postscript_sfnt_write.specs.Mappings.{AreTold, AreToldIn4, FitFormat4, HasFormat4, HasOnlyFormat4, IsReadable, in_segments}
 use Rattle.postscript_sfnt_write.specs.Metrics.{CanBeRead, KeepsBut, TellsAdvances, TellsBearings}
@@ -21,7 +21,6 @@ use Rattle.postscript_files.specs.Faces.{IsFaceIn, post_tag}
 use Rattle.postscript_files.specs.Measures.{metric_in}
 use Rattle.postscript_files.specs.Origins.{IsCutRefusedBy, IsOrigin}
 use Rattle.postscript_files.specs.Renumbered.{AreNumbersOf, AreRenumbered, AreSmall}
-use Rattle.postscript_files.specs.Sound.{IsSoundFile}
 use Rattle.postscript_files.specs.Subsets.{IsSubsetFace}
 use Rattle.postscript_files.specs.declared.choice.Choice.{Choice}
 use Rattle.postscript_files.specs.declared.error.Error.{Error}

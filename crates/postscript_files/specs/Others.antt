@@ -2,7 +2,7 @@
 use Rattle.std.specs.Prelude.{◌≡◌, ◌≢◌, ◌⊎◌, ℕ, ◌<◌, List, length}
 use Rattle.postscript_sfnt.specs.Lent.{HasNoTable, IsFaceOf, IsTableOf, tables_of, tag_of}
 use Rattle.postscript_sfnt.specs.declared.file.FontFile.{FontFile}
-use Rattle.postscript_sfnt_write.specs.Files.{Opens}
+use Rattle.postscript_sfnt_write.specs.Files.{IsSoundFile, Opens}
 use Rattle.postscript_sfnt_write.specs.Tables.{IsGiven}
 use Rattle.postscript_sfnt_write.specs.declared.file.Table.{Table}
 use Rattle.postscript_files.specs.Copies.{HasCopy}
@@ -10,7 +10,6 @@ use Rattle.postscript_files.specs.Faces.{cff_tag}
 use Rattle.postscript_files.specs.declared.error.Error.{Error}
 use Rattle.postscript_files.specs.declared.error.Error.TheVariants.{Memory, Overlap, TooLarge}
 use Rattle.postscript_files.specs.Flats.{IsFlatTooLarge, Stays, StayingHaveMore, dsig_tag}
-use Rattle.postscript_files.specs.Sound.{IsSoundFile}
 
 -- there is a table with the tag
 abbrev pub Has : List Table → (tag : ℕ) → Type 0

@@ -1,9 +1,6 @@
--- What is true of each `CFF ` table and of each file that is written, whatever glyphs and tables they have.
-use Rattle.std.specs.Prelude.{◌≡◌, ℕ, List, length}
+-- What is true of each `CFF ` table that is written, whatever glyphs it has.
+use Rattle.std.specs.Prelude.{◌≡◌, ℕ, List}
 use Rattle.postscript_base.specs.Tape.Outcome.{Got}
-use Rattle.postscript_sfnt_write.specs.Files.{AreLent, AreListed, ArePacked, IsAdjusted, IsSearched, Opens}
-use Rattle.postscript_sfnt_write.specs.Tables.{TagsRise}
-use Rattle.postscript_sfnt_write.specs.declared.file.Table.{Table}
 use Rattle.postscript_view.specs.Order.{fonts}
 use Rattle.postscript_write.specs.Once.{BeginsWithRos, TellsOnce}
 use Rattle.postscript_write.specs.Readings.{HasLenientFont}
@@ -23,16 +20,3 @@ pub record IsSoundFont (cff new : List ℕ) : Type 0 where
   pub small : IsSmall cff new
   pub lenient : HasLenientFont cff → HasLenientFont new
   pub one : fonts cff 0 ≡ Got 1 0
-
--- The file has these tables and no others, in strictly ascending order of their tags (ISO/IEC 14496-22, 4.5). Each record has the tag, the
--- checksum and the length of its table. The tables are at multiples of four, in order, without gaps apart from zeros as padding. The header
--- has the search fields of their number. With a `head` table of 12 bytes or more, the checksum of the whole file is 0xB1B0AFBA.
-pub record IsSoundFile (file : List ℕ) : Type 0 where
-  pub tables : List Table
-  pub rise : TagsRise tables
-  pub opens : Opens file (length tables)
-  pub lent : AreLent file tables
-  pub listed : AreListed file tables
-  pub packed : ArePacked file (length tables)
-  pub searched : IsSearched file (length tables)
-  pub adjusted : IsAdjusted file tables

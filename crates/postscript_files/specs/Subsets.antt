@@ -6,7 +6,7 @@ use Rattle.postscript_sfnt.specs.Lent.{HasNoTable, IsTableOf, advance_in, tables
 use Rattle.postscript_sfnt.specs.Maps.{Maps}
 use Rattle.postscript_sfnt.specs.Metrics.{IsGlyphs, IsWord}
 use Rattle.postscript_sfnt.specs.declared.file.FontFile.{FontFile}
-use Rattle.postscript_sfnt_write.specs.Files.{Opens}
+use Rattle.postscript_sfnt_write.specs.Files.{IsSoundFile, Opens}
 use Rattle.postscript_sfnt_write.specs.Headers.{HaveHeaders}
 use Rattle.postscript_sfnt_write.specs.Mappings.{AreToldIn4, FitFormat4, HasFormat4, HasOnlyFormat4, in_segments}
 use Rattle.postscript_sfnt_write.specs.Metrics.{KeepsBut}
@@ -28,7 +28,7 @@ use Rattle.postscript_files.specs.Copies.{AreTooLarge, HasCopy, IsListed, tagged
 use Rattle.postscript_files.specs.Faces.{IsFaceIn, IsNeeded, NoFaceIn, cff_tag, cmap_tag, hhea_tag, hmtx_tag, maxp_tag, post_tag}
 use Rattle.postscript_files.specs.Measures.{bearing_in}
 use Rattle.postscript_files.specs.Origins.{AreOriginsOf, IsCutRefusedBy, IsKeptGlyph, IsOrigin}
-use Rattle.postscript_files.specs.Sound.{IsSoundFile, IsSoundFont}
+use Rattle.postscript_files.specs.Sound.{IsSoundFont}
 use Rattle.postscript_files.specs.declared.choice.Choice.{Choice}
 use Rattle.postscript_files.specs.declared.choice.Given.{Given}
 use Rattle.postscript_files.specs.declared.error.Error.{Error}

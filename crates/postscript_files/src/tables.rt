@@ -3,8 +3,7 @@ ghost use Rattle.std.specs.Prelude.{◌≡◌, ℕ, ◌<◌, ◌≤◌, length, 
 ghost use Rattle.postscript_sfnt.specs.Lent.{HasNoTable, IsTableOf};
 ghost use Rattle.postscript_files.specs.Copies.{HasNeighbours, IsFileOf, NoFileOf, NoNeighbours, tagged};
 ghost use Rattle.postscript_files.specs.Refused.{IsTooMuch};
-ghost use Rattle.postscript_files.specs.Sound.{IsSoundFile};
-ghost use Rattle.postscript_sfnt_write.specs.Files.{AreLent, Opens};
+ghost use Rattle.postscript_sfnt_write.specs.Files.{AreLent, IsSoundFile, Opens};
 ghost use Rattle.postscript_sfnt_write.specs.Tables.{TagsRise, size_of};
 ghost use Rattle.postscript_files.specs.declared.error.Error.TheVariants as errors;
 

@@ -1,5 +1,5 @@
 -- A glyph has only one advance at a location.
-use Rattle.std.proofs.Common.{◌≡◌, ◌⊎◌, inl, inr, refl, sym, ap, ap₂, subst, ◌∙◌, ℕ, zero, suc, ◌+◌, ℤ, pos, ◌+ℤ◌, List, Option, None, Some}
+use Rattle.std.proofs.Common.{◌≡◌, inl, inr, refl, sym, ap, ap₂, ◌∙◌, ℕ, zero, suc, ◌+◌, ℤ, pos, ◌+ℤ◌, List, Option, None, Some}
 use Rattle.postscript_base.specs.Index.{number_at}
 use Rattle.postscript_instance.specs.Advances.{IsAdded, IsAdvanceAt}
 use Rattle.postscript_instance.specs.declared.advances.AdvancesAt.{AdvancesAt}

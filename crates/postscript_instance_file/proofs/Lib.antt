@@ -1,3 +1,5 @@
 mod Advancing
 mod Drawing
+mod Naming
 mod Refusing
+mod Weighing

@@ -54,6 +54,10 @@ abbrev pub IsRead : {X : Type 0} → FontFile → (tag : ℕ) → (Is : List ℕ
 IsRead file tag Is None = HasNoTable file tag
 IsRead file tag Is (Some read) = (table : List ℕ) × IsTableOf file tag table × Is table read
 
+-- the table with this tag, or no bytes if the face has no such table
+abbrev pub IsTableOrNone : FontFile → (tag : ℕ) → List ℕ → Type 0
+IsTableOrNone file tag table = IsTableOf file tag table ⊎ (HasNoTable file tag × (table ≡ []))
+
 -- the advance widths of a face
 abbrev pub HasAdvances : FontFile → Advances → Type 0
 HasAdvances file advances =

@@ -12,6 +12,7 @@ use Rattle.postscript_instance_file.specs.Faces.{IsAt, IsFoundFace}
 use Rattle.postscript_variation.specs.declared.coordinates.Setting.{Setting}
 use Rattle.postscript_instance_file.specs.declared.face.VariableFace.{VariableFace}
 use Rattle.postscript_instance_file.specs.declared.location.Location.{Location}
+use Rattle.postscript_instance_file.specs.Weights.{IsLight}
 
 -- the tag of the `CFF ` table
 abbrev pub cff_tag : ℕ
@@ -61,10 +62,11 @@ pub record IsStaticFont (rounded : Bool) (face : VariableFace) (location : Locat
   pub is : IsFontAt rounded face location font
   pub has : IsFileWith font file
 
--- a file of a face of another file, at the location of some settings
+-- a file of a face of another file, at the location of some settings; no table of that face makes too much work
 pub record IsInstanceFile (rounded : Bool) (bytes : List ℕ) (number : ℕ) (settings : List Setting) (file : List ℕ) : Type 0 where
   pub face : VariableFace
   pub found : IsFoundFace bytes number face
+  pub light : IsLight face
   pub location : Location
   pub at : IsAt face settings location
   pub is : IsStaticFont rounded face location file

@@ -1,5 +1,6 @@
 pub mod Faces
 pub mod Glyphs
 pub mod Instances
+pub mod Names
 pub mod Refusals
 pub mod Weights

@@ -1,5 +1,5 @@
 -- Why a variable font is not opened, and why it has no location or no static font.
-use Rattle.std.specs.Prelude.{◌≡◌, ◌⊎◌, ◌<◌, ℕ, List, [], Bool, true, false, codes, length, Option, Some, None}
+use Rattle.std.specs.Prelude.{◌≡◌, ◌⊎◌, ◌<◌, ℕ, List, Bool, true, false, codes, length, Option, Some, None}
 use Rattle.std.specs.List.Sorted.{IsPermutation}
 use denote.Ref.{Bor}
 use Rattle.postscript_cff2.specs.Causes.{NoFont}
@@ -9,9 +9,10 @@ use Rattle.postscript_instance.specs.Glyphs.{NoRoundedTable, NoTable}
 use Rattle.postscript_instance.specs.declared.advances.AdvancesAt.{AdvancesAt}
 use Rattle.postscript_instance.specs.declared.error.Error.{Error as CauseOfTable}
 use Rattle.postscript_instance.specs.declared.naming.Naming.{Naming}
-use Rattle.postscript_instance_file.specs.Faces.{IsAt, IsFoundFace, IsVariableFace, avar_tag, cff2_tag, fvar_tag, hhea_tag, hmtx_tag, hvar_tag, maxp_tag, mvar_tag}
+use Rattle.postscript_instance_file.specs.Faces.{IsAt, IsFoundFace, IsTableOrNone, IsVariableFace, avar_tag, cff2_tag, fvar_tag, hhea_tag, hmtx_tag, hvar_tag, maxp_tag, mvar_tag}
 use Rattle.postscript_instance_file.specs.Glyphs.{HasNoWidths, NamesUndrawn, NamesUnwritten}
 use Rattle.postscript_instance_file.specs.Instances.{AreAdvancesAt, HaveFont, IsFontAt, cff_tag}
+use Rattle.postscript_instance_file.specs.Names.{HasLongNames}
 use Rattle.postscript_instance_file.specs.declared.error.Error.{Error}
 use Rattle.postscript_instance_file.specs.declared.error.Error.TheVariants as errors
 use Rattle.postscript_instance_file.specs.declared.face.VariableFace.{VariableFace}
@@ -112,30 +113,26 @@ pub data NoFileWith (font : List ℕ) (e : Error) : Type 0 where
   no_tables : e ≡ errors.Memory → NoFileWith font e
   no_file_of : (tables : List Table) → HaveFont tables font → NoFileOf tables e → NoFileWith font e
 
--- the table with this tag, or no bytes if the face has no such table
-abbrev pub IsTableOrNone : FontFile → (tag : ℕ) → List ℕ → Type 0
-IsTableOrNone file tag table = IsTableOf file tag table ⊎ (HasNoTable file tag × (table ≡ []))
-
 -- the face has no table with this tag, or one with fewer bytes
 abbrev pub HasShort : FontFile → (tag size : ℕ) → Type 0
 HasShort file tag size = (table : List ℕ) × IsTableOrNone file tag table × (length table < size)
 
 -- why a table is not made: memory runs out, the names are too long, or the `hhea` table is truncated
-abbrev pub IsUnmadeBy : FontFile → Unmade → Type 0
-IsUnmadeBy file reasons.Memory = Unit {0}
-IsUnmadeBy file reasons.Names = Unit {0}
-IsUnmadeBy file reasons.Cut = HasShort file hhea_tag 36
+abbrev pub IsUnmadeBy : VariableFace → Unmade → Type 0
+IsUnmadeBy face reasons.Memory = Unit {0}
+IsUnmadeBy face reasons.Names = HasLongNames face
+IsUnmadeBy face reasons.Cut = HasShort face.file hhea_tag 36
 
 -- the reason that an error of a table that is written is converted to
 abbrev pub unmade_by : CauseOfFile → Unmade
 unmade_by writing.Memory = reasons.Memory
 unmade_by e = reasons.Cut
 
--- Why the tables other than `CFF ` are not made. No rule says which names are too long.
+-- why the tables other than `CFF ` are not made
 pub data NoTables (face : VariableFace) (e : Error) : Type 0 where
   no_room : e ≡ errors.Memory → NoTables face e
   bad_metrics : HasBadMetrics face.file e → NoTables face e
-  long_names : e ≡ errors.Names → NoTables face e
+  long_names : HasLongNames face → e ≡ errors.Names → NoTables face e
   short_metrics : HasShort face.file hhea_tag 36 → e ≡ errors.Write writing.Cut → NoTables face e
 
 -- why the glyphs of a face are not all drawn and measured at a location, within a limit for each glyph and what is left for all glyphs

@@ -1,5 +1,5 @@
 -- The work that the tables of a variable font make. The limits are no rule of the specification: they bound the time of the calls.
-use Rattle.std.specs.Prelude.{◌≡◌, ◌⊎◌, ℕ, ◌+◌, ◌*◌, ◌<◌, List, codes, length, min, unwrap_or, slice_get, Option, Some, None, IsSome}
+use Rattle.std.specs.Prelude.{◌≡◌, ◌⊎◌, ℕ, ◌+◌, ◌*◌, ◌<◌, ◌≤◌, List, codes, length, min, unwrap_or, slice_get, Option, Some, None, IsSome}
 use Rattle.postscript_base.specs.Index.{number_at}
 use Rattle.postscript_cff2.specs.Dictionary.{offset_of}
 use Rattle.postscript_cff2.specs.Shown.{view_shown}
@@ -58,6 +58,10 @@ pub record HasWideData (store : Store) (sums : ℕ) : Type 0 where
   pub use_them : UseRegions store number regions
   pub wide : STEPS < regions * sums
 
+-- No item variation data use so many regions.
+abbrev pub HasNarrowData : Store → (sums : ℕ) → Type 0
+HasNarrowData store sums = (number : ℕ) → number < table_count store → (regions : ℕ) × UseRegions store number regions × (regions * sums ≤ STEPS)
+
 -- The advances of all glyphs take too many steps: for each glyph and each region of item variation data of `HVAR` one, and one for each
 -- axis.
 pub record HasManyDeltas (face : VariableFace) : Type 0 where
@@ -75,3 +79,7 @@ pub data IsHeavy (face : VariableFace) (name : List ℕ) : Type 0 where
   long_dictionary : name ≡ codes "CFF2" → HasLongDictionary face → IsHeavy face name
   many_scalars : name ≡ codes "CFF2" → HasManyScalars face.font.store (axes_in face.axes) → IsHeavy face name
   many_deltas : name ≡ codes "HVAR" → HasManyDeltas face → IsHeavy face name
+
+-- No table makes too much work.
+abbrev pub IsLight : VariableFace → Type 0
+IsLight face = (name : List ℕ) → IsHeavy face name → ⊥

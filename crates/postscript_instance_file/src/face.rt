@@ -3,6 +3,7 @@ ghost use Rattle.std.specs.Prelude.{◌≡◌, IfErr, IfOk, IfSome, MatchOption}
 ghost use Rattle.postscript_base.specs.Numbers.{big_endian};
 ghost use Rattle.postscript_instance_file.specs.Faces.{AreNames, HasAdvances, IsFoundFace, IsNamed, IsRead, IsUnnamed, IsVariableFace, avar_tag, cff2_tag, fvar_tag, hvar_tag};
 ghost use Rattle.postscript_instance_file.specs.Refusals.{IsNeeded, IsNotVariable, IsUnopened, IsUnread};
+ghost use Rattle.postscript_instance_file.specs.Weights.{IsLight};
 ghost use Rattle.postscript_instance_file.specs.declared.error.Error.TheVariants as errors;
 ghost use Rattle.postscript_sfnt.specs.Lent.{IsTableOf};
 ghost use Rattle.postscript_variation.specs.LentAdvances.{AreAdvancesOf};
@@ -148,6 +149,8 @@ impl<'l> VariableFace<'l> {
     pub fn read(bytes: &'l [u8], number: usize) -> Result<VariableFace<'l>>
         // The font of the face of this number, with what its own tables say.
         ensures found { IfOk result (λ face. IsFoundFace bytes.now number face) }
+        // No table of this face makes more work than the limits.
+        ensures light { IfOk result (λ face. IsLight face) }
         // An error is justified by the file, or by a table as those of `open`.
         ensures why { IfErr result (λ e. IsUnread bytes.now number e) }
     {
@@ -169,6 +172,8 @@ impl<'l> VariableFace<'l> {
     pub fn open(file: &FontFile<'l>) -> Result<Option<VariableFace<'l>>>
         // The font of this face, with what its own tables say.
         ensures found { IfOk result (λ found. IfSome found (λ face. IsVariableFace file.now face)) }
+        // No table of this face makes more work than the limits.
+        ensures light { IfOk result (λ found. IfSome found (λ face. IsLight face)) }
         // Without a font the face has no `CFF2` table, or it has a `CFF ` table too.
         ensures none { IfOk result (λ found. MatchOption found (IsNotVariable file.now) (λ _. Unit {0})) }
         // An error is justified by a table that is missing, malformed, or heavier than the limits.

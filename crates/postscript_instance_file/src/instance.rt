@@ -1,10 +1,11 @@
 //! Static fonts with outlines in a `CFF ` table.
-ghost use Rattle.std.specs.Prelude.{◌≡◌, ◌⊎◌, ◌≤◌, IfErr, IfOk, IfSome, slice_get};
+ghost use Rattle.std.specs.Prelude.{◌≡◌, ◌⊎◌, ◌<◌, ◌≤◌, IfErr, IfOk, IfSome, length, slice_get};
 ghost use Rattle.postscript_instance_file.specs.Glyphs.{HaveWidths, IsGlyphBy, NamesUnwritten, NoGlyphBy};
 ghost use Rattle.postscript_instance_file.specs.Instances.{HaveFont, IsFileOf, IsFileWith, IsFontAt, IsInstanceFile, IsStaticFont, IsTableBy};
 ghost use Rattle.postscript_instance_file.specs.Refusals.{IsUnmade, IsUnmadeBy, IsUnwritten, LacksTableBy, NoFileOf, NoFileWith, NoInstanceFile, NoInstanceFileWithin, NoTables};
 ghost use Rattle.postscript_instance_file.specs.declared.error.Error.TheVariants as errors;
 ghost use Rattle.postscript_instance_file.specs.declared.face.VariableFace.{VariableFace as Face};
+ghost use Rattle.postscript_sfnt_write.specs.Files.{IsSoundFile};
 
 use crate::drawn::{Budget, Drawn};
 use crate::error::{Error, GlyphError};
@@ -171,7 +172,7 @@ fn font_of(
 
 /// Returns the error of a table that is not made.
 fn error_of_table(unmade: Unmade) -> Error
-    ensures { (face : Face) → IsUnmadeBy face.file unmade → NoTables face result }
+    ensures { (face : Face) → IsUnmadeBy face unmade → NoTables face result }
 {
     match unmade {
         Unmade::Memory => Error::Memory,
@@ -220,6 +221,7 @@ fn all_tables<'t>(
 /// Returns a file of tables, sorted by their tags.
 fn file_with(alloc: Global, tables: &[Table<'_>]) -> Result<Vec<u8>, Error>
     ensures file { IfOk result (λ file. IsFileOf tables.now file.items) }
+    ensures sound { IfOk result (λ file. 0 < length tables.now → IsSoundFile file.items) }
     ensures why { IfErr result (λ e. NoFileOf tables.now e) }
 {
     let mut sorted = Vec::from_slice(alloc, tables)?;
@@ -236,6 +238,7 @@ fn written(
     made: &Made,
 ) -> Result<Vec<u8>, Error>
     ensures written { IfOk result (λ file. IsFileWith font.now file.items) }
+    ensures sound { IfOk result (λ file. IsSoundFile file.items) }
     ensures why { IfErr result (λ e. NoFileWith font.now e) }
 {
     let tables = all_tables(alloc, face, font, made)?;
@@ -254,6 +257,7 @@ fn styled(
 ) -> Result<StaticFont, Error>
     requires { HaveWidths face.now location.now drawn.now.widths.items }
     ensures written { IfOk result (λ made. IsStaticFont is_rounded face.now location.now made.file.items) }
+    ensures sound { IfOk result (λ made. IsSoundFile made.file.items) }
     ensures why { IfErr result (λ e. IsUnwritten is_rounded face.now location.now e) }
 {
     let names = names_of(alloc, face)?;
@@ -292,6 +296,8 @@ pub fn static_font<W: Watch>(
 ) -> Result<StaticFont, Error>
     // The file opens with exactly its tables. Its `CFF ` table has the glyphs at the location.
     ensures written { IfOk result (λ made. IsStaticFont is_rounded face.now location.now made.file.items) }
+    // Tags ascend, records and checksums are right, and only zeros are between tables.
+    ensures sound { IfOk result (λ made. IsSoundFile made.file.items) }
     // The limit of all glyphs never grows.
     ensures spends { left.new ≤ left.old }
     // An error names the first glyph that is refused, and why, or a table that is not made.
@@ -325,6 +331,8 @@ pub fn instance_file(
 ) -> Result<StaticFont, Error>
     // The file is a static font of the face at the location of the settings.
     ensures written { IfOk result (λ made. IsInstanceFile is_rounded file.now number settings.items made.file.items) }
+    // Tags ascend, records and checksums are right, and only zeros are between tables.
+    ensures sound { IfOk result (λ made. IsSoundFile made.file.items) }
     // The limit of all glyphs never grows.
     ensures spends { left.new ≤ left.old }
     // An error is justified as those of the three calls, within some limits.

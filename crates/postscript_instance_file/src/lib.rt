@@ -7,17 +7,17 @@
 //! # What is proved
 //!
 //! Each call is safe and ends, on all bytes. A file that is written has one face, which opens with exactly the tables that are
-//! written. Its `CFF ` table is one that `postscript_instance` writes for the location, so glyphs are drawn as at the location.
+//! written. Its tags ascend, its checksums are right, and only zeros are between tables. Its `CFF ` table is one that
+//! `postscript_instance` writes for the location, so glyphs are drawn as at the location.
 //! An error names a table that is missing, malformed, too expensive or not made, or the first glyph that is refused. The cause is
-//! present: a table is as heavy, an advance as wide, and a run as expensive as the error says (`specs/Weights.antt`,
-//! `specs/Glyphs.antt`). Any call may also be out of memory. The limit of all glyphs never grows.
+//! present: a table is as heavy, an advance as wide, a run as expensive, and names are as long as the error says
+//! (`specs/Weights.antt`, `specs/Glyphs.antt`, `specs/Names.antt`). A font with a table that is too expensive is never opened.
+//! Any call may also be out of memory. The limit of all glyphs never grows.
 //!
 //! # What is not proved
 //!
-//! - That there is enough memory. That a face with a table that is too expensive is rejected.
-//! - That the names are too long if the error is `Names`, and that a glyph draws more segments than `Segments` says, not only as
-//!   many.
-//! - The tables other than `CFF `: metrics, names, glyph classes and positions are tested.
+//! - That there is enough memory. That a glyph draws more segments than `Segments` says, not only as many.
+//! - The tables other than `CFF `: metrics, the texts of names, glyph classes and positions are tested.
 #![tactic(auto)]
 
 mod drawn;

@@ -1,7 +1,8 @@
 //! The tables of an instance that are made from those of the variable font.
 ghost use Rattle.std.specs.Prelude.{◌≡◌, IfErr, IfOk, length};
 ghost use Rattle.postscript_base.specs.Numbers.{big_endian};
-ghost use Rattle.postscript_instance_file.specs.Refusals.{HasBadMetrics, IsTableOrNone, IsUnmadeBy};
+ghost use Rattle.postscript_instance_file.specs.Faces.{IsTableOrNone};
+ghost use Rattle.postscript_instance_file.specs.Refusals.{HasBadMetrics, IsUnmadeBy};
 ghost use Rattle.postscript_instance_file.specs.declared.made.Unmade.TheVariants as reasons;
 
 use crate::drawn::{Drawn, Frame};
@@ -129,7 +130,7 @@ impl<'m, 'l> Maker<'m, 'l> {
 
     /// Returns the `hhea` table, with the extremes of the metrics.
     fn hhea(&self) -> Result<Vec<u8>, Unmade>
-        ensures { IfErr result (λ e. IsUnmadeBy self.now.face.now.file e) }
+        ensures { IfErr result (λ e. IsUnmadeBy self.now.face.now e) }
     {
         let mut hhea = self.varied(self.old(*b"hhea"), &HHEA)?;
         let frame = self.drawn.frame.unwrap_or(Frame::NONE);
@@ -184,7 +185,7 @@ impl<'m, 'l> Maker<'m, 'l> {
 
     /// Adds the tables that every font has.
     fn put_needed(&self, made: &mut Made) -> Result<(), Unmade>
-        ensures { IfErr result (λ e. IsUnmadeBy self.now.face.now.file e) }
+        ensures { IfErr result (λ e. IsUnmadeBy self.now.face.now e) }
     {
         made.put(*b"head", self.head()?)?;
         made.put(*b"hhea", self.hhea()?)?;
@@ -228,7 +229,7 @@ pub(crate) fn put<'l>(
     style: &Style,
     metrics: Option<MetricVariations<'l>>,
 ) -> Result<(), Unmade>
-    ensures { IfErr result (λ e. IsUnmadeBy face.now.file e) }
+    ensures { IfErr result (λ e. IsUnmadeBy face.now e) }
 {
     let maker = Maker {
         alloc,

@@ -1,6 +1,12 @@
 //! The `name` table of an instance (ISO/IEC 14496-22).
-ghost use Rattle.std.specs.Prelude.{◌≡◌, ◌⊎◌, IfErr};
+ghost use Rattle.std.specs.Prelude.{◌≡◌, ◌⊎◌, ◌++◌, ◌∷◌, [], List, IfErr, IfOk, IsTrue, OnOk, ◌↔◌, map, min};
+ghost use Rattle.std.specs.List.{Contains};
+ghost use Rattle.postscript_instance_file.specs.Faces.{IsTableOrNone, name_tag};
+ghost use Rattle.postscript_instance_file.specs.Names.{AreKept, AreNew, HasLongNames, IsInEnglish, IsKept, NamesAxis, NamesInstance};
 ghost use Rattle.postscript_instance_file.specs.declared.made.Unmade.TheVariants as reasons;
+ghost use Rattle.postscript_instance_file.specs.declared.records.Text.{Text as TheText};
+ghost use Rattle.postscript_text.specs.NameTables.{HaveNoSpace, Holds, word_at};
+ghost use Rattle.postscript_text.specs.declared.names.Record.{Record as TheRecord};
 
 use crate::face::VariableFace;
 use crate::made::Unmade;
@@ -27,7 +33,9 @@ struct Text {
 }
 
 /// Returns whether an axis has the name with an ID.
-fn names_axis(axes: &Axes<'_>, identifier: usize) -> bool {
+fn names_axis(axes: &Axes<'_>, identifier: usize) -> bool
+    ensures { IsTrue result ↔ NamesAxis axes.now identifier }
+{
     for i in 0..axes.len() {
         if let Some(axis) = axes.get(i) {
             if usize::from(axis.name) == identifier {
@@ -39,7 +47,9 @@ fn names_axis(axes: &Axes<'_>, identifier: usize) -> bool {
 }
 
 /// Returns whether an instance has the name with an ID.
-fn names_instance(axes: &Axes<'_>, identifier: usize) -> bool {
+fn names_instance(axes: &Axes<'_>, identifier: usize) -> bool
+    ensures { IsTrue result ↔ NamesInstance axes.now identifier }
+{
     for i in 0..axes.instances() {
         if let Some(instance) = axes.instance(i) {
             let postscript = usize::from(instance.postscript_name.unwrap_or(0));
@@ -53,11 +63,13 @@ fn names_instance(axes: &Axes<'_>, identifier: usize) -> bool {
 
 /// Returns whether a record is kept. Records with names that are written, with names of axes or instances, or with a
 /// language tag are dropped.
-fn stays(face: &VariableFace<'_>, record: &Record<'_>) -> bool {
-    if record.language >= 0x8000 || ANEW.contains(&record.identifier) {
+fn stays(face: &VariableFace<'_>, entry: &Record<'_>) -> bool
+    ensures { IsTrue result ↔ IsKept face.now.axes entry.now }
+{
+    if entry.language >= 0x8000 || ANEW.contains(&entry.identifier) {
         return false;
     }
-    let identifier = record.identifier;
+    let identifier = entry.identifier;
     match &face.axes {
         Some(axes) if identifier >= OWN => {
             !names_axis(axes, identifier) && !names_instance(axes, identifier)
@@ -138,29 +150,43 @@ fn put_text(
     face: &VariableFace<'_>,
     style: &Style,
     identifier: usize,
-) -> Result<(), AllocError> {
+) -> Result<(), AllocError>
+    ensures { OnOk result ((text : TheText) × (texts.new.items ≡ texts.old.items ++ text ∷ []) × (text.identifier ≡ identifier)) }
+{
     let text = text_by(alloc, face, style, identifier)?;
     let bytes = utf16(alloc, text.as_str())?;
     texts.push(Text { identifier, bytes })?;
     Ok(())
 }
 
-/// Adds the texts of a style.
-fn put_texts(
+/// Adds the texts of name IDs.
+fn put_each(
     texts: &mut Vec<Text>,
     alloc: Global,
     face: &VariableFace<'_>,
     style: &Style,
-) -> Result<(), AllocError> {
-    let identifiers: &[usize] = if style.is_linked() {
-        &LINKED
-    } else {
-        &NOT_LINKED
-    };
+    identifiers: &[usize],
+) -> Result<(), AllocError>
+    requires { texts.old.items ≡ [] }
+    ensures { OnOk result (map (λ (text : TheText). text.identifier) texts.new.items ≡ identifiers.now) }
+{
     for identifier in identifiers {
         put_text(texts, alloc, face, style, *identifier)?;
     }
     Ok(())
+}
+
+/// Returns the texts of a style.
+fn texts_of(alloc: Global, face: &VariableFace<'_>, style: &Style) -> Result<Vec<Text>, AllocError>
+    ensures { IfOk result (λ texts. AreNew (map (λ (text : TheText). text.identifier) texts.items)) }
+{
+    let mut texts = Vec::new(alloc);
+    if style.is_linked() {
+        put_each(&mut texts, alloc, face, style, &LINKED)?;
+    } else {
+        put_each(&mut texts, alloc, face, style, &NOT_LINKED)?;
+    }
+    Ok(texts)
 }
 
 /// Returns the sort key of a record.
@@ -182,7 +208,10 @@ fn put_old<'l>(
     records: &mut Vec<Record<'l>>,
     face: &VariableFace<'_>,
     table: &'l [u8],
-) -> Result<(), AllocError> {
+) -> Result<(), AllocError>
+    requires { records.old.items ≡ [] }
+    ensures { OnOk result (AreKept face.now.axes table.now (min (word_at table.now 2) 1000) records.new.items) }
+{
     let count = number_within(table, 2, 2).unwrap_or(0).min(MOST);
     for i in 0..count {
         if let Some(record) = record_at(table, i) {
@@ -199,7 +228,11 @@ fn put_new<'l>(
     records: &mut Vec<Record<'l>>,
     texts: &'l [Text],
     start: usize,
-) -> Result<(), AllocError> {
+) -> Result<(), AllocError>
+    ensures { OnOk result ((new : List TheRecord) × (records.new.items ≡ records.old.items ++ new)
+        × (map (λ (entry : TheRecord). entry.identifier) new ≡ map (λ (text : TheText). text.identifier) texts.now)
+        × ((entry : TheRecord) → Contains new entry → IsInEnglish entry)) }
+{
     let mut place = start;
     for text in texts {
         records.push(Record {
@@ -215,7 +248,11 @@ fn put_new<'l>(
     Ok(())
 }
 
-fn keep(kept: &mut NameTable, records: &[Record<'_>]) -> Result<(), AllocError> {
+/// Adds records to a new table.
+fn keep(kept: &mut NameTable, records: &[Record<'_>]) -> Result<(), AllocError>
+    requires { Holds kept.old [] }
+    ensures { OnOk result (Holds kept.new records.now) }
+{
     for record in records {
         kept.put(record)?;
     }
@@ -224,7 +261,7 @@ fn keep(kept: &mut NameTable, records: &[Record<'_>]) -> Result<(), AllocError> 
 
 /// Returns the table of records, in their order.
 fn table_of(alloc: Global, records: &[Record<'_>]) -> Result<Vec<u8>, Unmade>
-    ensures { IfErr result (λ e. (e ≡ reasons.Memory) ⊎ (e ≡ reasons.Names)) }
+    ensures { IfErr result (λ e. (e ≡ reasons.Memory) ⊎ ((e ≡ reasons.Names) × HaveNoSpace records.now)) }
 {
     let mut kept = NameTable::new(alloc);
     keep(&mut kept, records)?;
@@ -234,17 +271,26 @@ fn table_of(alloc: Global, records: &[Record<'_>]) -> Result<Vec<u8>, Unmade>
     }
 }
 
+/// Returns the `name` table of a face, or no bytes if it has none.
+fn old_table<'l>(face: &VariableFace<'l>) -> &'l [u8]
+    ensures { IsTableOrNone face.now.file name_tag result.now }
+{
+    match face.file.table(*b"name") {
+        Some(table) => table,
+        None => &[],
+    }
+}
+
 /// Returns the `name` table of a style: its names in US English for Windows, and the names that are kept.
 pub(crate) fn names_of(
     alloc: Global,
     face: &VariableFace<'_>,
     style: &Style,
 ) -> Result<Vec<u8>, Unmade>
-    ensures { IfErr result (λ e. (e ≡ reasons.Memory) ⊎ (e ≡ reasons.Names)) }
+    ensures { IfErr result (λ e. (e ≡ reasons.Memory) ⊎ ((e ≡ reasons.Names) × HasLongNames face.now)) }
 {
-    let table = face.file.table(*b"name").unwrap_or(&[]);
-    let mut texts = Vec::new(alloc);
-    put_texts(&mut texts, alloc, face, style)?;
+    let table = old_table(face);
+    let texts = texts_of(alloc, face, style)?;
     let mut records = Vec::new(alloc);
     put_old(&mut records, face, table)?;
     put_new(&mut records, &texts, table.len())?;

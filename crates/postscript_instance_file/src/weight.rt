@@ -1,6 +1,6 @@
 //! The amount of work that the tables of a variable font make, computed beforehand.
-ghost use Rattle.std.specs.Prelude.{◌≡◌, ℕ, ◌+◌, ◌*◌, ◌-◌, ◌^◌, ◌<◌, ◌≤◌, IfSome, IsTrue, length, min, ◌↔◌};
-ghost use Rattle.postscript_instance_file.specs.Weights.{HasLongDictionary, HasManyDeltas, HasManyScalars, HasWideData, IsHeavy, UseInAll, UseRegions, axes_in, instances_in, private_size};
+ghost use Rattle.std.specs.Prelude.{◌≡◌, ℕ, ◌+◌, ◌*◌, ◌-◌, ◌^◌, ◌<◌, ◌≤◌, IsFalse, IsTrue, MatchOption, length, min, ◌↔◌};
+ghost use Rattle.postscript_instance_file.specs.Weights.{HasLongDictionary, HasManyDeltas, HasManyScalars, HasNarrowData, HasWideData, IsHeavy, IsLight, UseInAll, UseRegions, axes_in, instances_in, private_size};
 ghost use Rattle.postscript_variation.specs.Lent.{table_count};
 
 use crate::face::VariableFace;
@@ -49,7 +49,8 @@ fn all_regions(store: &Store<'_>) -> u64
 
 /// Returns whether item variation data use so many regions that this number of sums takes too many steps.
 fn has_wide_data(store: &Store<'_>, sums: u64) -> bool
-    ensures { IsTrue result → HasWideData store.now sums }
+    ensures wide { IsTrue result → HasWideData store.now sums }
+    ensures narrow { IsFalse result → HasNarrowData store.now sums }
 {
     for number in 0..store.len() {
         if exceeds(regions_in(store, number), sums) {
@@ -69,7 +70,7 @@ fn size_of_private(face: &VariableFace<'_>, dictionary: &[u8]) -> u64
 
 /// Returns whether a Font DICT and its Private DICT have too many bytes to be read for each glyph.
 fn is_too_long(face: &VariableFace<'_>, dictionary: &[u8]) -> bool
-    ensures { IsTrue result → STEPS < (private_size face.now.font.bytes.now dictionary.now + length dictionary.now) * face.now.glyphs }
+    ensures { IsTrue result ↔ (STEPS < (private_size face.now.font.bytes.now dictionary.now + length dictionary.now) * face.now.glyphs) }
 {
     let size = size_of_private(face, dictionary).saturating_add(dictionary.len() as u64);
     exceeds(size, u64::from(face.glyphs))
@@ -77,7 +78,7 @@ fn is_too_long(face: &VariableFace<'_>, dictionary: &[u8]) -> bool
 
 /// Returns whether the DICTs that are read for the glyphs have too many bytes.
 fn reads_too_much(face: &VariableFace<'_>) -> bool
-    ensures { IsTrue result → HasLongDictionary face.now }
+    ensures { IsTrue result ↔ HasLongDictionary face.now }
 {
     for number in 0..face.font.font_dictionaries.len() {
         if let Some(dictionary) = face.font.font_dictionaries.get(number) {
@@ -92,7 +93,7 @@ fn reads_too_much(face: &VariableFace<'_>) -> bool
 /// Returns whether a location has too many scalars, or takes too many steps.
 fn varies_too_much(store: &Option<Store<'_>>, axes: usize) -> bool
     requires { axes ≤ MOST }
-    ensures { IsTrue result → HasManyScalars store.now axes }
+    ensures { IsTrue result ↔ HasManyScalars store.now axes }
 {
     match store {
         Some(store) => {
@@ -115,7 +116,7 @@ fn sums_of(axes: usize, glyphs: u16) -> u64
 fn advances_too_much(face: &VariableFace<'_>, axes: usize) -> bool
     requires are { axes ≡ axes_in face.now.axes }
     requires few { axes ≤ MOST }
-    ensures { IsTrue result → HasManyDeltas face.now }
+    ensures { IsTrue result ↔ HasManyDeltas face.now }
 {
     if face.variations.is_none() {
         return false;
@@ -154,7 +155,7 @@ fn instances_of(axes: &Option<Axes<'_>>) -> usize
 
 /// Returns the first table that is too expensive to process. Returns `None` if there is none.
 pub(crate) fn heavy_table(face: &VariableFace<'_>) -> Option<&'static str>
-    ensures { IfSome result (λ name. IsHeavy face.now name.now) }
+    ensures { MatchOption result (IsLight face.now) (λ name. IsHeavy face.now name.now) }
 {
     let axes = axes_of(&face.axes);
     if axes > MOST || instances_of(&face.axes) > MOST {

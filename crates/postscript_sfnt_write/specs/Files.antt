@@ -65,6 +65,19 @@ pub record IsSearched (bytes : List ℕ) (count : ℕ) : Type 0 where
 abbrev pub IsAdjusted : (bytes : List ℕ) → List Table → Type 0
 IsAdjusted bytes tables = (i : ℕ) (table : Table) → IsGiven tables i table → adjusts table ≡ true → checksum bytes ≡ 0xb1b0afba
 
+-- The file has these tables and no others, in strictly ascending order of their tags (ISO/IEC 14496-22, 4.5). Each record has the tag, the
+-- checksum and the length of its table. The tables are at multiples of four, in order, without gaps apart from zeros as padding. The header
+-- has the search fields of their number. With a `head` table of 12 bytes or more, the checksum of the whole file is 0xB1B0AFBA.
+pub record IsSoundFile (file : List ℕ) : Type 0 where
+  pub tables : List Table
+  pub rise : TagsRise tables
+  pub opens : Opens file (length tables)
+  pub lent : AreLent file tables
+  pub listed : AreListed file tables
+  pub packed : ArePacked file (length tables)
+  pub searched : IsSearched file (length tables)
+  pub adjusted : IsAdjusted file tables
+
 -- the tables that a file can have
 pub record CanStand (tables : List Table) : Type 0 where
   pub rise : TagsRise tables

@@ -1,7 +1,7 @@
 //! Writes OpenType files (ISO/IEC 14496-22, 4.5).
 ghost use Rattle.std.specs.Prelude.{◌≡◌, ℕ, ◌+◌, ◌*◌, ◌%◌, ◌^◌, ◌<◌, ◌++◌, length, true, IsTrue, ◌↔◌, OnOk, IfOk, IfErr};
 ghost use Rattle.postscript_sfnt_write.specs.Checksum.{checksum as the_checksum};
-ghost use Rattle.postscript_sfnt_write.specs.Files.{AreLent, AreListed, ArePacked, CanStand, IsAdjusted, IsSearched, Opens, Refuses};
+ghost use Rattle.postscript_sfnt_write.specs.Files.{AreLent, AreListed, ArePacked, CanStand, IsAdjusted, IsSearched, IsSoundFile, Opens, Refuses};
 ghost use Rattle.postscript_sfnt_write.specs.Layout.{IsSelector, IsWritten, checksums, header_text, record_text, records_text, table_text, tables_text, zeros as the_zeros};
 ghost use Rattle.postscript_sfnt_write.specs.Tables.{AreTagged, TagsRise, adjusts as the_adjusts, in_file, room_of as the_room_of, size_of};
 
@@ -237,6 +237,8 @@ pub fn file_of(alloc: Global, tables: &[Table<'_>]) -> Result<Vec<u8>>
     ensures adjusted { IfOk result (λ file. IsAdjusted file.items tables.now) }
     // The size is the sum of the header, the records and the padded tables.
     ensures size { IfOk result (λ file. length file.items ≡ size_of tables.now) }
+    // Records, checksums, offsets and search fields are right, and tags ascend, if tables exist.
+    ensures sound { IfOk result (λ file. 0 < length tables.now → IsSoundFile file.items) }
     // A success means ascending tags, fewer than 4,096 tables and fewer than 2^32 bytes.
     ensures stand { OnOk result (CanStand tables.now) }
     // An error is justified by the tags, the number of tables or the size, or it is `Memory`.

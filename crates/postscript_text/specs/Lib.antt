@@ -1,0 +1,2 @@
+pub mod NameTables
+pub mod Places

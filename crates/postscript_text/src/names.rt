@@ -1,4 +1,10 @@
 //! `name` tables (ISO/IEC 14496-22).
+ghost use Rattle.std.specs.Prelude.{◌≡◌, ◌+◌, ◌<◌, ◌∷◌, ◌++◌, ◌⊎◌, ◌↔◌, [], List, IfNone, IfOk, IfSome, IsTrue, MatchOption, OnOk, flat_map, length, min};
+ghost use Rattle.postscript_sfnt.specs.NameTable.{HasRecords};
+ghost use Rattle.postscript_text.specs.NameTables.{AreChosen, HaveNoSpace, Holds, IsChosen, IsNameTable, IsRecordAt, field_of, row, start_of, word as the_word, word_at};
+ghost use Rattle.postscript_text.specs.Places.{HasNoPlace, HasPlace, IsPlaced};
+ghost use Rattle.postscript_text.specs.declared.names.Record.{Record as TheRecord};
+
 use postscript_base::index::number::number_within;
 use postscript_sfnt::{Name, Names};
 use std::alloc::{AllocError, Global};
@@ -29,25 +35,52 @@ pub struct Record<'l> {
 }
 
 /// Converts to two bytes. Greater numbers become 65535.
-fn word_of(number: usize) -> u16 {
+fn word_of(number: usize) -> u16
+    ensures { result ≡ min number 65535 }
+{
     u16::try_from(number).unwrap_or(u16::MAX)
 }
 
-/// Returns a two-byte field of a record.
-fn field(table: &[u8], i: usize, field: usize) -> usize {
-    let place = i
-        .saturating_mul(12)
-        .saturating_add(6)
-        .saturating_add(field.saturating_mul(2));
+/// Adds numbers of two bytes each. Greater numbers become 65535.
+fn put_words(out: &mut Vec<u8>, numbers: &[usize]) -> Result<(), AllocError>
+    ensures { OnOk result (out.new.items ≡ out.old.items ++ flat_map the_word numbers.now) }
+{
+    for number in numbers {
+        out.extend_from_slice(&word_of(*number).to_be_bytes())?;
+    }
+    Ok(())
+}
+
+/// Returns a number of two bytes, or 0 if the table ends before it.
+fn word(table: &[u8], place: usize) -> usize
+    ensures small { result < 65536 }
+    ensures value { result ≡ word_at table.now place }
+{
     number_within(table, place, 2).unwrap_or(0)
 }
 
+/// Returns a two-byte field of a record.
+fn field(table: &[u8], i: usize, field: usize) -> usize
+    requires { field < 6 }
+    ensures small { result < 65536 }
+    ensures value { result ≡ field_of table.now i field }
+{
+    let place = i
+        .saturating_mul(12)
+        .saturating_add(6)
+        .saturating_add(field * 2);
+    word(table, place)
+}
+
 /// Returns a record. Returns `None` if its text is truncated.
-pub fn record_at(table: &[u8], i: usize) -> Option<Record<'_>> {
-    let start = number_within(table, 4, 2)
-        .unwrap_or(0)
-        .saturating_add(field(table, i, 5));
-    let text = table.get(start..start.saturating_add(field(table, i, 4)))?;
+pub fn record_at(table: &[u8], i: usize) -> Option<Record<'_>>
+    // The record with its text, or `None` exactly if the table ends before the text does.
+    ensures { MatchOption result
+        (length table.now < start_of table.now i + field_of table.now i 4)
+        (λ entry. IsRecordAt table.now i entry) }
+{
+    let start = word(table, 4) + field(table, i, 5);
+    let text = table.get(start..start + field(table, i, 4))?;
     Some(Record {
         platform: field(table, i, 0),
         encoding: field(table, i, 1),
@@ -101,7 +134,6 @@ fn is_told_twice(names: &Names<'_>, table: &[u8], count: usize, record: &Record<
 /// A new `name` table: its records, and their texts.
 #[derive(Drop)]
 pub struct NameTable {
-    count: usize,
     records: Vec<u8>,
     texts: Vec<u8>,
     /// The old offset, the length and the new offset of each text.
@@ -110,81 +142,100 @@ pub struct NameTable {
 
 impl NameTable {
     /// Returns a table without records.
-    pub fn new(alloc: Global) -> NameTable {
+    pub fn new(alloc: Global) -> NameTable
+        // The table has no records.
+        ensures { Holds result [] }
+    {
         NameTable {
-            count: 0,
             records: Vec::new(alloc),
             texts: Vec::new(alloc),
             places: Vec::new(alloc),
         }
     }
 
-    /// Returns the new offset of a text, and adds the text if it is new.
-    fn place_of(&mut self, record: &Record<'_>) -> Result<usize, AllocError> {
-        let len = record.text.len();
+    /// Returns the new offset of a text. Returns `None` if the table does not have it.
+    fn found(&self, entry: &Record<'_>) -> Option<usize>
+        ensures { MatchOption result (HasNoPlace self.now entry.now) (λ place. HasPlace self.now entry.now place) }
+    {
         for (start, size, place) in &self.places {
-            if *start == record.start && *size == len {
-                return Ok(*place);
+            if *start == entry.start && *size == entry.text.len() {
+                return Some(*place);
             }
         }
+        None
+    }
+
+    /// Returns the new offset of a text, and adds the text if it is new.
+    fn place_of(&mut self, entry: &Record<'_>) -> Result<usize, AllocError>
+        ensures { IfOk result (λ place. IsPlaced self.old entry.now place self.new) }
+    {
+        if let Some(place) = self.found(entry) {
+            return Ok(place);
+        }
         let place = self.texts.len();
-        self.texts.extend_from_slice(record.text)?;
-        self.places.push((record.start, len, place))?;
+        self.texts.extend_from_slice(entry.text)?;
+        self.places.push((entry.start, entry.text.len(), place))?;
         Ok(place)
     }
 
-    /// Adds a record.
-    pub fn put(&mut self, record: &Record<'_>) -> Result<(), AllocError> {
-        let place = self.place_of(record)?;
-        for number in [
-            record.platform,
-            record.encoding,
-            record.language,
-            record.identifier,
-            record.text.len(),
+    /// Adds a record. Its text is added if no earlier record has one with the same offset and length.
+    pub fn put(&mut self, entry: &Record<'_>) -> Result<(), AllocError>
+        // The record is the last one of the new table.
+        ensures { (records : List TheRecord) → Holds self.old records → OnOk result (Holds self.new (records ++ entry.now ∷ [])) }
+    {
+        let place = self.place_of(entry)?;
+        let row = [
+            entry.platform,
+            entry.encoding,
+            entry.language,
+            entry.identifier,
+            entry.text.len(),
             place,
-        ] {
-            self.records
-                .extend_from_slice(&word_of(number).to_be_bytes())?;
-        }
-        self.count = self.count.saturating_add(1);
+        ];
+        put_words(&mut self.records, &row)?;
         Ok(())
     }
 
-    /// Adds the table. Its texts begin at the offset `begin`.
-    fn put_into(&self, table: &mut Vec<u8>, begin: usize) -> Result<(), AllocError> {
-        for number in [0, self.count, begin] {
-            table.extend_from_slice(&word_of(number).to_be_bytes())?;
-        }
-        table.extend_from_slice(&self.records)?;
-        table.extend_from_slice(&self.texts)
-    }
-
     /// Returns the table. Returns `None` if an offset exceeds two bytes.
-    pub fn table(&self, alloc: Global) -> Result<Option<Vec<u8>>, AllocError> {
+    pub fn table(&self, alloc: Global) -> Result<Option<Vec<u8>>, AllocError>
+        // The `name` table of the records, or `None` exactly if it has no space for them.
+        ensures { (records : List TheRecord) → Holds self.now records →
+            IfOk result (λ made. MatchOption made (HaveNoSpace records) (λ table. IsNameTable records table.items)) }
+    {
         let begin = self.records.len().saturating_add(6);
         if begin > 65535 || self.texts.len() > 65535 {
             return Ok(None);
         }
         let mut table = Vec::new(alloc);
-        self.put_into(&mut table, begin)?;
+        put_words(&mut table, &[0, self.records.len() / 12, begin])?;
+        table.extend_from_slice(&self.records)?;
+        table.extend_from_slice(&self.texts)?;
         Ok(Some(table))
     }
 }
 
 /// Returns whether a subset keeps a record: a name that is read, or one of the licence if `licence` is true, in a
 /// language with a number.
-fn is_kept(record: &Record<'_>, licence: bool) -> bool {
-    if record.language >= 0x8000 {
+fn is_kept(entry: &Record<'_>, licence: bool) -> bool
+    ensures { IsTrue result ↔ IsChosen licence entry.now }
+{
+    if entry.language >= 0x8000 {
         return false;
     }
-    READ.contains(&record.identifier) || (licence && LICENCE.contains(&record.identifier))
+    READ.contains(&entry.identifier) || (licence && LICENCE.contains(&entry.identifier))
 }
 
 /// Returns the table with the records that a subset keeps, in their order. Records that only repeat a better one are
-/// dropped. Returns `None` if the table has another format or too many records.
-pub fn trimmed(alloc: Global, table: &[u8], licence: bool) -> Result<Option<Vec<u8>>, AllocError> {
-    let count = number_within(table, 2, 2).unwrap_or(0);
+/// dropped. Returns `None` if the table has another format, more than [`MOST`] records, or texts that need too much space.
+pub fn trimmed(alloc: Global, table: &[u8], licence: bool) -> Result<Option<Vec<u8>>, AllocError>
+    // The table has only chosen records of the old one, in their order.
+    ensures has { IfOk result (λ made. IfSome made (λ new. (records : List TheRecord)
+        × AreChosen table.now licence (word_at table.now 2) records × IsNameTable records new.items)) }
+    // Without a table the old one has too few bytes or too many records, or there is no space.
+    ensures none { IfOk result (λ made. IfNone made ((HasRecords table.now → ⊥) ⊎ (1000 < word_at table.now 2)
+        ⊎ ((records : List TheRecord) × AreChosen table.now licence (word_at table.now 2) records × HaveNoSpace records))) }
+{
+    let count = word(table, 2);
     let (Some(names), true) = (Names::read(table), count <= MOST) else {
         return Ok(None);
     };

@@ -1,5 +1,4 @@
-use Rattle.std.proofs.Common.{◌≡◌, ap, refl, sym, inl, inr, ℕ, ◌≤◌, ◌∙◌, length, Err, arith}
-use Rattle.postscript_instance_file.specs.Glyphs.{HasCost}
+use Rattle.std.proofs.Common.{ap, refl, sym, inl, inr, ◌∙◌, Err, arith}
 use Rattle.postscript_instance_file.proofs.Drawing.{filled, missing, paid, too_long}
 use Rattle.postscript_instance_file.proofs.drawn.draw_into.Goals as goal
 

@@ -1,4 +1,4 @@
-use Rattle.std.proofs.Common.{◌≡◌, subst, sym, refl, ◌∙◌, ℤ, ℕ, to_z, of_z, SFits, rules}
+use Rattle.std.proofs.Common.{subst, refl, SFits, rules}
 use Rattle.std.proofs.lemmas.Int.{to_z-of_z}
 use mir.Syntax.{w128}
 use Rattle.postscript_instance.specs.Advances.{HasRoom, IsAdvanceAt}

@@ -6,6 +6,7 @@ pub returns-clause-written : goal.returns-clause-written
 returns-clause-written c = record {
   face = c.in_ok-face.face;
   found = c.in_ok-face.ensures.found;
+  light = c.in_ok-face.ensures.light;
   location = c.in_ok-location.location;
   at = c.in_ok-location.ensures.at;
   is = c.in_ok-made.ensures.written;

@@ -1,4 +1,4 @@
-use Rattle.std.proofs.Common.{◌≡◌, ◌∙◌, ◌<◌, ap, arith, refl, subst, sym, below_more, ℕ, ℤ, List, Option, Some, length, slice_get, unwrap_or, pos}
+use Rattle.std.proofs.Common.{◌≡◌, ◌∙◌, ◌<◌, ap, arith, refl, subst, sym, below_more, ℕ, ℤ, List, Option, Some, unwrap_or, pos}
 use Rattle.postscript_instance.specs.Advances.{IsOperand}
 use Rattle.postscript_instance_file.specs.Glyphs.{IsGlyphBy, NamesUnwritten, NoGlyphBy, glyphs_in}
 use Rattle.postscript_instance_file.specs.declared.error.Error.TheVariants as errors

@@ -1,4 +1,4 @@
-use Rattle.std.proofs.Common.{sym, subst, List}
+use Rattle.std.proofs.Common.{◌<◌, arith, sym, subst, length, List}
 use Rattle.std.proofs.lemmas.Result.{err_from_is_err_and}
 use Rattle.postscript_sfnt_write.specs.declared.file.Table.{Table}
 use Rattle.postscript_instance_file.specs.Instances.{HaveFont}
@@ -11,6 +11,12 @@ returns-clause-written c = record {
   have = subst (λ (xs : List Table). HaveFont xs c.args.font.now) (sym c.as_slice.ensures.value) c.in_ok-tables.ensures.have;
   written = c.in_ok-file.ensures.file;
 }
+
+pub returns-clause-sound : goal.returns-clause-sound
+returns-clause-sound c =
+    let have = subst (λ (xs : List Table). HaveFont xs c.args.font.now) (sym c.as_slice.ensures.value) c.in_ok-tables.ensures.have in
+    let below = have.there.1 in
+    c.in_ok-file.ensures.sound (let some : 0 < length c.as_slice.result.now = omega (arith, below) in some)
 
 pub returns-in_err-file-clause-why : goal.returns-in_err-file-clause-why
 returns-in_err-file-clause-why c =

@@ -1,4 +1,4 @@
-use Rattle.std.proofs.Common.{ℕ, ◌+◌, ◌*◌, refl, arith}
+use Rattle.std.proofs.Common.{refl, arith}
 use Rattle.postscript_instance_file.specs.Weights.{none, one_more}
 use Rattle.postscript_instance_file.proofs.weight.all_regions.Goals as goal
 

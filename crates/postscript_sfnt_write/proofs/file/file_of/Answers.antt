@@ -27,3 +27,20 @@ returns-clause-adjusted c = adjusted c.args.tables.now c.in_ok-file.file.items (
 
 pub returns-clause-size : goal.returns-clause-size
 returns-clause-size c = written_size c.args.tables.now c.in_ok-file.file.items c.in_ok-file.ensures
+
+pub returns-clause-sound : goal.returns-clause-sound
+returns-clause-sound c some =
+    let tables = c.args.tables.now in
+    let file = c.in_ok-file.file.items in
+    let stand = can_stand c in
+    let is = c.in_ok-file.ensures in
+    record {
+      tables = tables;
+      rise = stand.rise;
+      opens = opens tables file stand is;
+      lent = lent tables file stand is;
+      listed = listed tables file stand is;
+      packed = packed tables file stand is;
+      searched = searched tables file stand is some;
+      adjusted = adjusted tables file stand.rise is;
+    }

@@ -1,4 +1,4 @@
-use Rattle.std.proofs.Common.{◌≡◌, refl, subst, ℕ, ◌-◌, inr, arith, ◌∙◌}
+use Rattle.std.proofs.Common.{refl, subst, ℕ, ◌-◌, inr, arith, ◌∙◌}
 use Rattle.std.proofs.lemmas.Result.{err_from_is_err_and}
 use Rattle.postscript_instance_file.specs.Glyphs.{IsUndrawnBy, NamesUndrawn, none, one_more}
 use Rattle.postscript_instance_file.proofs.drawn.Drawn.put_each.Goals as goal
