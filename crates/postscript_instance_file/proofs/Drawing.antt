@@ -1,13 +1,16 @@
 -- What the drawing of a glyph says about its cost and its error.
-use Rattle.std.proofs.Common.{◌≡◌, ◌⊎◌, inl, inr, refl, sym, ap, subst, ◌∙◌, ℕ, ◌-◌, ◌<◌, ◌≤◌, List, [], ◌∷◌, ◌++◌, length, append-nil, Ok, arith}
+use Rattle.std.proofs.Common.{◌≡◌, ◌⊎◌, inl, inr, refl, sym, ap, subst, ◌∙◌, Bool, true, false, ℕ, ◌+◌, ◌-◌, ◌<◌, ◌≤◌, List, [], ◌∷◌, ◌++◌, length, append-nil, Ok, arith}
+use Rattle.std.proofs.lemmas.List.{length-append}
 use Rattle.postscript_cff2.specs.Parts.{HasPart, PrivateDict}
 use Rattle.postscript_cff2.specs.Shown.{view_shown}
+use Rattle.postscript_drawing.proofs.Filling.{received-but-one}
+use Rattle.postscript_drawing.specs.Outcome.{OrFull}
 use Rattle.postscript_drawing.specs.declared.error.Error.{Error}
 use Rattle.postscript_drawing.specs.declared.error.Error.TheVariants as drawing
 use Rattle.postscript_instance_file.specs.Glyphs.{DrawsSegments, HasCost}
 use Rattle.postscript_instance_file.specs.declared.face.VariableFace.{VariableFace}
 use Rattle.postscript_instance_file.specs.declared.location.Location.{Location}
-use Rattle.postscript_outline.proofs.Receiving.{each-received}
+use Rattle.postscript_outline.proofs.Receiving.{each-received, received-more}
 use Rattle.postscript_outline.specs.Sinks.{Receives}
 use Rattle.postscript_outline.specs.declared.segment.Segment.{Segment}
 use Rattle.postscript_variable.proofs.Limit.{spent}
@@ -75,28 +78,28 @@ same : (segments : List Segment) (old new : ℕ) → Receives (λ before segment
 same [] old new is = is
 same (segment ∷ segments) old new is = same segments is.0 new is.2 ∙ is.1
 
--- a full list has as many segments of the glyph as it may have
-pub filled : (face : VariableFace) (location : Location) (glyph left : ℕ) (e : Error) (old new : List Segment × ℕ) →
-    IsGlyphUndrawn face.font glyph location.place left e →
-    GivesGlyphFirst {T = List Segment × ℕ} (λ old segment new. (new.0 ≡ old.0 ++ segment ∷ []) × (new.1 ≡ old.1)) old new face.font glyph
-    location.place →
-    e ≡ drawing.Full → old.0 ≡ [] → new.1 ≤ length new.0 → (new.1 ≡ old.1) × DrawsSegments face location glyph new.1
-filled face location glyph left e old new why given is empty full =
-    elim given [
+-- a full list has as many segments of the glyph as it may have, and the glyph draws one more
+pub filled : (face : VariableFace) (location : Location) (glyph : ℕ) (old new : List Segment × ℕ) →
+    GivesGlyphFirst {T = (List Segment × ℕ) × Bool} (OrFull (λ old segment new. (new.0 ≡ old.0 ++ segment ∷ []) × (new.1 ≡ old.1)))
+    (old, false) (new, true) face.font glyph location.place →
+    old.0 ≡ [] → new.1 ≤ length new.0 → (new.1 ≡ old.1) × DrawsSegments face location glyph (new.1 + 1)
+filled face location glyph old new more empty full =
+    elim more [
       | inl none ↦
-          elim why [
-            | inl missing ↦ let other = missing.0 in absurd (cc)
-            | inr some ↦ absurd (none.0 some.1.part some.1.has)
-          ]
+          let marked : true ≡ false = ap (λ t. t.1) none.1 in
+          absurd (cc)
       | inr some ↦
           let first = some.2 in
+          let but =
+          received-but-one {T = List Segment × ℕ} (λ old segment new. (new.0 ≡ old.0 ++ segment ∷ []) × (new.1 ≡ old.1)) old new first.given first.taken in
           let each =
-          each-received (List Segment) ℕ (λ xs segment next. next ≡ xs ++ segment ∷ []) (λ before segment after. after ≡ before) first.given old new
-          first.taken in (
-            same first.given old.1 new.1 each.1,
+          each-received (List Segment) ℕ (λ xs segment next. next ≡ xs ++ segment ∷ []) (λ before segment after. after ≡ before) but.0 old new
+          but.3 in
+          let all = received-more {T = List Segment} (λ xs segment next. next ≡ xs ++ segment ∷ []) old.0 new.0 (new.0 ++ but.1 ∷ []) but.0 but.1 each.0 refl in (
+            same but.0 old.1 new.1 each.1,
             (
               some.0,
-              new.0,
+              new.0 ++ but.1 ∷ [],
               some.1,
               record {
                 first = first.first;
@@ -106,9 +109,11 @@ filled face location glyph left e old new why given is empty full =
                 draws = first.draws;
                 given = first.given;
                 front = first.front;
-                taken = subst (λ (xs : List Segment). Receives (λ xs segment next. next ≡ xs ++ segment ∷ []) xs first.given new.0) empty each.0;
+                taken =
+                    subst (λ (xs : List Segment). Receives (λ xs segment next. next ≡ xs ++ segment ∷ []) xs first.given (new.0 ++ but.1 ∷ [])) empty
+                    (subst (λ (segments : List Segment). Receives (λ xs segment next. next ≡ xs ++ segment ∷ []) old.0 segments (new.0 ++ but.1 ∷ [])) (sym but.2) all);
               },
-              full,
+              omega (arith, full, length-append new.0 (but.1 ∷ [])),
             ),
           )
     ]

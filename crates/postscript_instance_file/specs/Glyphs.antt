@@ -63,7 +63,7 @@ IsUndrawnBy face location limit left glyph causes.UsedUp =
     (left < limit) × ((price : ℕ) × HasCost face location glyph price × (left ≤ price))
 IsUndrawnBy face location limit left glyph (causes.Held most) =
     (most ≡ limit / HELD) × ((price : ℕ) × HasCost face location glyph price × (most < price))
-IsUndrawnBy face location limit left glyph (causes.Segments most) = (most ≡ limit / ROOM) × DrawsSegments face location glyph most
+IsUndrawnBy face location limit left glyph (causes.Segments most) = (most ≡ limit / ROOM) × DrawsSegments face location glyph (most + 1)
 IsUndrawnBy face location limit left glyph (causes.Run e) = IsGlyphUndrawn face.font glyph location.place 0 (drawing.Font e)
 IsUndrawnBy face location limit left glyph (causes.Undrawn e) = e ≡ drawing.Full
 IsUndrawnBy face location limit left glyph (causes.Advance advance) = ⊥

@@ -20,7 +20,7 @@ pub enum GlyphError {
     /// The run costs more than this part of the limit. All operations of a glyph are kept in memory.
     #[error("it costs more than {0} units, a fortieth of the limit")]
     Held(u64),
-    /// The glyph draws at least this number of segments, and no more are kept.
+    /// The glyph draws more than this number of segments, and no more are kept.
     #[error("it draws more than {0} segments, one for each 50 units of the limit")]
     Segments(u64),
     /// The glyphs before this one leave no more of the limit of all glyphs than its run costs.

@@ -16,7 +16,7 @@
 //!
 //! # What is not proved
 //!
-//! - That there is enough memory. That a glyph draws more segments than `Segments` says, not only as many.
+//! - That there is enough memory.
 //! - The tables other than `CFF `: metrics, the texts of names, glyph classes and positions are tested.
 #![tactic(auto)]
 

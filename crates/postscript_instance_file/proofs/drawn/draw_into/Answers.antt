@@ -25,9 +25,10 @@ returns-in-Ok-2-clause-pays c =
 pub returns-in-Err-clause-why : goal.returns-in-Err-clause-why
 returns-in-Err-clause-why c =
     let stops = c.stops.ensures.0 c.if-stops.true in
-    let full = rw c.from-glyph.ensures at (filled c.args.face.now c.args.location.now c.from-glyph.result c.draw_glyph-drawn.new.limit c.in-Err.error
+    let is = c.in-Err.is ∙ ap Err (sym c.in-Err.error-is ∙ stops.0) in
+    let full = rw c.from-glyph.ensures at (filled c.args.face.now c.args.location.now c.from-glyph.result
     (c.args.held.now.segments.items, c.args.held.now.most)
-    (c.draw_glyph-drawn.new.sink.segments.items, c.draw_glyph-drawn.new.sink.most) c.in-Err.ensures.why c.in-Err.ensures.given (sym c.in-Err.error-is ∙ stops.0)
+    (c.draw_glyph-drawn.new.sink.segments.items, c.draw_glyph-drawn.new.sink.most) (c.draw_glyph-drawn.ensures.more is)
     c.requires.empty stops.1) in
     (full.0 ∙ c.requires.room, full.1)
 
