@@ -1,5 +1,5 @@
 //! The budget of a command.
-ghost use Rattle.std.specs.Prelude.{◌≡◌, ◌×◌, ◌<◌, ◌≤◌, ◌+◌, ◌-◌, ◌*◌, ◌/◌, ◌^◌, min, max, MatchResult};
+ghost use Rattle.std.specs.Prelude.{◌≡◌, ◌<◌, ◌≤◌, ◌+◌, ◌-◌, ◌*◌, ◌/◌, ◌^◌, min, max, MatchResult};
 ghost use Rattle.psotf_output.specs.declared.failure.Refusal.TheVariants as refusals;
 
 use crate::failure::Refusal;
