@@ -5,7 +5,7 @@ mod unread;
 use postscript_base::index::IndexView;
 use psotf_font::characters::{Mapped, by_glyph};
 use psotf_font::face::Face;
-use psotf_font::hints::{Runs, runs};
+use psotf_font::hints::{Runs, run_all};
 use psotf_font::report::brought::{Feature, features};
 use psotf_font::report::head;
 use psotf_font::report::pages::{PAGES, Pages};
@@ -200,7 +200,7 @@ pub fn write(
         face,
         pages,
         mapped: mapped.as_slice(),
-        runs: runs(rt, face, budget, &mut stopped)?,
+        runs: run_all(rt, face, budget, &mut stopped)?,
         features: features.as_slice(),
     };
     write_pages(rt, &common, budget, &mut stopped)?;

@@ -92,7 +92,7 @@ fn end_of(alloc: Global, glyph: &Glyph<'_, '_>, share: &mut u64, has_hint: &mut 
 
 /// Returns the run of a glyph. If a run has an error, the operations before it count. If a glyph costs more than the limit,
 /// this is reported, and the operations up to the limit count.
-fn run(
+fn run_glyph(
     alloc: Global,
     gid: u16,
     glyph: &Glyph<'_, '_>,
@@ -116,7 +116,7 @@ fn run(
 }
 
 /// Runs all glyphs. Glyphs that cost more than the limit are reported.
-pub fn runs(
+pub fn run_all(
     rt: &HostRuntime,
     face: &Face<'_>,
     budget: &mut Budget,
@@ -131,7 +131,7 @@ pub fn runs(
     for gid in 0..count(face) {
         progress.at_glyph(gid);
         if let Some(glyph) = face.font.glyph(usize::from(gid)) {
-            let run = run(rt.alloc(), gid, &glyph, budget, stopped)?;
+            let run = run_glyph(rt.alloc(), gid, &glyph, budget, stopped)?;
             runs.add(gid, &run);
         }
     }

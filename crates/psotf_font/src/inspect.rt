@@ -2,7 +2,7 @@
 use crate::characters::count;
 use crate::dictionaries::{self, Kind};
 use crate::face::{Face, called};
-use crate::hints::{Runs, runs};
+use crate::hints::{Runs, run_all};
 use crate::{layouts, readings};
 use postscript_base::compact1::Operator;
 use postscript_sfnt::Name;
@@ -245,7 +245,7 @@ pub fn write<W: Write>(
     out: &mut W,
 ) -> Result<(), Failure> {
     let mut stopped = Stopped::new(rt);
-    let runs = runs(rt, face, budget, &mut stopped)?;
+    let runs = run_all(rt, face, budget, &mut stopped)?;
     if as_json {
         object(rt.alloc(), face, &runs, out)?;
     } else {
