@@ -104,7 +104,7 @@ fn run_glyph(
     let mut has_hint = false;
     let end = end_of(alloc, glyph, &mut left, &mut has_hint);
     let spent = share.saturating_sub(left);
-    budget.spend_whole(spent);
+    budget.spend(spent);
     match end {
         End::NoMemory => return Err(Failure::from(Error::Memory)),
         End::Stopped => stopped.add(gid, &budget.stop(share))?,
