@@ -138,7 +138,8 @@ def _(folder):
     _, said = subset(folder, "--layout-features", "kern", "--exact")
     assert said == "psotf: tables dropped: FFTM\n", said
     _, said = subset(folder)
-    assert said == "psotf: glyphs added for shaping: 10\npsotf: tables dropped: FFTM\n", said
+    # hb-subset has 14 glyphs for "Hello" and the space, with .notdef
+    assert said == "psotf: glyphs added for shaping: 9\npsotf: tables dropped: FFTM\n", said
     _, said = subset(folder, "--drop-layout")
     assert said == "psotf: tables dropped: FFTM GDEF GPOS GSUB; kerning and ligatures are lost\n", said
 
