@@ -2,6 +2,7 @@ pub mod OneGlyph
 pub mod Opening
 pub mod Marking
 pub mod Keeping
+pub mod LookingUp
 pub mod Numbering
 pub mod Filing
 pub mod Others

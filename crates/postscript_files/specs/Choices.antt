@@ -1,5 +1,5 @@
 -- The characters and glyphs of a subset (ISO/IEC 14496-22, 5.2.1).
-use Rattle.std.specs.Prelude.{◌≡◌, ◌⊎◌, ℕ, ◌<◌, ◌≤◌, ◌||◌, List, [], ◌∷◌, ◌++◌, Bool, true, false, length, map, slice_index_or, if◌then◌else◌}
+use Rattle.std.specs.Prelude.{◌≡◌, ◌⊎◌, ℕ, ◌<◌, ◌≤◌, ◌||◌, ◌==◌, List, [], ◌∷◌, ◌++◌, Bool, true, false, length, map, slice_index_or, if◌then◌else◌}
 use Rattle.std.specs.List.{Contains}
 use Rattle.postscript_sfnt.specs.Maps.{Maps}
 use Rattle.postscript_sfnt.specs.declared.character_map.CharacterMap.{CharacterMap}
@@ -79,3 +79,21 @@ kept_if kept pair = if kept then record { char = pair.0; glyph = pair.1 } ∷ []
 unfoldable pub filtered : (chars glyphs : List Bool) → List (ℕ × ℕ) → List Mapping
 filtered chars glyphs [] = []
 filtered chars glyphs (pair ∷ pairs) = kept_if (keeps chars glyphs pair) pair ++ filtered chars glyphs pairs
+
+-- the map gives the character this glyph, or the number is no character of Unicode, and the glyph is 0
+abbrev pub IsGlyphFor : CharacterMap → (char glyph : ℕ) → Type 0
+IsGlyphFor map char glyph = ((char < 0x110000) × Maps map char glyph) ⊎ ((0x110000 ≤ char) × (glyph ≡ 0))
+
+-- a mapping of a character with its glyph is there
+abbrev pub IsThere : List Mapping → (char glyph : ℕ) → Type 0
+IsThere pairs char glyph = (i : ℕ) × (pair : Mapping) × IsMapping pairs i pair × (pair.char ≡ char) × (pair.glyph ≡ glyph)
+
+-- these are the characters of a list that a map has a glyph for, each with its glyph, in ascending order
+pub record AreLookedUp (map : CharacterMap) (chars : List ℕ) (pairs : List Mapping) : Type 0 where
+  pub rise : CharsRise pairs
+  pub each : (i : ℕ) (pair : Mapping) → IsMapping pairs i pair → HasGlyph map pair.char pair.glyph × Contains chars pair.char
+  pub all : (char glyph : ℕ) → HasGlyph map char glyph → Contains chars char → IsThere pairs char glyph
+
+-- the character is appended with its glyph, unless the glyph is 0
+abbrev pub PushesIf : (old : List Mapping) → (char glyph : ℕ) → (new : List Mapping) → Type 0
+PushesIf old char glyph new = new ≡ (if glyph == 0 then old else old ++ (record { char = char; glyph = glyph } ∷ []))

@@ -17,6 +17,10 @@ renumber numbers pair = record { char = pair.char; glyph = slice_index_or number
 abbrev pub AreRenumbered : List Mapping → (numbers : List ℕ) → List Mapping → Type 0
 AreRenumbered pairs numbers all = all ≡ map (renumber numbers) pairs
 
+-- all origins are below a number
+abbrev pub AreBelow : (origins : List ℕ) → (above : ℕ) → Type 0
+AreBelow origins above = (k : ℕ) → k < length origins → slice_index_or origins k 0 < above
+
 -- all origins have numbers of two bytes
 abbrev pub AreSmall : (origins : List ℕ) → Type 0
-AreSmall origins = (k : ℕ) → k < length origins → slice_index_or origins k 0 < 65536
+AreSmall origins = AreBelow origins 65536

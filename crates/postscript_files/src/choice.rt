@@ -5,6 +5,7 @@ ghost use Rattle.postscript_files.specs.Choices.{AreKeptPairs, AreMarks, IsFirst
 ghost use Rattle.postscript_files.specs.declared.error.Error.TheVariants as errors;
 
 use crate::error::{Error, Result};
+use crate::lookup::looked_up;
 use postscript_sfnt::CharacterMap;
 use postscript_sfnt_write::Mapping;
 use std::alloc::Global;
@@ -14,6 +15,9 @@ const CHARS: usize = 0x110000;
 
 /// One more than the last glyph number.
 const GLYPHS: usize = 0x10000;
+
+/// The most characters that are looked up one by one.
+const FEW: usize = 1024;
 
 /// A table of the caller's own, for [`Choice`].
 #[derive(Drop)]
@@ -134,7 +138,19 @@ fn filtered(
     Ok(pairs)
 }
 
-/// Returns the characters of a face that are kept, each with its glyph, in ascending order.
+/// Returns the characters of a face that are kept, each with its glyph, by a walk through all characters.
+fn walked(alloc: Global, map: &CharacterMap<'_>, choice: &Choice<'_>) -> Result<Vec<Mapping>>
+    ensures kept { IfOk result (λ pairs. AreKeptPairs choice.now map.now pairs.items) }
+    ensures memory { IfErr result (λ e. e ≡ errors.Memory) }
+{
+    let chars = marked_chars(alloc, choice.chars, CHARS)?;
+    let glyphs = marked_glyphs(alloc, choice.glyphs, GLYPHS)?;
+    let all = map.characters(alloc)?;
+    filtered(alloc, &all, &chars, &glyphs)
+}
+
+/// Returns the characters of a face that are kept, each with its glyph, in ascending order. Few characters are looked up,
+/// so that a small subset of a large font takes little time.
 pub(crate) fn kept_pairs(
     alloc: Global,
     map: &CharacterMap<'_>,
@@ -143,10 +159,11 @@ pub(crate) fn kept_pairs(
     ensures kept { IfOk result (λ pairs. AreKeptPairs choice.now map.now pairs.items) }
     ensures memory { IfErr result (λ e. e ≡ errors.Memory) }
 {
-    let chars = marked_chars(alloc, choice.chars, CHARS)?;
-    let glyphs = marked_glyphs(alloc, choice.glyphs, GLYPHS)?;
-    let all = map.characters(alloc)?;
-    filtered(alloc, &all, &chars, &glyphs)
+    if choice.glyphs.is_empty() && choice.chars.len() <= FEW {
+        looked_up(alloc, map, choice.chars)
+    } else {
+        walked(alloc, map, choice)
+    }
 }
 
 /// Returns true if the face has no glyph for a character.

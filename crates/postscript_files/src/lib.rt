@@ -37,6 +37,7 @@ mod face;
 mod flat;
 mod glyphs;
 pub mod laws;
+mod lookup;
 mod metrics;
 mod numbers;
 mod subset;

@@ -1,15 +1,24 @@
 //! The new numbers of glyphs.
 ghost use Rattle.std.specs.Prelude.{◌≡◌, ℕ, ◌<◌, ◌≤◌, ◌^◌, length, slice_index_or, IfOk, IfErr, OnOk};
 ghost use Rattle.postscript_files.specs.Origins.{AreFew};
-ghost use Rattle.postscript_files.specs.Renumbered.{AreNumbersOf, AreRenumbered};
+ghost use Rattle.postscript_files.specs.Renumbered.{AreBelow, AreNumbersOf, AreRenumbered};
 ghost use Rattle.postscript_files.specs.declared.error.Error.TheVariants as errors;
 
 use crate::error::Result;
 use postscript_sfnt_write::Mapping;
 use std::alloc::Global;
 
-/// One more than the last glyph number.
-const GLYPHS: usize = 0x10000;
+/// Returns the least number above all origins.
+fn above(origins: &[usize]) -> usize
+    requires few { AreFew origins.now }
+    ensures { AreBelow origins.now result }
+{
+    let mut above = 0usize;
+    for i in 0..origins.len() {
+        above = above.max(origins[i] + 1);
+    }
+    above
+}
 
 /// Returns the new number of each old glyph that is in the new font.
 pub(crate) fn numbers_of(alloc: Global, origins: &[usize]) -> Result<Vec<u16>>
@@ -17,7 +26,7 @@ pub(crate) fn numbers_of(alloc: Global, origins: &[usize]) -> Result<Vec<u16>>
     ensures numbers { IfOk result (λ numbers. AreNumbersOf origins.now numbers.items) }
     ensures memory { IfErr result (λ e. e ≡ errors.Memory) }
 {
-    let mut numbers = vec![in alloc; 0u16; GLYPHS]?;
+    let mut numbers = vec![in alloc; 0u16; above(origins)]?;
     for i in 0..origins.len() {
         numbers[origins[i]] = i as u16;
     }

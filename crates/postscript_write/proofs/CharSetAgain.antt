@@ -2,6 +2,7 @@
 use Rattle.std.proofs.Common.{◌≡◌, ◌↔◌, refl, sym, ap, subst, ◌∙◌, inl, inr, ℕ, ◌+◌, ◌-◌, ◌≤◌, ◌<◌, List, length, get_or, Option, Some, None, Bor, Vec, arith}
 use Rattle.std.specs.Option.{option_or}
 use Rattle.std.specs.Prelude.{All}
+use Rattle.std.proofs.lemmas.List.{get_or-map, length-map}
 use Rattle.std.specs.declared.alloc.Global.{Global}
 use Rattle.postscript_base.specs.Compact1.Defaults.{look}
 use Rattle.postscript_base.specs.Compact1.Dictionary.{Dictionary}
@@ -14,15 +15,14 @@ use Rattle.postscript_view.specs.declared.char_set.CharSetView.{CharSetView}
 use Rattle.postscript_view.specs.declared.char_set.Identifiers.{Identifiers}
 use Rattle.postscript_write.specs.Pieces.{piece_if, place_of, text_of}
 use Rattle.postscript_write.specs.Dictionaries.{IsHeld}
-use Rattle.postscript_write.specs.NewStrings.{names_text}
-use Rattle.postscript_write.specs.Numbered.{items_if}
+use Rattle.postscript_write.specs.Numbered.{IsSetFor, items_if}
 use Rattle.postscript_write.specs.Own.{IsOwnCharSet}
-use Rattle.postscript_write.specs.Renumbered.{new_identifier}
+use Rattle.postscript_write.specs.Renumbered.{new_identifier, new_identifiers}
+use Rattle.postscript_write.specs.SetTexts.{NamesAll}
 use Rattle.postscript_write.specs.Texts.{TextStands}
 use Rattle.postscript_write.specs.Whole.{CharSetEnds}
 use Rattle.postscript_write.specs.declared.strings.Strings.{Strings}
 use Rattle.postscript_write.proofs.CharSetsAgain.{names_same, stands_again}
-use Rattle.postscript_write.proofs.ListedAgain.{list_names, list_stands}
 use Rattle.postscript_write.proofs.NamedEnds.{offset_is, place_held, same_offset}
 use Rattle.postscript_write.proofs.OneCharSet.{EndsBytes}
 use Rattle.postscript_write.proofs.PlacesNamed.{named_by}
@@ -180,17 +180,21 @@ behind_first again i identifier value less both = (
     to (inl first) = absurd (omega (arith, first.0))
     to (inr more) = both.0 (subst (λ n. NamesBehind again.identifiers n identifier) (sym back) more.1)
 
+new_is : (strings : Strings) (identifiers : List ℕ) (i : ℕ) → i < length identifiers →
+    get_or (new_identifiers strings identifiers) i 0 ≡ new_identifier strings (get_or identifiers i 0)
+new_is strings identifiers i less = get_or-map (new_identifier strings) identifiers i 0 0 less
+
 pub set_listed : (lent : Bor (List ℕ)) (strings : Strings) (identifiers : List ℕ) (out : List ℕ) (map new : Dictionary) (glyphs : ℕ)
     (char_set : Option (Vec ℕ Global)) (place : ℕ) →
     look new CharSet ≡ option_or (named_by (place_of (piece_if CharSet char_set) place) CharSet) (look map CharSet) →
-    All IsHeld (place_of (piece_if CharSet char_set) place) → 3 ≤ place → TextStands (text_of char_set) out place → items_if char_set ≡ Some
-    (names_text strings identifiers) → glyphs ≡ 1 + length identifiers →
+    All IsHeld (place_of (piece_if CharSet char_set) place) → 3 ≤ place → TextStands (text_of char_set) out place →
+    IsSetFor strings identifiers (items_if char_set) → glyphs ≡ 1 + length identifiers →
     ((i : ℕ) → i < length identifiers → new_identifier strings (get_or identifiers i 0) < 65536) → AreListed strings identifiers out new
     glyphs
-set_listed lent strings identifiers out map new glyphs None place look_is held past stands own many low = absurd (cc)
+set_listed lent strings identifiers out map new glyphs None place look_is held past stands own many low = absurd (let e = own.1 in cc)
 set_listed lent strings identifiers out map new glyphs (Some text) place look_is held past stands own many low = record {
-  some = let again = list_stands (new_identifier strings) identifiers out place there glyphs many lent in
-      (set_of again.0 glyphs, record { identifiers = (place, names, inr (inr (inr (past, again.1)))); counted = refl });
+  some = let again = names_all.stands out place there lent in
+      (set_of again.0 glyphs, record { identifiers = (place, names, inr (inr (inr (past, as_many again.0 again.1)))); counted = refl });
   names = λ again has.
       let counted = has.counted in
       let own_set = own_stands again.identifiers out place glyphs past
@@ -198,17 +202,33 @@ set_listed lent strings identifiers out map new glyphs (Some text) place look_is
       record {
         first = record { there = omega (arith, counted, many); told = inl (refl, refl) };
         each = λ i identifier less. behind_first again i identifier (new_identifier strings (get_or identifiers i 0))
-            (omega (arith, less, counted, many))
-            (list_names (new_identifier strings) identifiers out place there glyphs many again.identifiers i identifier own_set less
-            (low i less));
+            (omega (arith, less, counted, many)) (each again.identifiers i identifier less own_set);
       };
 }
   where
-    text_is : text.items ≡ names_text strings identifiers
-    text_is = cc
+    text_is : own.0 ≡ text.items
+    text_is = let e = own.1 in cc
 
-    there : TextStands (names_text strings identifiers) out place
-    there = subst (λ xs. TextStands xs out place) text_is stands
+    names_all : NamesAll text.items (new_identifiers strings identifiers)
+    names_all = subst (λ xs. NamesAll xs (new_identifiers strings identifiers)) text_is own.2
+
+    there : TextStands text.items out place
+    there = stands
+
+    count : 1 + length (new_identifiers strings identifiers) ≡ glyphs
+    count = omega (arith, many, length-map identifiers (new_identifier strings))
+
+    as_many : (set : Identifiers) → CharSetStandsAt set out place (1 + length (new_identifiers strings identifiers)) → CharSetStandsAt set out place glyphs
+    as_many set h = subst (CharSetStandsAt set out place) count h
+
+    each : (set : Identifiers) (i identifier : ℕ) → i < length identifiers → CharSetStandsAt set out place glyphs →
+        NamesBehind set i identifier ↔ (new_identifier strings (get_or identifiers i 0) ≡ identifier)
+    each set i identifier less is =
+        let at = new_is strings identifiers i less in
+        let small = low i less in
+        subst (λ n. NamesBehind set i identifier ↔ (n ≡ identifier)) at
+        (names_all.names out place i identifier set there (subst (CharSetStandsAt set out place) (sym count) is)
+        (omega (arith, less, length-map identifiers (new_identifier strings))) (omega (arith, at, small)))
 
     names : offset_of new CharSet ≡ Some place
     names = offset_is new CharSet place (place_held CharSet place held) look_is

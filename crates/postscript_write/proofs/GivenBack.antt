@@ -1,11 +1,9 @@
 -- What is written of glyphs besides their codes is what was to be written.
 use Rattle.std.proofs.Common.{◌≡◌, sym, ap, subst, ◌∙◌, inl, ℕ, ◌+◌, ◌<◌, ◌^◌, List, [], append-nil, length, length-append, get_or, Option, Some, None, Bool, true, false, Vec, arith}
 use Rattle.std.specs.Option.{is_some}
-use Rattle.std.specs.Prelude.{flat_map}
 use Rattle.std.specs.declared.alloc.Global.{Global}
 use Rattle.std.proofs.lemmas.List.{length-map}
 use Rattle.postscript_base.specs.Compact1.Dictionary.{Dictionary}
-use Rattle.postscript_base.specs.Index.{number_at}
 use Rattle.postscript_base.specs.Index.Lent.{items_of}
 use Rattle.postscript_view.specs.Contents.{View}
 use Rattle.postscript_view.specs.Value.{part_shown, view_shown}
@@ -17,17 +15,14 @@ use Rattle.postscript_write.specs.Glyphs.{AreNumbersOf, ShowsPartFor, Sources}
 use Rattle.postscript_write.specs.Identified.{AreSourcesFor, Identifiers}
 use Rattle.postscript_write.specs.ReadBack.{HasCodes, HasOtherCodes, HasSameCodes}
 use Rattle.postscript_view.specs.declared.encoding.EncodingView.{EncodingView}
-use Rattle.postscript_write.specs.NewStrings.{names_text}
-use Rattle.postscript_write.specs.Numbered.{AreGlyphsFor, IsCharSetFor, IsEncodingFor, IsSelectFor, items_if}
+use Rattle.postscript_write.specs.Numbered.{AreGlyphsFor, IsCharSetFor, IsEncodingFor, IsSelectFor, IsSetFor, items_if}
 use Rattle.postscript_write.specs.Own.{IsOwnCharSet, IsOwnEncoding}
-use Rattle.postscript_write.specs.Renumbered.{new_identifier}
+use Rattle.postscript_write.specs.Renumbered.{new_identifier, new_identifiers}
 use Rattle.postscript_write.specs.Selected.{AreLow}
-use Rattle.postscript_write.specs.Texts.{TextStands, number_text}
+use Rattle.postscript_write.specs.Texts.{TextStands}
 use Rattle.postscript_write.specs.Whole.{CharSetEnds, EncodingEnds, SelectEnds}
 use Rattle.postscript_write.specs.declared.layout.Glyphs.{Glyphs}
 use Rattle.postscript_write.specs.declared.strings.Strings.{Strings}
-use Rattle.postscript_write.proofs.Rows.{number_read, rows_length}
-use Rattle.postscript_write.proofs.Standing.{length-number_text, stands_first}
 use Rattle.postscript_write.proofs.TextsCut.{char_set_cut, cut_length, cut_stands, encoding_cut}
 
 -- a text stands in itself
@@ -84,23 +79,14 @@ gives_set bytes map glyphs (Some text) (place, next, e, high, ends, cut) =
     ∙ ap (λ xs. place + length xs) (sym cut.is) in
     char_set_cut text.items bytes place glyphs front (subst (λ n. CharSetEnds bytes glyphs place n) long ends)
 
-list_ends : (strings : Strings) (identifiers : List ℕ) → CharSetEnds (names_text strings identifiers)
-    (1 + length identifiers) 0 (length (names_text strings identifiers))
-list_ends strings identifiers =
-    let row : ℕ → List ℕ = λ old. number_text 2 (new_identifier strings old) in
-    let rows : List ℕ = flat_map row identifiers in
-    let format : number_at (names_text strings identifiers) 0 1 ≡ 0 = number_read 1 0 (omega arith)
-    (stands_first (number_text 1 0) rows (alone (names_text strings identifiers))) in
-    let long = rows_length row 2 (λ old. length-number_text 2 (new_identifier strings old)) identifiers in
-    inl (format, omega (arith, length-append (number_text 1 0) rows, length-number_text 1 0, long))
-
 gives_list : (strings : Strings) (identifiers : List ℕ) (map : Dictionary) (glyphs : ℕ) (char_set : Option (Vec ℕ Global)) →
-    items_if char_set ≡ Some (names_text strings identifiers) → glyphs ≡ 1 + length identifiers → GivesCharSet map glyphs char_set
-gives_list strings identifiers map glyphs None is many = absurd (cc)
+    IsSetFor strings identifiers (items_if char_set) → glyphs ≡ 1 + length identifiers → GivesCharSet map glyphs char_set
+gives_list strings identifiers map glyphs None is many = absurd (let e = is.1 in cc)
 gives_list strings identifiers map glyphs (Some text) is many =
-    let same : text.items ≡ names_text strings identifiers = cc in
-    subst (λ n. CharSetEnds text.items n 0 (length text.items)) (sym many)
-    (subst (λ xs. CharSetEnds xs (1 + length identifiers) 0 (length xs)) (sym same) (list_ends strings identifiers))
+    let same : is.0 ≡ text.items = (let e = is.1 in cc) in
+    let count = length-map identifiers (new_identifier strings) in
+    subst (λ n. CharSetEnds text.items n 0 (length text.items)) (omega (arith, many, count))
+    (subst (λ xs. CharSetEnds xs (1 + length (new_identifiers strings identifiers)) 0 (length xs)) same is.2.ends)
 
 gives_select : (numbers : List ℕ) (select : Option (Vec ℕ Global)) → AreLow numbers → length numbers < 2 ^ 16 →
     IsSelectFor numbers select → GivesSelect (length numbers) select

@@ -8,10 +8,12 @@ use Rattle.std.specs.declared.alloc.Global.{Global}
 use Rattle.postscript_base.specs.declared.compact1.operator.Operator.TheVariants.{CharSet, CharStrings, Encoding, FullName, Private, ROS}
 use Rattle.postscript_write.specs.Once.{AreDistinct, HasNoLaterRos}
 use Rattle.postscript_write.specs.Pieces.{Piece, is_listed, listed_set, place_at, places, ranges_set}
-use Rattle.postscript_write.specs.NewStrings.{left_of, names_text}
+use Rattle.postscript_write.specs.NewStrings.{left_of}
 use Rattle.postscript_write.specs.Renumbered.{new_identifier, renamed}
 use Rattle.postscript_write.specs.Room.{index_room}
-use Rattle.postscript_write.specs.Selected.{LiesInOne, listed_text, ranges_text}
+use Rattle.postscript_write.specs.Firsts.{LiesInOne}
+use Rattle.postscript_write.specs.Selected.{HaveSame, listed_text, ranges_text}
+use Rattle.postscript_write.specs.SetTexts.{names_text, spans_text}
 use Rattle.postscript_write.specs.Texts.{number_text}
 use Rattle.postscript_write.specs.declared.strings.Strings.{Strings}
 
@@ -40,10 +42,14 @@ beta_moves : (strings : Strings) → strings.renumbered.items ≡ beta_stays →
 beta_moves strings is = ap (λ (rs : List (Option ℕ)). unwrap_or (slice_index_or rs 1 None) 392) is
 
 -- the letter A, and beta: 391 is 1 times 256 and 135
-names_of_two : (strings : Strings) → strings.renumbered.items ≡ beta_stays → names_text strings (34 ∷ 392 ∷ []) ≡
-    0 ∷ 0 ∷ 34 ∷ 1 ∷ 135 ∷ []
+names_of_two : names_text (34 ∷ 391 ∷ []) ≡ 0 ∷ 0 ∷ 34 ∷ 1 ∷ 135 ∷ []
 unfolding number_text
-names_of_two strings is = rw is refl
+names_of_two = refl
+
+-- the letters A to C, and beta
+spans_of_four : spans_text (34 ∷ 35 ∷ 36 ∷ 391 ∷ []) (0 ∷ 3 ∷ []) ≡ 1 ∷ 0 ∷ 34 ∷ 2 ∷ 1 ∷ 135 ∷ 0 ∷ []
+unfolding number_text
+spans_of_four = refl
 
 operator_moves : renamed FullName 392 391 ≡ place_at FullName 391 ∷ []
 operator_moves = refl
@@ -67,8 +73,8 @@ one_behind_the_other : (e c p s : List ℕ) → length e ≡ 4 → length c ≡ 
 one_behind_the_other e c p s is_e is_c is_p is_s = rw (is_e, is_c, is_p, is_s) (refl, refl)
 
 -- glyph 3 of the five lies in the second range, which begins with glyph 2
-third_in_second : LiesInOne (0 ∷ 0 ∷ 1 ∷ 1 ∷ 1 ∷ []) (0 ∷ 2 ∷ []) 5 3
-third_in_second = record { range = 1; there = omega arith; from = omega arith; to = omega arith; same = refl }
+third_in_second : LiesInOne (HaveSame (0 ∷ 0 ∷ 1 ∷ 1 ∷ 1 ∷ [])) (0 ∷ 2 ∷ []) 5 3
+third_in_second = record { range = 1; there = omega arith; from = omega arith; to = omega arith; goes = refl }
 
 -- a charset of the letters A and B: format 0 is before the charstrings, and format 1 is last
 letters_listed : (set : Vec ℕ Global) → set.items ≡ 0 ∷ 0 ∷ 34 ∷ 0 ∷ 35 ∷ [] → (listed_set (Some set) ≡ Some set) × (ranges_set (Some set) ≡ None)

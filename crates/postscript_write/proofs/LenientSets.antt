@@ -2,6 +2,7 @@
 use Rattle.std.proofs.Common.{◌≡◌, refl, sym, ap, subst, ◌∙◌, inl, inr, ℕ, pos, ℤ, negsuc, ◌+◌, ◌<◌, ◌≤◌, ◌^◌, List, length, Option, Some, None, Bool, true, false, Vec, arith}
 use Rattle.std.specs.Option.{option_and_then}
 use Rattle.std.specs.declared.alloc.Global.{Global}
+use Rattle.std.proofs.lemmas.List.{length-map}
 use Rattle.std.proofs.lemmas.Option.{none-some, same_Some}
 use Rattle.postscript_base.specs.Compact1.Decimal.{Decimal, to_i32}
 use Rattle.postscript_base.specs.Compact1.Defaults.{first_of, look}
@@ -19,15 +20,15 @@ use Rattle.postscript_view.specs.declared.encoding.Codes.{Codes}
 use Rattle.postscript_view.specs.declared.encoding.Codes.TheVariants.{Listed, Predefined, Ranges}
 use Rattle.postscript_view.specs.declared.encoding.EncodingView.{EncodingView}
 use Rattle.postscript_write.specs.Naming.{SameCodes, codes_for}
-use Rattle.postscript_write.specs.NewStrings.{names_text}
-use Rattle.postscript_write.specs.Numbered.{items_if}
+use Rattle.postscript_write.specs.Numbered.{IsSetFor, items_if}
 use Rattle.postscript_write.specs.Own.{IsOwnCharSet}
 use Rattle.postscript_write.specs.ReadBack.{HasCharSetText, HasCodes}
+use Rattle.postscript_write.specs.Renumbered.{new_identifier, new_identifiers}
 use Rattle.postscript_write.specs.Texts.{TextStands}
 use Rattle.postscript_write.specs.Whole.{CharSetEnds}
 use Rattle.postscript_write.specs.declared.strings.Strings.{Strings}
 use Rattle.postscript_write.proofs.Arranged.{one_first}
-use Rattle.postscript_write.proofs.StrictCharSet.{strict_moved, strict_names}
+use Rattle.postscript_write.proofs.StrictCharSet.{strict_moved}
 use Rattle.postscript_write.proofs.TextsCut.{cut_length, cut_stands}
 
 pub offset_first : (map : Dictionary) (operator : Operator) (n : ℕ) → offset_of map operator ≡ Some n → HasFirst map operator (pos n)
@@ -147,10 +148,12 @@ set_kept bytes out glyphs old new (Some text) set (place, next, e, high, ends, c
     (set, named_there out to glyphs new set moved.0 named past low moved.1)
 
 pub set_listed : (out : List ℕ) (glyphs : ℕ) (old new : Dictionary) (text : Option (Vec ℕ Global)) (strings : Strings)
-    (identifiers : List ℕ) → items_if text ≡ Some (names_text strings identifiers) → glyphs ≡ 1 + length identifiers →
+    (identifiers : List ℕ) → IsSetFor strings identifiers (items_if text) → glyphs ≡ 1 + length identifiers →
     HasCharSetText old text out new → (other : CharSet) × HasCharSet out 0 glyphs new other
-set_listed out glyphs old new None strings identifiers listed many stands = absurd (none-some _ listed)
+set_listed out glyphs old new None strings identifiers listed many stands = absurd (none-some _ listed.1)
 set_listed out glyphs old new (Some text) strings identifiers listed many (to, named, past, low, stands) =
-    let is : text.items ≡ names_text strings identifiers = same_Some _ _ listed in
-    let set = strict_names strings identifiers out to glyphs (subst (λ (xs : List ℕ). TextStands xs out to) is stands) many in
-    (set.0, named_there out to glyphs new set.0 set.1 named past low set.2)
+    let is : text.items ≡ listed.0 = same_Some _ _ listed.1 in
+    let set = listed.2.strict out to (subst (λ (xs : List ℕ). TextStands xs out to) is stands) in
+    let count : 1 + length (new_identifiers strings identifiers) ≡ glyphs =
+    omega (arith, many, length-map identifiers (new_identifier strings)) in
+    (set.0, named_there out to glyphs new set.0 set.1 named past low (subst (λ n. IsCharSet out to n set.0 set.1) count set.2))

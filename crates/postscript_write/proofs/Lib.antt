@@ -79,6 +79,8 @@ pub mod Identifying
 pub mod Empty
 pub mod StrictIndex
 pub mod StrictCharSet
+pub mod Continuing
+pub mod SetTexts
 pub mod LenientOld
 pub mod LenientSets
 pub mod LenientNew

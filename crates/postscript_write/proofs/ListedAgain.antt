@@ -12,12 +12,12 @@ use Rattle.postscript_write.specs.Texts.{number_text, TextStands}
 use Rattle.postscript_write.proofs.Rows.{behind_number, number_read, row_stands, rows_length}
 use Rattle.postscript_write.proofs.Standing.{length-number_text, stands_amid, stands_first, stands_slice, stands_within}
 
-module _ (new : ℕ → ℕ) (identifiers : List ℕ) where
+module _ (identifiers : List ℕ) where
   abbrev row : ℕ → List ℕ
-  row old = number_text 2 (new old)
+  row identifier = number_text 2 identifier
 
-  two : (old : ℕ) → length (row old) ≡ 2
-  two old = length-number_text 2 (new old)
+  two : (identifier : ℕ) → length (row identifier) ≡ 2
+  two identifier = length-number_text 2 identifier
 
   abbrev rows : List ℕ
   rows = flat_map row identifiers
@@ -29,10 +29,10 @@ module _ (new : ℕ → ℕ) (identifiers : List ℕ) where
   alone = subst (λ xs. TextStands rows xs 0) (append-nil rows) (stands_amid [] rows [])
 
   -- the identifier of a glyph, counted from 0 behind the first one
-  told : (i : ℕ) → i < length identifiers → new (get_or identifiers i 0) < 65536 →
-      identifier_at rows i ≡ Some (new (get_or identifiers i 0))
+  told : (i : ℕ) → i < length identifiers → get_or identifiers i 0 < 65536 →
+      identifier_at rows i ≡ Some (get_or identifiers i 0)
   told i less small =
-      let read : number_at rows (0 + i * 2) 2 ≡ new (get_or identifiers i 0) = number_read 2 (new (get_or identifiers i 0)) small
+      let read : number_at rows (0 + i * 2) 2 ≡ get_or identifiers i 0 = number_read 2 (get_or identifiers i 0) small
       (row_stands row 2 two identifiers 0 i 0 less alone) in
       let at : 2 * i ≡ 0 + i * 2 = omega arith in
       let half : nat_lt i (length rows / 2) ≡ true = grind (arith, nat_tests, long) in
@@ -61,8 +61,8 @@ module _ (new : ℕ → ℕ) (identifiers : List ℕ) where
 
       -- whatever stands there names the glyphs so
       pub list_names : (own : Identifiers) (i identifier : ℕ) → CharSetStandsAt own bytes place glyphs → i < length identifiers →
-          new (get_or identifiers i 0) < 65536 →
-          NamesBehind own i identifier ↔ (new (get_or identifiers i 0) ≡ identifier)
+          get_or identifiers i 0 < 65536 →
+          NamesBehind own i identifier ↔ (get_or identifiers i 0 ≡ identifier)
       list_names ISOAdobe i identifier is less small = absurd is
       list_names Expert i identifier is less small = absurd is
       list_names ExpertSubset i identifier is less small = absurd is
@@ -70,5 +70,5 @@ module _ (new : ℕ → ℕ) (identifiers : List ℕ) where
       list_names (Ranges2 xs) i identifier is less small = absurd (omega (arith, is.0, format))
       list_names (Listed xs) i identifier is less small =
           let same : xs.now ≡ rows = is.2 ∙ ap (λ n. take n (drop (place + 1) bytes)) count ∙ slice in
-          let one : identifier_at xs.now i ≡ Some (new (get_or identifiers i 0)) = ap (λ ys. identifier_at ys i) same ∙ told i less small in
+          let one : identifier_at xs.now i ≡ Some (get_or identifiers i 0) = ap (λ ys. identifier_at ys i) same ∙ told i less small in
           (λ h. let e = sym one ∙ h in cc, λ h. one ∙ ap (λ n. Some n) h)

@@ -1,9 +1,9 @@
 -- How many bytes is at most what is written of glyphs besides their codes.
 use Rattle.std.proofs.Common.{◌≡◌, ◌∙◌, refl, sym, ap, ℕ, ◌+◌, ◌-◌, ◌*◌, ◌^◌, ◌≤◌, ◌<◌, List, length, length-append, take, drop, get_or, Option, Some, None, Bool, true, false, Vec, MatchBool, arith}
-use Rattle.std.specs.Prelude.{flat_map}
 use Rattle.std.specs.List.{slice_range}
 use Rattle.std.specs.Option.{is_some}
 use Rattle.std.specs.declared.alloc.Global.{Global}
+use Rattle.std.proofs.lemmas.List.{length-map}
 use Rattle.std.proofs.Common.{length-drop}
 use Rattle.std.proofs.lemmas.List.{take-append-drop}
 use Rattle.postscript_base.specs.Compact1.Defaults.{look}
@@ -14,18 +14,14 @@ use Rattle.postscript_base.specs.declared.compact1.operator.Operator.TheVariants
 use Rattle.postscript_type2.specs.Program.Routines.{texts}
 use Rattle.postscript_view.specs.declared.font.FontView.{FontView}
 use Rattle.postscript_write.specs.Pieces.{text_of}
-use Rattle.postscript_write.specs.NewStrings.{names_text}
-use Rattle.postscript_write.specs.Numbered.{AreAll, AreCut, AreFew, AreGlyphsFor, AreStringsFor, IsCharSetFor, IsEncodingFor, IsSelectFor, items_if}
+use Rattle.postscript_write.specs.Numbered.{AreAll, AreCut, AreFew, AreGlyphsFor, AreStringsFor, IsCharSetFor, IsEncodingFor, IsSelectFor, IsSetFor, items_if}
 use Rattle.postscript_write.specs.Own.{IsCutFrom, IsOwn}
 use Rattle.postscript_write.specs.Renumbered.{new_identifier}
 use Rattle.postscript_write.specs.Sizes.{bytes_in}
-use Rattle.postscript_write.specs.Texts.{number_text}
 use Rattle.postscript_write.specs.Whole.{CharSetEnds, EncodingEnds}
 use Rattle.postscript_write.specs.declared.layout.Glyphs.{Glyphs}
 use Rattle.postscript_write.specs.declared.strings.Strings.{Strings}
 use Rattle.postscript_write.proofs.NewStrings.{few_written}
-use Rattle.postscript_write.proofs.Rows.{rows_length}
-use Rattle.postscript_write.proofs.Standing.{length-number_text}
 
 -- strings: not more than the font has, and no more bytes; and what identifiers are new
 pub record AreFewStrings (font : FontView) (strings : Strings) : Type 0 where
@@ -95,22 +91,12 @@ encoding_little font None glyphs is =
     own_little font.bytes.now font.dictionary operators.Encoding 2 (EncodingEnds font.bytes.now) glyphs.encoding is.0
 encoding_little font (Some identifiers) glyphs is = omega (arith, nothing_long glyphs.encoding is.0)
 
-two_bytes : (strings : Strings) (old : ℕ) → length (number_text 2 (new_identifier strings old)) ≡ 2
-two_bytes strings old = length-number_text 2 (new_identifier strings old)
-
-names_long : (strings : Strings) (identifiers : List ℕ) → length (names_text strings identifiers) ≡ 1 + 2 * length identifiers
-names_long strings identifiers =
-    let text : ℕ → List ℕ = λ old. number_text 2 (new_identifier strings old) in
-    omega (
-      arith,
-      length-append (number_text 1 0) (flat_map text identifiers),
-      length-number_text 1 0,
-      rows_length text 2 (two_bytes strings) identifiers,
-    )
-
-text_long : (own : Option (Vec ℕ Global)) (text : List ℕ) → items_if own ≡ Some text → length (text_of own) ≡ length text
-text_long None text is = absurd (cc)
-text_long (Some own) text is = let same : own.items ≡ text = cc in ap length same
+set_little : (strings : Strings) (identifiers : List ℕ) (own : Option (Vec ℕ Global)) → IsSetFor strings identifiers (items_if own) →
+    length (text_of own) ≤ 1 + 2 * length identifiers
+set_little strings identifiers None is = absurd (let e = is.1 in cc)
+set_little strings identifiers (Some own) is =
+    let same : own.items ≡ is.0 = (let e = is.1 in cc) in
+    omega (arith, ap length same, is.2.few, length-map identifiers (new_identifier strings))
 
 char_set_little : (font : FontView) (identifiers : Option (Vec ℕ Global)) (glyphs : Glyphs) → AreFew identifiers →
     IsCharSetFor font identifiers glyphs →
@@ -125,8 +111,7 @@ char_set_little font (Some identifiers) glyphs few is =
     omega (
       arith,
       few,
-      text_long glyphs.char_set (names_text glyphs.strings identifiers.items) is,
-      names_long glyphs.strings identifiers.items,
+      set_little glyphs.strings identifiers.items glyphs.char_set is,
     )
 
 select_little : (numbers : List ℕ) (select : Option (Vec ℕ Global)) → length numbers < 2 ^ 16 → IsSelectFor numbers select →

@@ -20,8 +20,8 @@ use Rattle.postscript_write.specs.Identified.{AreIdentified, AreNamesFor, AreSou
 use Rattle.postscript_write.specs.LaidOut.{IsLaidOutOf, SelectsExactly}
 use Rattle.postscript_write.specs.Room.{IsRead}
 use Rattle.postscript_write.specs.Naming.{SameName, SameNames}
-use Rattle.postscript_write.specs.NewStrings.{HasNew, names_text}
-use Rattle.postscript_write.specs.Numbered.{AreAll, AreCut, AreStringsFor, IsCharSetFor, items_if}
+use Rattle.postscript_write.specs.NewStrings.{HasNew}
+use Rattle.postscript_write.specs.Numbered.{AreAll, AreCut, AreStringsFor, IsCharSetFor, IsSetFor, items_if}
 use Rattle.postscript_write.specs.Own.{IsOwnCharSet}
 use Rattle.postscript_write.specs.Parts.{IsAmong, SameAt, naming}
 use Rattle.postscript_write.specs.ReadBack.{HasNames, keeps_strings}
@@ -123,7 +123,7 @@ module _ {font : FontView} {glyphs : Glyphs} {codes : List (List ℕ)} {out : Li
       set_kept old font.bytes.now out font.dictionary t.new (length (items_of font.char_strings)) glyphs.char_set (set_place w) is
       (set_look w t) (set_held w) (set_late w) (set_text w) (set_last w t) own
 
-  listed_set : (identifiers : List ℕ) → items_if glyphs.char_set ≡ Some (names_text glyphs.strings identifiers) →
+  listed_set : (identifiers : List ℕ) → IsSetFor glyphs.strings identifiers (items_if glyphs.char_set) →
       length codes ≡ 1 + length identifiers →
       ((i : ℕ) → i < length identifiers → new_identifier glyphs.strings (get_or identifiers i 0) < 65536) → AreListed glyphs.strings
       identifiers out t.new (length codes)
@@ -177,7 +177,7 @@ module _ {font : FontView} {glyphs : Glyphs} {codes : List (List ℕ)} {out : Li
 
     -- identifiers are listed, and all strings stay
     back_listed : (identifiers : List ℕ) → AreIdentified old sources identifiers → length codes ≡ length sources →
-        AreAll font glyphs.strings → items_if glyphs.char_set ≡ Some (names_text glyphs.strings identifiers) →
+        AreAll font glyphs.strings → IsSetFor glyphs.strings identifiers (items_if glyphs.char_set) →
         HasNames true sources (view_shown font) old out view
     back_listed identifiers of many all own =
         let same = λ (identifier : ℕ). stay glyphs.strings identifier all.stay in
@@ -192,7 +192,7 @@ module _ {font : FontView} {glyphs : Glyphs} {codes : List (List ℕ)} {out : Li
 
     -- identifiers are listed, and strings are cut to those that are named
     back_cut : (identifiers : List ℕ) → AreIdentified old sources identifiers → length codes ≡ length sources →
-        AreCut font identifiers glyphs.strings → items_if glyphs.char_set ≡ Some (names_text glyphs.strings identifiers) →
+        AreCut font identifiers glyphs.strings → IsSetFor glyphs.strings identifiers (items_if glyphs.char_set) →
         HasNames false sources (view_shown font) old out view
     back_cut identifiers of many cut own =
         let map = font.dictionary in

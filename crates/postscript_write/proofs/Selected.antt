@@ -4,7 +4,8 @@ use Rattle.std.specs.Prelude.{flat_map}
 use Rattle.std.proofs.lemmas.Bool.{cases_lt}
 use Rattle.postscript_base.specs.Index.{number_at}
 use Rattle.postscript_view.specs.Select.{first_glyph}
-use Rattle.postscript_write.specs.Selected.{AreFirsts, AreLow, SelectsAll, listed_text, range_text, ranges_text}
+use Rattle.postscript_write.specs.Firsts.{AreFirsts}
+use Rattle.postscript_write.specs.Selected.{AreLow, HaveSame, SelectsAll, listed_text, range_text, ranges_text}
 use Rattle.postscript_write.specs.Texts.{number_text, TextStands}
 use Rattle.postscript_write.proofs.Firsts.{past}
 use Rattle.postscript_write.proofs.Rows.{behind_number, number_read, row_stands, rows_length}
@@ -77,7 +78,7 @@ record AreRanges (numbers firsts bytes : List ℕ) (place : ℕ) : Type 0 where
   first : (r : ℕ) → r ≤ length firsts → first_glyph bytes (place + 3) r ≡ get_or firsts r (length numbers)
   number : (r : ℕ) → r < length firsts → number_at bytes (place + 3 + r * 3 + 2) 1 ≡ get_or numbers (get_or firsts r (length numbers)) 0
 
-are_ranges : (numbers firsts bytes : List ℕ) (place : ℕ) → AreFirsts numbers firsts (length numbers) → AreLow numbers →
+are_ranges : (numbers firsts bytes : List ℕ) (place : ℕ) → AreFirsts (HaveSame numbers) firsts (length numbers) → AreLow numbers →
     length numbers < 2 ^ 16 →
     TextStands (ranges_text numbers firsts) bytes place → AreRanges numbers firsts bytes place
 are_ranges numbers firsts bytes place are low few s =
@@ -116,7 +117,7 @@ are_ranges numbers firsts bytes place are low few s =
           (behind_number 2 first (number_text 1 (get_or numbers first 0)) (row r less));
     }
 
-pub ranges_all : (numbers firsts : List ℕ) → AreFirsts numbers firsts (length numbers) → AreLow numbers → length numbers < 2 ^ 16 →
+pub ranges_all : (numbers firsts : List ℕ) → AreFirsts (HaveSame numbers) firsts (length numbers) → AreLow numbers → length numbers < 2 ^ 16 →
     SelectsAll (ranges_text numbers firsts) numbers
 ranges_all numbers firsts are low few = record {
   gives = λ bytes place i s less.
@@ -141,7 +142,7 @@ ranges_all numbers firsts are low few = record {
           range = lies.range;
           there = omega (arith, there, count);
           lies = (omega (arith, here, from), omega (arith, next, to));
-          dictionary = lies.same ∙ sym (ranges.number lies.range there);
+          dictionary = lies.goes ∙ sym (ranges.number lies.range there);
         };
       });
   ends = λ bytes place s.

@@ -17,11 +17,8 @@ use Rattle.postscript_compact1.proofs.Steps.{Done, Step, accepted}
 use Rattle.postscript_view.specs.CharSet.{covered, more_of}
 use Rattle.postscript_view.proofs.Covering.{covered_none}
 use Rattle.postscript_view.proofs.Wider.{got_if}
-use Rattle.postscript_write.specs.NewStrings.{names_text}
-use Rattle.postscript_write.specs.Renumbered.{new_identifier}
 use Rattle.postscript_write.specs.Texts.{number_text, TextStands}
 use Rattle.postscript_write.specs.Whole.{CharSetEnds, RangesEnd}
-use Rattle.postscript_write.specs.declared.strings.Strings.{Strings}
 use Rattle.postscript_write.proofs.Locality.{slice_is}
 use Rattle.postscript_write.proofs.Moved.{number_moves}
 use Rattle.postscript_write.proofs.Rows.{number_read, rows_length}
@@ -36,13 +33,13 @@ number_got n bytes place value next some e =
     let enough = h.0 in
     (grind (arith, nat_tests), h.1, h.2)
 
-number_is : (n : ℕ) (bytes : List ℕ) (place : ℕ) → place + n ≤ length bytes →
+pub number_is : (n : ℕ) (bytes : List ℕ) (place : ℕ) → place + n ≤ length bytes →
     number n bytes place ≡ Got (number_at bytes place n) (place + n)
 unfolding number number_at
 number_is n bytes place within = ap (λ o. after o (λ xs next. Got (big_endian xs) next)) (slice_is n bytes place within)
 
 -- a number behind a place
-number_behind : (bytes : List ℕ) (p q n : ℕ) → number_at (drop p bytes) q n ≡ number_at bytes (p + q) n
+pub number_behind : (bytes : List ℕ) (p q n : ℕ) → number_at (drop p bytes) q n ≡ number_at bytes (p + q) n
 unfolding number_at
 number_behind bytes p q n = ap (λ xs. big_endian (take n xs)) (drop-drop q p bytes)
 
@@ -70,27 +67,6 @@ strict_listed out to glyphs format some within =
     } in
     (Format0 set, all.1, stands)
 
-pub strict_names : (strings : Strings) (identifiers out : List ℕ) (to glyphs : ℕ) → TextStands (names_text strings identifiers) out to →
-    glyphs ≡ 1 + length identifiers → (set : CharSet) × (next : ℕ) × IsCharSet out to glyphs set next
-strict_names strings identifiers out to glyphs stands many = strict_listed out to glyphs format (omega (arith, many)) within
-  where
-    row : ℕ → List ℕ
-    row old = number_text 2 (new_identifier strings old)
-
-    rows : List ℕ
-    rows = flat_map row identifiers
-
-    long : length rows ≡ length identifiers * 2
-    long = rows_length row 2 (λ old. length-number_text 2 (new_identifier strings old)) identifiers
-
-    format : number_at out to 1 ≡ 0
-    format = number_read 1 0 (omega arith) (stands_first (number_text 1 0) rows stands)
-
-    within : to + 1 + 2 * (glyphs - 1) ≤ length out
-    within =
-        let all = stands_within (number_text 1 0 ++ rows) stands in
-        omega (arith, many, all, length-append (number_text 1 0) rows, length-number_text 1 0, long)
-
 -- ranges of numbers of two bytes and of so many
 module _ {A : Type 0} (make : ℕ → ℕ → A) (size : ℕ) (some : 0 < size) where
   range_got : (bytes : List ℕ) (place : ℕ) (value : A) (next : ℕ) → range make size bytes place ≡ Got value next →
@@ -109,7 +85,7 @@ module _ {A : Type 0} (make : ℕ → ℕ → A) (size : ℕ) (some : 0 < size) 
         omega (arith, behind, left.2, first.2),
       )
 
-  range_is : (bytes : List ℕ) (place : ℕ) → place + 2 + size ≤ length bytes →
+  pub range_is : (bytes : List ℕ) (place : ℕ) → place + 2 + size ≤ length bytes →
       range make size bytes place ≡ Got (make (number_at bytes place 2) (number_at bytes (place + 2) size)) (place + 2 + size)
   unfolding range
   range_is bytes place within =
@@ -126,7 +102,7 @@ module _ {A : Type 0} (make : ℕ → ℕ → A) (size : ℕ) (some : 0 < size) 
       omega (arith, rest, got.2)
 
 -- the glyphs of the first range, and those of the ranges behind it
-covered_first : (ranges : List ℕ) (size r : ℕ) →
+pub covered_first : (ranges : List ℕ) (size r : ℕ) →
     covered ranges size (suc r) ≡ more_of ranges size 0 + 1 + covered (drop (2 + size) ranges) size r
 unfolding covered
 covered_first ranges size zero = omega arith

@@ -21,7 +21,9 @@ pub mod Fonts
 pub mod Making
 pub mod Whole
 pub mod Own
+pub mod Firsts
 pub mod Selected
+pub mod SetTexts
 pub mod Numbered
 pub mod Given
 pub mod GivenNumbers

@@ -55,7 +55,3 @@ IsNamedIn map identifiers number =
 pub record AreNamed (map : Dictionary) (identifiers : List ℕ) (renumbered : List (Option ℕ)) : Type 0 where
   pub all : (number : ℕ) → number < length renumbered → IsNamedIn map identifiers number → HasNew renumbered number
   pub only : (number : ℕ) → HasNew renumbered number → IsNamedIn map identifiers number
-
--- A charset of format 0 (section 13): the new SID of each glyph but the first, in two bytes.
-abbrev pub names_text : Strings → (identifiers : List ℕ) → List ℕ
-names_text strings identifiers = number_text 1 0 ++ flat_map (λ old. number_text 2 (new_identifier strings old)) identifiers

@@ -8,9 +8,11 @@ use Rattle.postscript_base.specs.declared.compact1.operator.Operator.TheVariants
 use Rattle.postscript_type2.specs.Program.Routines.{texts}
 use Rattle.postscript_view.specs.declared.font.FontView.{FontView}
 use Rattle.postscript_write.specs.LaidOut.{SelectsExactly}
-use Rattle.postscript_write.specs.NewStrings.{AreNamed, AreRenumbered, names_text}
+use Rattle.postscript_write.specs.NewStrings.{AreNamed, AreRenumbered}
 use Rattle.postscript_write.specs.Own.{IsOwnCharSet, IsOwnEncoding}
+use Rattle.postscript_write.specs.Renumbered.{new_identifiers}
 use Rattle.postscript_write.specs.Selected.{AreLow, SelectsAll}
+use Rattle.postscript_write.specs.SetTexts.{NamesAll}
 use Rattle.postscript_write.specs.declared.layout.Glyphs.{Glyphs}
 use Rattle.postscript_write.specs.declared.strings.Strings.{Strings}
 
@@ -35,10 +37,15 @@ AreStringsFor font (Some identifiers) strings =
 abbrev pub items_if : Option (Vec ℕ Global) → Option (List ℕ)
 items_if bytes = option_map (λ bytes. bytes.items) bytes
 
--- The charset is unchanged if glyphs keep their numbers. Otherwise the new SIDs are listed.
+-- The text is a charset of the new SIDs of these.
+abbrev pub IsSetFor : Strings → (identifiers : List ℕ) → (text : Option (List ℕ)) → Type 0
+IsSetFor strings identifiers text =
+    (some : List ℕ) × (text ≡ Some some) × NamesAll some (new_identifiers strings identifiers)
+
+-- The charset is unchanged if glyphs keep their numbers. Otherwise it has the new SIDs.
 abbrev pub IsCharSetFor : FontView → Option (Vec ℕ Global) → Glyphs → Type 0
 IsCharSetFor font None glyphs = IsOwnCharSet font.bytes.now font.dictionary (length (items_of font.char_strings)) (items_if glyphs.char_set)
-IsCharSetFor font (Some identifiers) glyphs = items_if glyphs.char_set ≡ Some (names_text glyphs.strings identifiers.items)
+IsCharSetFor font (Some identifiers) glyphs = IsSetFor glyphs.strings identifiers.items (items_if glyphs.char_set)
 
 -- The encoding is unchanged if glyphs keep their numbers. Otherwise the standard encoding replaces a custom one.
 abbrev pub IsEncodingFor : FontView → Option (Vec ℕ Global) → Glyphs → Type 0

@@ -1,5 +1,5 @@
 -- The SIDs of the written strings, and the Top DICT with them (Technical Note 5176, sections 9, 10 and 18).
-use Rattle.std.specs.Prelude.{◌≡◌, ◌≢◌, ℕ, ◌-◌, ◌==◌, nat_lt, if◌then◌else◌, List, [], ◌∷◌, Option, Some, None, flat_map, slice_index_or}
+use Rattle.std.specs.Prelude.{◌≡◌, ◌≢◌, ℕ, ◌-◌, ◌==◌, nat_lt, if◌then◌else◌, List, [], ◌∷◌, Option, Some, None, flat_map, map, slice_index_or}
 use Rattle.std.specs.Option.{unwrap_or}
 use Rattle.postscript_base.specs.Compact1.Defaults.{look}
 use Rattle.postscript_base.specs.Compact1.Dictionary.{Dictionary}
@@ -17,6 +17,10 @@ use Rattle.postscript_write.specs.declared.strings.Strings.{Strings}
 abbrev pub new_identifier : Strings → (old : ℕ) → ℕ
 new_identifier strings old =
     if nat_lt old 391 then old else unwrap_or (slice_index_or strings.renumbered.items (old - 391) None) old
+
+-- the new SIDs for old ones
+abbrev pub new_identifiers : Strings → (old : List ℕ) → List ℕ
+new_identifiers strings old = map (new_identifier strings) old
 
 -- an operator has the new SID, if it differs from the old one
 abbrev pub renamed : Operator → (old new : ℕ) → List Place

@@ -1,5 +1,5 @@
 -- FDSelect as it is written (Technical Note 5176, section 19, "FDSelect").
-use Rattle.std.specs.Prelude.{◌≡◌, ℕ, ◌+◌, ◌<◌, ◌≤◌, List, ◌++◌, flat_map, length, slice_index_or}
+use Rattle.std.specs.Prelude.{◌≡◌, ℕ, ◌+◌, ◌<◌, List, ◌++◌, flat_map, length, slice_index_or}
 use Rattle.postscript_view.specs.Cids.{IsCidKeyed}
 use Rattle.postscript_view.specs.Contents.{View}
 use Rattle.postscript_view.specs.Layout.{IsLaidOut}
@@ -21,20 +21,9 @@ pub record SelectsAll (text numbers : List ℕ) : Type 0 where
 abbrev pub listed_text : (numbers : List ℕ) → List ℕ
 listed_text numbers = number_text 1 0 ++ flat_map (number_text 1) numbers
 
--- A glyph is in a range, given the first glyphs of all ranges, and has the number of the first glyph of that range.
-pub record LiesInOne (numbers firsts : List ℕ) (glyphs glyph : ℕ) : Type 0 where
-  pub range : ℕ
-  pub there : range < length firsts
-  pub from : slice_index_or firsts range glyphs ≤ glyph
-  pub to : glyph < slice_index_or firsts (range + 1) glyphs
-  pub same : slice_index_or numbers glyph 0 ≡ slice_index_or numbers (slice_index_or firsts range glyphs) 0
-
--- The first glyphs of the ranges, in ascending order. The last range ends at the number of glyphs.
-pub record AreFirsts (numbers firsts : List ℕ) (glyphs : ℕ) : Type 0 where
-  pub few : length firsts ≤ glyphs
-  pub below : (r : ℕ) → r < length firsts → slice_index_or firsts r glyphs < glyphs
-  pub rise : (r : ℕ) → r < length firsts → slice_index_or firsts r glyphs < slice_index_or firsts (r + 1) glyphs
-  pub each : (glyph : ℕ) → glyph < glyphs → LiesInOne numbers firsts glyphs glyph
+-- both glyphs have the same number
+abbrev pub HaveSame : (numbers : List ℕ) → (first glyph : ℕ) → Type 0
+HaveSame numbers first glyph = slice_index_or numbers glyph 0 ≡ slice_index_or numbers first 0
 
 -- a range: its first glyph in two bytes, and the number in one
 abbrev pub range_text : (numbers : List ℕ) → (first : ℕ) → List ℕ

@@ -23,7 +23,7 @@ fn run_to_end(program: &mut Program<'_>) -> postscript_base::Result<()>
     ensures refused { IfErr result (λ e. (e ≡ causes.Memory) ⊎ (fault_of program.old.end ≡ Some (refusal_of e))) }
 {
     loop {
-        match program.next()? {
+        match program.step()? {
             Some(_operation) => {}
             None => return Ok(()),
         }

@@ -1,6 +1,7 @@
 //! Writes fonts of the Compact Font Format (Adobe Technical Note 5176): without subroutines, or with only some glyphs.
 #![tactic(auto)]
 
+mod char_sets;
 mod closure;
 mod components;
 mod dictionaries;

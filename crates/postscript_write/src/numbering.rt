@@ -10,14 +10,15 @@ ghost use Rattle.postscript_view.specs.Value.{view_shown};
 ghost use Rattle.postscript_write.specs.LaidOut.{SelectsExactly};
 ghost use Rattle.postscript_write.specs.Glyphs.{AreGlyphs};
 ghost use Rattle.postscript_write.specs.Identified.{AreIdentified, AreRenewed};
-ghost use Rattle.postscript_write.specs.NewStrings.{names_text};
+ghost use Rattle.postscript_write.specs.Firsts.{AreFirsts};
 ghost use Rattle.postscript_write.specs.Numbered.{AreStringsFor, IsCharSetFor, IsEncodingFor, IsSelectFor, IsSelectText, items_if};
 ghost use Rattle.postscript_write.specs.Own.{IsOwnCharSet, IsOwnEncoding};
 ghost use Rattle.postscript_write.specs.RefusedGlyphs.{HasEncoding, HasSet};
 ghost use Rattle.postscript_write.specs.Refusals.{FontRefusedBy};
-ghost use Rattle.postscript_write.specs.Selected.{AreFirsts, listed_text, range_text, ranges_text};
+ghost use Rattle.postscript_write.specs.Selected.{HaveSame, listed_text, range_text, ranges_text};
 ghost use Rattle.postscript_write.specs.declared.error.Error.TheVariants as errors;
 
+use crate::char_sets::listed;
 use crate::error::{Error, Result, of_memory};
 use crate::layout::{Glyphs, own_char_set, own_encoding};
 use crate::number::put_number;
@@ -106,19 +107,6 @@ pub(crate) fn identifiers_of(
     Ok(identifiers)
 }
 
-/// A charset of format 0 with the new SIDs.
-fn listed(alloc: Global, identifiers: &[StringID], strings: &Strings) -> Result<Vec<u8>>
-    ensures text { IfOk result (λ out. out.items ≡ names_text strings.now identifiers.now) }
-    ensures memory { IfErr result (λ e. e ≡ errors.Refused causes.Memory) }
-{
-    let mut out = Vec::new(alloc);
-    put_number(&mut out, 1, 0)?;
-    for i in 0..identifiers.len() {
-        put_number(&mut out, 2, strings.identifier(usize::from(identifiers[i])))?;
-    }
-    Ok(out)
-}
-
 /// The strings of the new font: only the needed ones if glyphs have names and get new numbers, otherwise all.
 fn strings_of(
     alloc: Global,
@@ -137,7 +125,7 @@ fn strings_of(
     Ok(Strings::needed(alloc, font, identifiers)?)
 }
 
-/// Whether a glyph begins a range: it is the first one, or the glyph before it has another number.
+/// Whether a glyph begins a range of FDSelect: it is the first one, or the glyph before it has another number.
 fn begins(numbers: &[usize], i: usize) -> bool
     requires { i < length numbers.now }
     ensures other { OnTrue result ((i ≡ 0) ⊎ (slice_index_or numbers.now i 0 ≢ slice_index_or numbers.now (i - 1) 0)) }
@@ -148,7 +136,7 @@ fn begins(numbers: &[usize], i: usize) -> bool
 
 /// The glyphs that begin ranges with equal numbers.
 fn firsts_of(alloc: Global, numbers: &[usize]) -> Result<Vec<usize>>
-    ensures firsts { IfOk result (λ firsts. AreFirsts numbers.now firsts.items (length numbers.now)) }
+    ensures firsts { IfOk result (λ firsts. AreFirsts (HaveSame numbers.now) firsts.items (length numbers.now)) }
     ensures memory { IfErr result (λ e. e ≡ errors.Refused causes.Memory) }
 {
     let mut firsts = Vec::new(alloc);
@@ -185,7 +173,7 @@ fn put_range(out: &mut Vec<u8>, numbers: &[usize], first: usize) -> Result<()>
 
 /// FDSelect of format 3 with the ranges that begin at these glyphs.
 fn put_ranges(out: &mut Vec<u8>, numbers: &[usize], firsts: &[usize]) -> Result<()>
-    requires { AreFirsts numbers.now firsts.now (length numbers.now) }
+    requires { AreFirsts (HaveSame numbers.now) firsts.now (length numbers.now) }
     ensures text { OnOk result (out.new.items ≡ out.old.items ++ ranges_text numbers.now firsts.now) }
     ensures memory { IfErr result (λ e. e ≡ errors.Refused causes.Memory) }
 {

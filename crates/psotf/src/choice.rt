@@ -15,6 +15,9 @@ const NOT_IN_HEX: &str =
 /// The last character of Unicode.
 const LAST: u32 = 0x10ffff;
 
+/// The most characters that are looked up one by one, instead of in a list of all characters.
+const FEW: usize = 1024;
+
 /// The characters and glyphs of a subset.
 #[derive(Drop)]
 pub struct Choice {
@@ -62,7 +65,11 @@ impl Choice {
         if list.is_empty() {
             return Ok(());
         }
-        let all = all_of(alloc, &face.map)?;
+        let all = if list.contains('-') {
+            all_of(alloc, &face.map)?
+        } else {
+            Vec::new(alloc)
+        };
         self.put_each(face, &all, list)
     }
 
@@ -147,15 +154,29 @@ impl Choice {
         Ok(())
     }
 
+    /// Appends the glyphs of the characters.
+    fn put_mapped(
+        &self,
+        alloc: Global,
+        face: &Face<'_>,
+        glyphs: &mut Vec<usize>,
+    ) -> Result<(), AllocError> {
+        if self.chars.len() <= FEW {
+            return put_each_of(glyphs, face, &self.chars);
+        }
+        let all = all_of(alloc, &face.map)?;
+        for char in &self.chars {
+            glyphs.push(glyph_in(&all, *char))?;
+        }
+        Ok(())
+    }
+
     /// Returns all glyphs that are chosen or added, those of the characters, and `.notdef`, in ascending order.
     pub fn named(&self, alloc: Global, face: &Face<'_>) -> Result<Vec<usize>, AllocError> {
         let mut glyphs = Vec::from_slice(alloc, &[0])?;
         glyphs.extend_from_slice(&self.glyphs)?;
         glyphs.extend_from_slice(&self.added)?;
-        let all = all_of(alloc, &face.map)?;
-        for char in &self.chars {
-            glyphs.push(glyph_in(&all, *char))?;
-        }
+        self.put_mapped(alloc, face, &mut glyphs)?;
         glyphs.sort()?;
         glyphs.dedup();
         Ok(glyphs)
@@ -178,6 +199,14 @@ impl Choice {
         choice.put(alloc, face, words)?;
         Ok(choice)
     }
+}
+
+/// Appends the glyph of each of these characters.
+fn put_each_of(glyphs: &mut Vec<usize>, face: &Face<'_>, chars: &[u32]) -> Result<(), AllocError> {
+    for char in chars {
+        glyphs.push(usize::from(glyph_of(&face.map, *char)))?;
+    }
+    Ok(())
 }
 
 /// Returns the glyph of a character, from a list of all characters.

@@ -352,8 +352,20 @@ fn without_words<'a>(alloc: Global, one: &Subcommand) -> Result<Command<'a>, All
     command.group(group.args(one.one_of)?)
 }
 
-/// Converts to a command of clap.
-fn command_of<'a>(alloc: Global, one: &Subcommand) -> Result<Command<'a>, AllocError> {
+/// Returns whether the program's arguments name a subcommand.
+fn is_named(words: &[String], name: &str) -> bool {
+    words.iter().any(|word| word.as_str() == name)
+}
+
+/// Converts to a command of clap. It has its arguments only if the program's arguments name it.
+fn command_of<'a>(
+    alloc: Global,
+    words: &[String],
+    one: &Subcommand,
+) -> Result<Command<'a>, AllocError> {
+    if !is_named(words, one.name) {
+        return Ok(Command::new(alloc, one.name).about(one.about));
+    }
     let mut args = Vec::new(alloc);
     put_all(alloc, &mut args, one)?;
     without_words(alloc, one)?.args(args)
@@ -362,17 +374,18 @@ fn command_of<'a>(alloc: Global, one: &Subcommand) -> Result<Command<'a>, AllocE
 fn put_command<'a>(
     alloc: Global,
     commands: &mut Vec<Command<'a>>,
+    words: &[String],
     one: &Subcommand,
 ) -> Result<(), AllocError> {
-    let command = command_of(alloc, one)?;
+    let command = command_of(alloc, words, one)?;
     put(commands, command)
 }
 
 /// Returns all subcommands.
-fn commands<'a>(alloc: Global) -> Result<Vec<Command<'a>>, AllocError> {
+fn commands<'a>(alloc: Global, words: &[String]) -> Result<Vec<Command<'a>>, AllocError> {
     let mut commands = Vec::new(alloc);
     for one in SUBCOMMANDS {
-        put_command(alloc, &mut commands, one)?;
+        put_command(alloc, &mut commands, words, one)?;
     }
     put(&mut commands, Command::new(alloc, "proof").about(PROOF))?;
     Ok(commands)
@@ -388,8 +401,9 @@ fn without_subcommands<'a>(alloc: Global) -> Command<'a> {
         .arg_required_else_help(true)
 }
 
-/// Returns the program's command.
-pub fn psotf<'a>(alloc: Global) -> Result<Command<'a>, AllocError> {
-    let commands = commands(alloc)?;
+/// Returns the program's command for these arguments. To save time, subcommands that they do not name have none of their
+/// own arguments.
+pub fn psotf<'a>(alloc: Global, words: &[String]) -> Result<Command<'a>, AllocError> {
+    let commands = commands(alloc, words)?;
     without_subcommands(alloc).subcommands(commands)
 }

@@ -259,7 +259,7 @@ fn answer_to(rt: &HostRuntime, matches: &ArgMatches<'_>) -> io::Result<ExitCode>
 
 /// Parses the arguments and runs the subcommand.
 fn answered(rt: &HostRuntime, words: &[String]) -> io::Result<ExitCode> {
-    match psotf(rt.alloc())?.try_get_matches_from(words) {
+    match psotf(rt.alloc(), words)?.try_get_matches_from(words) {
         Ok(matches) => answer_to(rt, &matches),
         Err(error) => told_by(rt, &error),
     }

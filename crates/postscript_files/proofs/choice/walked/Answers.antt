@@ -1,5 +1,5 @@
 use Rattle.postscript_files.proofs.Keeping.{kept-so}
-use Rattle.postscript_files.proofs.choice.kept_pairs.Goals as goal
+use Rattle.postscript_files.proofs.choice.walked.Goals as goal
 
 pub returns-clause-kept : goal.returns-clause-kept
 returns-clause-kept c =
