@@ -814,6 +814,36 @@ fn definitions(rt: HostRuntime) {
     assert_eq!(rt; written.as_slice(), new.as_slice());
 }
 
+/// Carets of the glyphs 5, 6 and 8. Glyph 8 has a coordinate with a device table, a value of format 7, and a contour point.
+/// Glyph 9 has a table without carets.
+const CARETS: &[u16] = &[
+    1, 2, 0, 0, 14, 0, 0, 12, 4, 24, 38, 46, 68, 1, 4, 5, 6, 8, 9, 2, 6, 10, 1, 300, 1, 65436, 1,
+    4, 1, 77, 3, 8, 14, 18, 3, 500, 6, 7, 1, 2, 12, 0,
+];
+
+/// The carets of the glyphs 0, 9, 8 and 5.
+const NEW_CARETS: &[u16] = &[
+    1, 2, 14, 0, 46, 28, 42, 1, 0, 4, 0, 0, 0, 0, 1, 0, 4, 0, 0, 0, 0, 1, 0, 8, 2, 16, 30, 1, 2, 2,
+    3, 2, 6, 10, 1, 500, 2, 12, 2, 6, 10, 1, 300, 1, 65436,
+];
+
+/// Each kept glyph has its carets. The table has no caret list if no kept glyph has carets.
+#[test]
+fn carets(rt: HostRuntime) {
+    let old = table(rt.alloc(), CARETS, &[]).expect(&rt, "memory");
+    let new = table(rt.alloc(), NEW_CARETS, &[]).expect(&rt, "memory");
+    let mut limit = 1000;
+    let written = glyph_definitions(rt.alloc(), &old, &[0, 9, 8, 5], &mut limit);
+    assert_eq!(rt; written.expect(&rt, "a table").as_slice(), new.as_slice());
+    let new = [1, 2, 14, 0, 0, 24, 34, 1, 0, 2, 0, 0, 1, 0, 2, 0, 0, 1, 0];
+    let new = table(rt.alloc(), &new, &[]).expect(&rt, "memory");
+    let written = glyph_definitions(rt.alloc(), &old, &[0, 9], &mut limit);
+    assert_eq!(rt; written.expect(&rt, "a table").as_slice(), new.as_slice());
+    let mut limit = 28;
+    let long = glyph_definitions(rt.alloc(), &old, &[0, 9, 8, 5], &mut limit);
+    assert!(rt; long == Err(Error::TooLong) && limit == 0);
+}
+
 /// The number of glyphs of the large lookup.
 const MANY: usize = 130;
 

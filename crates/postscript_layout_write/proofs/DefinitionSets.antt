@@ -43,6 +43,19 @@ members-on gdef set kept bytes more at h = record {
   there = holds-on more h.there;
 }
 
+pub sets-on : (gdef : List ℕ) (base : ℕ) (kept : List ℕ) (count : ℕ) (numbers bytes more : List ℕ) → AreMarkSets gdef base kept count numbers bytes →
+    AreMarkSets gdef base kept count numbers (bytes ++ more)
+sets-on gdef base kept count numbers bytes more are = record {
+  many = are.many;
+  each = λ set less. (let h = are.each set less in record {
+    high = h.high;
+    place = h.place;
+    low = h.low;
+    small = h.small;
+    has = members-on gdef set kept bytes more h.place h.has;
+  });
+}
+
 pub sets-more : (gdef : List ℕ) (base : ℕ) (kept : List ℕ) (s : ℕ) (numbers bytes newnumbers newbytes : List ℕ) → AreMarkSets gdef base kept s numbers bytes →
     newnumbers ≡ numbers ++ (0 ∷ (base + length bytes) ∷ []) → base + length bytes < 65536 → PutsMembers gdef s kept bytes newbytes →
     AreMarkSets gdef base kept (s + 1) newnumbers newbytes

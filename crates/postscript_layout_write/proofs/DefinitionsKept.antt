@@ -1,17 +1,21 @@
 -- Glyph definitions that were written are read as they were.
-use Rattle.std.proofs.Common.{◌≡◌, refl, sym, ap, subst, ◌∙◌, inl, inr, ℕ, ◌+◌, ◌-◌, ◌*◌, ◌≤◌, ◌<◌, ◌==◌, ◌&&◌, List, [], ◌∷◌, ◌++◌, length, get_or, arith, add-one, Bool, true, false}
+use Rattle.std.proofs.Common.{◌≡◌, refl, sym, ap, subst, ◌∙◌, inl, inr, ℕ, ◌+◌, ◌-◌, ◌*◌, ◌≤◌, ◌<◌, ◌==◌, ◌&&◌, List, [], ◌∷◌, ◌++◌, length, length-append, get_or, arith, add-one, Bool, true, false}
 use Rattle.std.specs.Prelude.{Option, is_some, nat_le, nat_lt, if◌then◌else◌}
 use Rattle.std.proofs.lemmas.Bool.{eq-eqb, le-leb, le-ltb, lt-ltb, ne_eqb}
 use Rattle.std.proofs.lemmas.List.{append_assoc}
 use Rattle.postscript_layout.specs.Numbers.{long, word}
+use Rattle.postscript_layout_write.specs.CaretLists.{AreCarets, IsCaretList, a_list, caret_list_text, kept_carets, no_list}
+use Rattle.postscript_layout_write.specs.Carets.{carets_covered, carets_of}
 use Rattle.postscript_layout_write.specs.Classes.{AreClasses, glyph_class, known}
 use Rattle.postscript_layout_write.specs.Definitions.{KeepsDefinitions, covers, in_set, mark_class, sets_at, sets_of}
 use Rattle.postscript_layout_write.specs.Holds.{Holds}
 use Rattle.postscript_layout_write.specs.MarkSets.{AreMarkClasses, AreMarkSets, AreMembers, definitions_text}
 use Rattle.postscript_layout_write.specs.Ranges.{class_in, class_of, coverage_index, listed_class, range_of}
-use Rattle.postscript_layout_write.specs.Text.{array_text, uint16}
+use Rattle.postscript_layout_write.specs.Sets.{AreOffsets}
+use Rattle.postscript_layout_write.specs.Text.{array_text, coverage_text, offsets_text, uint16}
+use Rattle.postscript_layout_write.proofs.CaretReading.{list-none, list-read}
 use Rattle.postscript_layout_write.proofs.Firsts.{nat_cases}
-use Rattle.postscript_layout_write.proofs.Holding.{holds-array, holds-first, holds-in, holds-second, holds-whole, length-array}
+use Rattle.postscript_layout_write.proofs.Holding.{holds-array, holds-first, holds-in, holds-second, holds-whole, length-array, length-uint16}
 use Rattle.postscript_layout_write.proofs.Longs.{holds-long, holds-two}
 use Rattle.postscript_layout_write.proofs.MarkReading.{coverage-read}
 use Rattle.postscript_layout_write.proofs.Reading.{Searched, any-default, missing, present}
@@ -53,22 +57,24 @@ module _ (gdef : List ℕ) (set : ℕ) (kept members : List ℕ) (t : List ℕ) 
       by _ (missing none) = refl
       by _ (present i within is) = (let small = (are.right i within).0 in absurd (omega (arith, small, is, far)))
 
-module _ (old kept new classes marks numbers bytes : List ℕ) (few : length kept ≤ 16377) (several : sets_of old ≤ 16382)
+module _ (old kept new : List ℕ) (caret : ℕ) (classes marks numbers texts list bytes : List ℕ) (few : length kept ≤ 16377) (several : sets_of old ≤ 16382)
+    (both : bytes ≡ texts ++ list) (small_caret : caret < 65536) (without : length list ≡ 0 → caret ≡ 0)
+    (with_list : 0 < length list → caret ≡ 30 + length kept * 4 + sets_of old * 4 + length texts) (are_carets : IsCaretList (kept_carets old kept) (length kept) list)
     (are_classes : AreClasses old kept classes) (are_marks : AreMarkClasses old kept marks)
     (are_sets : AreMarkSets old (4 + sets_of old * 4) kept (sets_of old) numbers bytes)
-    (is : new ≡ definitions_text (length kept) classes marks (sets_of old) numbers bytes) where
-  whole : Holds (definitions_text (length kept) classes marks (sets_of old) numbers bytes) new 0
-  whole = subst (λ (xs : List ℕ). Holds (definitions_text (length kept) classes marks (sets_of old) numbers bytes) xs 0) (sym is) (holds-whole _)
+    (is : new ≡ definitions_text (length kept) caret classes marks (sets_of old) numbers bytes) where
+  whole : Holds (definitions_text (length kept) caret classes marks (sets_of old) numbers bytes) new 0
+  whole = subst (λ (xs : List ℕ). Holds (definitions_text (length kept) caret classes marks (sets_of old) numbers bytes) xs 0) (sym is) (holds-whole _)
 
   number : (k w : ℕ) → k < 10 →
-      get_or (1 ∷ 2 ∷ 14 ∷ 0 ∷ 0 ∷ (20 + length kept * 2) ∷ (26 + length kept * 4) ∷ 1 ∷ 0 ∷ length kept ∷ []) k 0 ≡ w → w < 65536 → word new (k * 2) ≡ w
+      get_or (1 ∷ 2 ∷ 14 ∷ 0 ∷ caret ∷ (20 + length kept * 2) ∷ (26 + length kept * 4) ∷ 1 ∷ 0 ∷ length kept ∷ []) k 0 ≡ w → w < 65536 → word new (k * 2) ≡ w
   unfolding definitions_text
   number k w less same small = ap (word new) (omega arith) ∙ holds-array _ 0 k less (omega (arith, same, small)) (holds-first _ _ whole) ∙ same
 
   rest1 : Holds (array_text classes ++ (array_text (1 ∷ 0 ∷ length kept ∷ []) ++ (array_text marks ++ (array_text (1 ∷ sets_of old ∷ []) ++ (array_text numbers ++ bytes))))) new 20
   unfolding definitions_text
-  rest1 = holds-second (array_text (1 ∷ 2 ∷ 14 ∷ 0 ∷ 0 ∷ (20 + length kept * 2) ∷ (26 + length kept * 4) ∷ 1 ∷ 0 ∷ length kept ∷ [])) _ 20
-      (length-array (1 ∷ 2 ∷ 14 ∷ 0 ∷ 0 ∷ (20 + length kept * 2) ∷ (26 + length kept * 4) ∷ 1 ∷ 0 ∷ length kept ∷ [])) whole
+  rest1 = holds-second (array_text (1 ∷ 2 ∷ 14 ∷ 0 ∷ caret ∷ (20 + length kept * 2) ∷ (26 + length kept * 4) ∷ 1 ∷ 0 ∷ length kept ∷ [])) _ 20
+      (length-array (1 ∷ 2 ∷ 14 ∷ 0 ∷ caret ∷ (20 + length kept * 2) ∷ (26 + length kept * 4) ∷ 1 ∷ 0 ∷ length kept ∷ [])) whole
 
   rest2 : Holds (array_text (1 ∷ 0 ∷ length kept ∷ []) ++ (array_text marks ++ (array_text (1 ∷ sets_of old ∷ []) ++ (array_text numbers ++ bytes)))) new (20 + length kept * 2)
   rest2 = holds-second (array_text classes) _ (length kept * 2) (length-array classes ∙ ap (λ n. n * 2) are_classes.many) rest1
@@ -188,10 +194,51 @@ module _ (old kept new classes marks numbers bytes : List ℕ) (few : length kep
   out-read : (t : List ℕ) (s k : ℕ) → sets_of t ≤ s → in_set t s k ≡ false
   out-read t s k far = ap (λ (b : Bool). b && covers t (sets_at t) (long t (sets_at t + 4 + s * 4)) k) (le-ltb s (sets_of t) far)
 
+  -- carets
+  caret-offset : word new 8 ≡ caret
+  caret-offset = number 4 caret (omega arith) refl small_caret
+
+  no-carets : caret ≡ 0 → (x : ℕ) → carets_of new x ≡ []
+  no-carets none x = ap (λ n. if n == 0 then [] else carets_covered new n (coverage_index new (n + word new n) x)) (caret-offset ∙ none)
+
+  module _ (glyphs offsets tables_there : List ℕ) (are : AreCarets (kept_carets old kept) (length kept) glyphs offsets tables_there) (fewer : length glyphs ≤ 16380)
+      (fit : AreOffsets (8 + length glyphs * 4) offsets) (same : list ≡ caret_list_text glyphs offsets tables_there) where
+    place : caret ≡ 30 + length kept * 4 + sets_of old * 4 + length texts
+    unfolding caret_list_text
+    place = with_list (let long = length-append (uint16 (4 + length glyphs * 2)) (uint16 (length glyphs) ++ (offsets_text (8 + length glyphs * 4) offsets ++ (coverage_text glyphs ++ tables_there))) in
+        let all = ap length same in omega (arith, all, long, length-uint16 (4 + length glyphs * 2)))
+
+    held : Holds (caret_list_text glyphs offsets tables_there) new caret
+    held = subst (λ (xs : List ℕ). Holds xs new caret) same (subst (Holds list new) (omega (arith, place))
+        (holds-second texts list (length texts) refl (subst (λ (xs : List ℕ). Holds xs new (26 + length kept * 4 + (4 + sets_of old * 4))) both tables)))
+
+    caret-read : (x : ℕ) → carets_of new x ≡ carets_covered new caret (coverage_index new (caret + word new caret) x)
+    caret-read x = ap (λ n. if n == 0 then [] else carets_covered new n (coverage_index new (n + word new n) x)) caret-offset
+        ∙ ap (λ (b : Bool). if b then [] else carets_covered new caret (coverage_index new (caret + word new caret) x)) (ne_eqb caret 0 (λ e. omega (arith, e, place)))
+
+    caret-there : (x : ℕ) → x < length kept → carets_of new x ≡ carets_of old (get_or kept x 0)
+    caret-there x less = caret-read x ∙ list-read (kept_carets old kept) (length kept) glyphs offsets tables_there new caret are fewer fit (omega (arith, few)) held x less
+
+    caret-past : (x : ℕ) → length kept ≤ x → carets_of new x ≡ []
+    caret-past x far = caret-read x ∙ list-none (kept_carets old kept) (length kept) glyphs offsets tables_there new caret are fewer fit (omega (arith, few)) held x far
+
+  carets-same : IsCaretList (kept_carets old kept) (length kept) list → (x : ℕ) → x < length kept → carets_of new x ≡ carets_of old (get_or kept x 0)
+  carets-same (no_list none empty) x less = no-carets (without (ap length empty)) x ∙ sym (none x less)
+  carets-same (a_list glyphs offsets there are some fewer fit same) x less = caret-there glyphs offsets there are fewer fit same x less
+
+  carets-past : IsCaretList (kept_carets old kept) (length kept) list → (x : ℕ) → length kept ≤ x → carets_of new x ≡ []
+  carets-past (no_list none empty) x far = no-carets (without (ap length empty)) x
+  carets-past (a_list glyphs offsets there are some fewer fit same) x far = caret-past glyphs offsets there are fewer fit same x far
+
+  list-zero : IsCaretList (kept_carets old kept) (length kept) list → ((x : ℕ) → x < length kept → carets_of old (get_or kept x 0) ≡ []) → word new 8 ≡ 0
+  list-zero (no_list none empty) never = caret-offset ∙ without (ap length empty)
+  list-zero (a_list glyphs offsets there are some fewer fit same) never =
+      (let empty = ap length (never (get_or glyphs 0 0) (are.fit 0 some)) in let has = (are.each 0 some).some in absurd (omega (arith, empty, has)))
+
   pub keeps-definitions : KeepsDefinitions old kept new
   keeps-definitions = record {
     version = (number 0 1 (omega arith) refl (omega arith), number 1 2 (omega arith) refl (omega arith));
-    only = (number 3 0 (omega arith) refl (omega arith), number 4 0 (omega arith) refl (omega arith));
+    only = number 3 0 (omega arith) refl (omega arith);
     classes = class-same;
     no_class = class-none;
     mark_classes = mark-same;
@@ -205,11 +252,14 @@ module _ (old kept new classes marks numbers bytes : List ℕ) (few : length kep
       | inl low ↦ in-read s k low ∙ no-member-of s low k far
       | inr past ↦ out-read new s k (let same = sets-count in omega (arith, same, past))
     ];
+    carets = carets-same are_carets;
+    no_caret = carets-past are_carets;
+    no_caret_list = list-zero are_carets;
   }
 
-pub definitions-joined : (count : ℕ) (classes marks : List ℕ) (sets : ℕ) (numbers bytes : List ℕ) →
-    (((((array_text (1 ∷ 2 ∷ 14 ∷ 0 ∷ 0 ∷ (20 + count * 2) ∷ (26 + count * 4) ∷ 1 ∷ 0 ∷ count ∷ []) ++ array_text classes)
+pub definitions-joined : (count caret : ℕ) (classes marks : List ℕ) (sets : ℕ) (numbers bytes : List ℕ) →
+    (((((array_text (1 ∷ 2 ∷ 14 ∷ 0 ∷ caret ∷ (20 + count * 2) ∷ (26 + count * 4) ∷ 1 ∷ 0 ∷ count ∷ []) ++ array_text classes)
     ++ array_text (1 ∷ 0 ∷ count ∷ [])) ++ array_text marks) ++ array_text (1 ∷ sets ∷ [])) ++ array_text numbers) ++ bytes
-    ≡ definitions_text count classes marks sets numbers bytes
+    ≡ definitions_text count caret classes marks sets numbers bytes
 unfolding definitions_text
-definitions-joined count classes marks sets numbers bytes = simp append_assoc
+definitions-joined count caret classes marks sets numbers bytes = simp append_assoc

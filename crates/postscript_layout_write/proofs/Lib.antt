@@ -33,6 +33,8 @@ pub mod RowKept
 pub mod TypedWriting
 pub mod TypedKept
 pub mod PositionKept
+pub mod CaretCollecting
+pub mod CaretReading
 pub mod DefinitionSets
 pub mod DefinitionsKept
 pub mod Longs

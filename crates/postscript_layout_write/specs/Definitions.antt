@@ -1,7 +1,8 @@
--- The glyph definitions of the GDEF table (OpenType 1.9, "GDEF - Glyph Definition Table"; ISO/IEC 14496-22, 6.3.2): glyph classes, mark attachment
--- classes and mark glyph sets.
-use Rattle.std.specs.Prelude.{◌≡◌, ℕ, Bool, false, ◌+◌, ◌*◌, ◌<◌, ◌≤◌, ◌==◌, ◌&&◌, List, is_some, length, nat_lt, slice_index, if◌then◌else◌}
+-- The glyph definitions of the GDEF table (OpenType 1.9, "GDEF - Glyph Definition Table"; ISO/IEC 14496-22, 6.3.2): glyph classes, ligature carets,
+-- mark attachment classes and mark glyph sets.
+use Rattle.std.specs.Prelude.{◌≡◌, ℕ, Bool, false, ◌+◌, ◌*◌, ◌<◌, ◌≤◌, ◌==◌, ◌&&◌, List, [], is_some, length, nat_lt, slice_index, if◌then◌else◌}
 use Rattle.postscript_layout.specs.Numbers.{long, word}
+use Rattle.postscript_layout_write.specs.Carets.{carets_of}
 use Rattle.postscript_layout_write.specs.Classes.{glyph_class}
 use Rattle.postscript_layout_write.specs.Ranges.{class_of, coverage_index}
 
@@ -25,11 +26,11 @@ covers gdef table offset glyph = if offset == 0 then false else is_some (coverag
 abbrev pub in_set : List ℕ → (set glyph : ℕ) → Bool
 in_set gdef set glyph = nat_lt set (sets_of gdef) && covers gdef (sets_at gdef) (long gdef (sets_at gdef + 4 + set * 4)) glyph
 
--- The new table has version 1.2, no attachment points and no carets. Each kept glyph has its classes and is in the same sets. Other numbers have no
--- classes and are in no set.
+-- The new table has version 1.2 and no attachment points, and no caret list if no kept glyph has carets. Each kept glyph has its classes and its carets,
+-- and is in the same sets. Other numbers have no classes and no carets, and are in no set.
 pub record KeepsDefinitions (old kept new : List ℕ) : Type 0 where
   pub version : (word new 0 ≡ 1) × (word new 2 ≡ 2)
-  pub only : (word new 6 ≡ 0) × (word new 8 ≡ 0)
+  pub only : word new 6 ≡ 0
   pub classes : (k : ℕ) → k < length kept → glyph_class new k ≡ glyph_class old (slice_index kept k)
   pub no_class : (k : ℕ) → length kept ≤ k → glyph_class new k ≡ 0
   pub mark_classes : (k : ℕ) → k < length kept → mark_class new k ≡ mark_class old (slice_index kept k)
@@ -37,3 +38,6 @@ pub record KeepsDefinitions (old kept new : List ℕ) : Type 0 where
   pub sets : sets_of new ≡ sets_of old
   pub members : (set k : ℕ) → k < length kept → in_set new set k ≡ in_set old set (slice_index kept k)
   pub no_member : (set k : ℕ) → length kept ≤ k → in_set new set k ≡ false
+  pub carets : (k : ℕ) → k < length kept → carets_of new k ≡ carets_of old (slice_index kept k)
+  pub no_caret : (k : ℕ) → length kept ≤ k → carets_of new k ≡ []
+  pub no_caret_list : ((k : ℕ) → k < length kept → carets_of old (slice_index kept k) ≡ []) → word new 8 ≡ 0

@@ -41,6 +41,8 @@ pub mod Scopes
 pub mod LeftPositions
 pub mod Attaching
 pub mod Typed
+pub mod Carets
+pub mod CaretLists
 pub mod Definitions
 pub mod MarkSets
 pub mod Features

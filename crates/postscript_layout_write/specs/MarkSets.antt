@@ -41,8 +41,8 @@ pub record PutsMembers (gdef : List ℕ) (set : ℕ) (kept old new : List ℕ) :
   pub bytes : new ≡ old ++ more
   pub has : HasMembers gdef set kept new (length old)
 
--- the table: its header, two lists of classes, and the sets
-unfoldable pub definitions_text : (count : ℕ) → (classes marks : List ℕ) → (sets : ℕ) → (numbers bytes : List ℕ) → List ℕ
-definitions_text count classes marks sets numbers bytes =
-    array_text (1 ∷ 2 ∷ 14 ∷ 0 ∷ 0 ∷ (20 + count * 2) ∷ (26 + count * 4) ∷ 1 ∷ 0 ∷ count ∷ []) ++ (array_text classes
+-- the table: its header with the offset of the caret list, two lists of classes, and the sets
+unfoldable pub definitions_text : (count carets : ℕ) → (classes marks : List ℕ) → (sets : ℕ) → (numbers bytes : List ℕ) → List ℕ
+definitions_text count carets classes marks sets numbers bytes =
+    array_text (1 ∷ 2 ∷ 14 ∷ 0 ∷ carets ∷ (20 + count * 2) ∷ (26 + count * 4) ∷ 1 ∷ 0 ∷ count ∷ []) ++ (array_text classes
     ++ (array_text (1 ∷ 0 ∷ count ∷ []) ++ (array_text marks ++ (array_text (1 ∷ sets ∷ []) ++ (array_text numbers ++ bytes)))))

@@ -1,4 +1,4 @@
-//! Writes a `GDEF` table with glyph classes, mark attachment classes and mark glyph sets.
+//! Writes a `GDEF` table with glyph classes, ligature carets, mark attachment classes and mark glyph sets.
 ghost use Rattle.std.specs.Prelude.{◌≡◌, ◌⊎◌, ◌+◌, ◌*◌, ◌^◌, ◌<◌, ◌≤◌, ◌++◌, ◌&&◌, [], ◌∷◌, length, nat_lt, IfErr, IfOk, OnOk};
 ghost use Rattle.postscript_layout_write.specs.Definitions.{KeepsDefinitions, covers as the_cover, in_set as the_membership, mark_class as the_class, sets_at as the_sets, sets_of as the_count};
 ghost use Rattle.postscript_layout_write.specs.MarkSets.{AreMarkClasses, AreMarkSets, AreMembers, PutsMembers};
@@ -6,6 +6,7 @@ ghost use Rattle.postscript_layout_write.specs.Refusals.{Fails, IsUsedUp};
 ghost use Rattle.postscript_layout_write.specs.Text.{array_text};
 ghost use Rattle.postscript_layout_write.specs.declared.error.Error.TheVariants as errors;
 
+use crate::carets::caret_list;
 use crate::classes::classes_of;
 use crate::error::{Error, Result};
 use crate::limit::pay;
@@ -196,24 +197,52 @@ fn mark_sets(
     Ok(MarkSets { numbers, bytes })
 }
 
-/// Appends the header, and the head of the first list of classes, for a number of glyphs.
-fn put_head(out: &mut Vec<u8>, count: u16) -> std::result::Result<(), AllocError>
+/// Returns the offset of a caret list that is at the end of a table, or 0 if it has no bytes.
+fn offset_of(list: &[u8], end: usize) -> Result<u16>
+    ensures none { IfOk result (λ offset. length list.now ≡ 0 → offset ≡ 0) }
+    ensures some { IfOk result (λ offset. 0 < length list.now → offset ≡ end) }
+    ensures small { IfOk result (λ offset. offset < 65536) }
+    ensures large { IfErr result (λ e. e ≡ errors.TooLarge) }
+{
+    if list.is_empty() {
+        return Ok(0);
+    }
+    if end > 65535 {
+        return Err(Error::TooLarge);
+    }
+    Ok(end as u16)
+}
+
+/// Appends the header with the offset of the caret list, and the head of the first list of classes, for a number of glyphs.
+fn put_head(out: &mut Vec<u8>, count: u16, carets: u16) -> std::result::Result<(), AllocError>
     requires { count ≤ 16377 }
-    ensures { OnOk result (out.new.items ≡ out.old.items ++ array_text (1 ∷ 2 ∷ 14 ∷ 0 ∷ 0 ∷ (20 + count * 2) ∷ (26 + count * 4) ∷ 1 ∷ 0 ∷ count ∷ [])) }
+    ensures { OnOk result (out.new.items ≡ out.old.items ++ array_text (1 ∷ 2 ∷ 14 ∷ 0 ∷ carets ∷ (20 + count * 2) ∷ (26 + count * 4) ∷ 1 ∷ 0 ∷ count ∷ [])) }
 {
     put_glyphs(
         out,
-        &[1, 2, 14, 0, 0, 20 + count * 2, 26 + count * 4, 1, 0, count],
+        &[
+            1,
+            2,
+            14,
+            0,
+            carets,
+            20 + count * 2,
+            26 + count * 4,
+            1,
+            0,
+            count,
+        ],
     )
 }
 
-/// Returns a `GDEF` table with the classes of the kept glyphs, and with mark attachment classes and mark glyph sets.
+/// Returns a `GDEF` table with the classes and carets of the kept glyphs, and with mark attachment classes and mark glyph sets.
 ///
 /// `kept` has the old numbers of the glyphs. The new number of a glyph is its index there. The new table has version 1.2.
 /// It has glyph classes, mark attachment classes, and as many mark glyph sets as the old one, with the kept glyphs of each.
+/// It has a caret list if a kept glyph has carets: coordinates and contour points, in the same order, without device tables.
 ///
-/// One unit of the limit is paid for each set, and for each kept glyph in each list of classes and in each set. One more is
-/// paid for each covered glyph and range that is looked at.
+/// One unit of the limit is paid for each set, and for each kept glyph in each list and in each set. One more is paid for
+/// each caret of a kept glyph, and for each covered glyph and range that is looked at.
 ///
 /// # Errors
 ///
@@ -227,7 +256,7 @@ pub fn glyph_definitions(
     kept: &[u16],
     limit: &mut u64,
 ) -> Result<Vec<u8>>
-    // Each kept glyph has its classes and is in the same sets, and no other glyph is.
+    // Each kept glyph has its classes and carets and is in the same sets, and no other glyph is.
     ensures kept { IfOk result (λ new. KeepsDefinitions gdef.now kept.now new.items) }
     // The limit never grows.
     ensures spends { limit.new ≤ limit.old }
@@ -242,13 +271,16 @@ pub fn glyph_definitions(
     let classes = classes_of(alloc, gdef, kept, limit)?;
     let marks = mark_classes_of(alloc, gdef, kept, limit)?;
     let sets = mark_sets(alloc, gdef, 4 + count * 4, kept, limit)?;
+    let carets = caret_list(alloc, gdef, kept, limit)?;
+    let offset = offset_of(&carets, 30 + n * 4 + count * 4 + sets.bytes.len())?;
     let mut out = Vec::new(alloc);
-    put_head(&mut out, n as u16)?;
+    put_head(&mut out, n as u16, offset)?;
     put_glyphs(&mut out, &classes)?;
     put_glyphs(&mut out, &[1, 0, n as u16])?;
     put_glyphs(&mut out, &marks)?;
     put_glyphs(&mut out, &[1, count as u16])?;
     put_glyphs(&mut out, &sets.numbers)?;
     out.extend_from_slice(&sets.bytes)?;
+    out.extend_from_slice(&carets)?;
     Ok(out)
 }

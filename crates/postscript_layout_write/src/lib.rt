@@ -1,6 +1,6 @@
 //! Writes OpenType layout tables for the glyphs of a subset, which have new numbers (OpenType 1.9; ISO/IEC 14496-22, 6). A
 //! `GPOS` table has adjustments of pairs (kerning) and of single glyphs, cursive attachment, marks, and contexts of these. A
-//! `GDEF` table has glyph classes, and classes and sets of marks. A `GSUB` table has substitutions.
+//! `GDEF` table has glyph classes, carets of ligatures, and classes and sets of marks. A `GSUB` table has substitutions.
 //!
 //! It is proved that each lookup of the new `GPOS` table adjusts each pair of kept glyphs exactly as the lookup of the
 //! same index of the old table, and no other pair (`KeepsKerning` in specs/Kerning.antt). The first subtable that applies
@@ -17,7 +17,8 @@
 //! specs/Ligatures.antt). A lookup has the contexts whose sets of glyphs all have kept glyphs, with the same actions
 //! (specs/PositionContexts.antt). With `flagged_positions`, lookups that use classes or sets of marks are kept too
 //! (`KeepsFlaggedPositions` in specs/Flags.antt). They need a `GDEF` table by `glyph_definitions`, in which each kept glyph
-//! has the same classes and is in the same sets (specs/Definitions.antt).
+//! has the same classes and is in the same sets (specs/Definitions.antt). There each kept glyph also has the same carets, in
+//! the same order (specs/Carets.antt).
 //!
 //! Each lookup of the new `GSUB` table has the rules of the old one whose glyphs are all kept, under new numbers and in the
 //! same order (`KeepsSubstitutions` in specs/Substituting.antt). A rule is the result of a single substitution, a sequence,
@@ -32,8 +33,8 @@
 //! call, which have to be chosen too, and the glyphs that all of these can make of given ones: the least lists that lead to
 //! no others (specs/Calls.antt, specs/Reached.antt). Text keeps to these glyphs (`laws::text_stays`).
 //!
-//! A reverse chaining subtable of a `GSUB` table keeps the glyphs that are kept with their substitutes, and the kept glyphs
-//! of its backtrack and its lookahead (specs/Reverses.antt). It is dropped if one of these sets is empty.
+//! A reverse chaining subtable of a `GSUB` table keeps a glyph if both the glyph and its substitute are kept. Its backtrack
+//! and its lookahead keep their kept glyphs (specs/Reverses.antt). It is dropped if one of these sets is empty.
 //!
 //! `with_features` returns such a table with only some of its features. The scripts and languages are the same, and the
 //! lookups have the same bytes (`HasOnlyFeatures` in specs/Features.antt).
@@ -48,7 +49,7 @@
 //!   extensions. Lookups that are not chosen have no subtables.
 //! - A lookup with a flag above bit 3, which uses a set or a class of marks, keeps its positions only by
 //!   `flagged_positions`, and rules and contexts only by `flagged_substitutions`.
-//! - Of `GDEF`, attachment points, carets and variations are dropped.
+//! - Attachment points, variations and caret values of unknown formats are dropped from `GDEF`.
 //! - An extension whose subtables have several types, which is malformed, keeps only its pairs if it has any. Otherwise it
 //!   keeps the subtables with the type of the first one.
 //! - Contour points, device tables, variation indexes and feature variations are dropped: the new table has version 1.0.
@@ -61,6 +62,7 @@
 mod anchors;
 mod applying;
 mod called;
+mod carets;
 mod cells;
 mod classes;
 mod context_rules;

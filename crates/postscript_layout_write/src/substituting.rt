@@ -460,8 +460,8 @@ fn written(
 /// are all kept: single, multiple, alternate and ligature substitutions. A chosen lookup of type 5 or 6 whose subtables all
 /// have format 1, 2 or 3 keeps the contexts whose sets of glyphs all have kept glyphs. It is written as a lookup of type 6,
 /// with contexts by sets of glyphs (format 3). A chosen lookup of type 8 keeps the subtables whose sets of glyphs all have
-/// kept glyphs, of the input only those whose substitutes are kept. All other lookups have no subtables, and neither has a
-/// lookup with a flag above bit 3.
+/// kept glyphs. A glyph of the input is kept only with its substitute. All other lookups have no subtables, and neither has
+/// a lookup with a flag above bit 3.
 ///
 /// One unit of the limit is paid for each language system, script, feature and lookup, and for each chosen lookup with which
 /// a lookup is compared. One more is paid for each kept glyph in each lookup that is kept, and for each subtable, covered
