@@ -9,6 +9,8 @@ mod features;
 #[cfg(test)]
 mod files;
 #[cfg(test)]
+mod kern;
+#[cfg(test)]
 mod shaping;
 #[cfg(test)]
 mod writing;

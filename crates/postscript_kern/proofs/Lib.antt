@@ -1,0 +1,4 @@
+pub mod Firsts
+pub mod Renumbered
+pub mod Collecting
+pub mod Listing
