@@ -1,0 +1,4 @@
+pub mod Tables
+pub mod Sequences
+pub mod Said
+pub mod Refusals

@@ -1,0 +1,11 @@
+//! Unicode variation sequences: the `cmap` subtable of format 14 (OpenType 1.9, "cmap").
+#![tactic(auto)]
+
+mod arrays;
+mod error;
+mod numbers;
+mod said;
+mod sequences;
+
+pub use error::{Error, Result};
+pub use sequences::{Sequence, Sequences};
