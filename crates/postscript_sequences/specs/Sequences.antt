@@ -13,16 +13,18 @@ pub record IsRecord (table : List ℕ) (selector i : ℕ) : Type 0 where
   pub is : selector_at table i ≡ selector
   pub before : (k : ℕ) → k < i → selector_at table k < selector
 
--- the range of a Default UVS table that contains a character
+-- the range of a Default UVS table that contains a character, which has 24 bits
 pub record IsRange (table : List ℕ) (offset char k : ℕ) : Type 0 where
   pub listed : k < ranges_of table offset
+  pub small : char < 0x1000000
   pub from : first_at table offset k ≤ char
   pub to : char ≤ last_at table offset k
   pub before : (j : ℕ) → j < k → last_at table offset j < char
 
--- the mapping of a character in a Non-Default UVS table
+-- the mapping of a character in a Non-Default UVS table, which has 24 bits
 pub record IsMapping (table : List ℕ) (offset char k : ℕ) : Type 0 where
   pub listed : k < mappings_of table offset
+  pub small : char < 0x1000000
   pub is : char_at table offset k ≡ char
   pub before : (j : ℕ) → j < k → char_at table offset j < char
 

@@ -91,7 +91,8 @@ fn last(table: &[u8], offset: usize, k: usize) -> usize
 fn mapped(table: &[u8], offset: usize, k: usize) -> usize
     requires offset { offset < 2 ^ 32 }
     requires listed { k < 2 ^ 32 }
-    ensures { result ≡ char_at table.now offset k }
+    ensures exact { result ≡ char_at table.now offset k }
+    ensures small { result < 2 ^ 24 }
 {
     number(table, offset + 4 + k * 5, 3)
 }
@@ -143,7 +144,7 @@ pub(crate) fn is_in_range(table: &[u8], offset: usize, k: usize, char: usize) ->
     requires place { IsPlace (last_at table.now offset) (ranges_of table.now offset) char k }
     ensures { MatchBool result (IsRange table.now offset char k) ((j : ℕ) → IsRange table.now offset char j → ⊥) }
 {
-    k < ranges(table, offset) && first(table, offset, k) <= char
+    char < 0x1000000 && k < ranges(table, offset) && first(table, offset, k) <= char
 }
 
 /// Returns the glyph of the mapping at the place of a character, if it is the mapping of that character.

@@ -4,8 +4,9 @@
 mod arrays;
 mod error;
 mod numbers;
+mod parts;
 mod said;
 mod sequences;
 
 pub use error::{Error, Result};
-pub use sequences::{Sequence, Sequences};
+pub use sequences::{Sequence, Sequences, is_ascending};

@@ -1,6 +1,6 @@
 //! Numbers at an offset, and the limit of a call.
 ghost use Rattle.std.specs.Prelude.{◌≡◌, ◌+◌, ◌*◌, ◌^◌, ◌<◌, ◌≤◌, IfErr, length};
-ghost use Rattle.postscript_sequences.specs.Refusals.{IsUsedUp};
+ghost use Rattle.postscript_sequences.specs.Refusals.{Fails};
 ghost use Rattle.postscript_sequences.specs.Tables.{number as the_number};
 
 use crate::error::{Error, Result};
@@ -25,7 +25,7 @@ pub(crate) fn number(table: &[u8], offset: usize, size: usize) -> usize
 /// Pays some units from the limit. If there are fewer, nothing of the limit is left.
 pub(crate) fn pay(limit: &mut u64, units: usize) -> Result<()>
     ensures spends { limit.new ≤ limit.old }
-    ensures why { IfErr result (λ e. IsUsedUp limit.new e) }
+    ensures why { IfErr result (λ e. Fails limit.new e) }
 {
     let units = units as u64;
     if *limit < units {

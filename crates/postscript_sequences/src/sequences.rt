@@ -1,11 +1,16 @@
 //! Variation sequences of a font.
-ghost use Rattle.std.specs.Prelude.{◌≡◌, ℕ, ◌+◌, ◌<◌, ◌≤◌, length, drop, MatchOption};
+ghost use Rattle.std.specs.Prelude.{◌≡◌, ◌↔◌, ℕ, ◌+◌, ◌<◌, ◌≤◌, length, drop, IfErr, IfOk, IsTrue, MatchOption};
+ghost use Rattle.std.specs.List.{Contains};
+ghost use Rattle.postscript_sequences.specs.Refusals.{Fails};
 ghost use Rattle.postscript_sequences.specs.Tables.{format_of};
-ghost use Rattle.postscript_sequences.specs.Sequences.{AreFound, HasNone, IsOfFormat, IsSubtable, Says, offset_at, table_of};
+ghost use Rattle.postscript_sequences.specs.Sequences.{AreAscending, AreFound, HasNone, IsGlyphOf, IsOfFormat, IsSubtable, Says, offset_at, table_of};
 
 use crate::arrays::record_of;
+use crate::error::Result;
 use crate::numbers::number;
+use crate::parts::{parts_of, put_glyphs};
 use crate::said::{Cursor, said};
+use std::alloc::Global;
 
 /// What a font says of a sequence of a character and a variation selector.
 #[derive(Clone, Copy, Debug, Drop, PartialEq, Eq)]
@@ -78,6 +83,46 @@ impl<'l> Sequences<'l> {
         };
         said(self.table, i, &mut cursor, char as usize)
     }
+
+    /// Returns the glyphs that sequences of some characters have, with any variation selector. A subset that has these
+    /// characters needs them. Glyphs may be there several times.
+    ///
+    /// It costs a unit for each record and for each of its characters, and one for each range and mapping that is passed.
+    ///
+    /// # Errors
+    ///
+    /// - `Memory`: out of memory.
+    /// - `TooLong`: the search costs more than the limit.
+    #[tactic(auto, using(crate::proofs::Glyphs::glyphs_are))]
+    pub fn glyphs_of(&self, alloc: Global, chars: &[u32], limit: &mut u64) -> Result<Vec<u16>>
+        requires { AreAscending chars.now }
+        // The list has exactly the glyphs of sequences of these characters that are not default ones.
+        ensures exact { IfOk result (λ glyphs. (glyph : ℕ) → Contains glyphs.items glyph ↔ IsGlyphOf (table_of self.now) chars.now glyph) }
+        // The limit never grows.
+        ensures spends { limit.new ≤ limit.old }
+        // An error is `Memory`, or `TooLong` with nothing left of the limit.
+        ensures why { IfErr result (λ e. Fails limit.new e) }
+    {
+        let parts = parts_of(alloc, self.table, chars, limit)?;
+        let mut glyphs = Vec::new(alloc);
+        for part in &parts {
+            put_glyphs(&mut glyphs, &part.mapped)?;
+        }
+        Ok(glyphs)
+    }
+}
+
+/// Returns whether characters are in ascending order, without duplicates, as [`Sequences::glyphs_of`] needs them.
+pub fn is_ascending(chars: &[u32]) -> bool
+    // True exactly if each character is lower than all later ones.
+    ensures { IsTrue result ↔ AreAscending chars.now }
+{
+    for i in 1..chars.len() {
+        if chars[i] <= chars[i - 1] {
+            return false;
+        }
+    }
+    true
 }
 
 /// Returns the offset of the subtable of a record, if it has platform 0, encoding 5 and format 14.
