@@ -5,8 +5,10 @@ mod arrays;
 mod error;
 mod numbers;
 mod parts;
+mod renumbering;
 mod said;
 mod sequences;
+mod writing;
 
 pub use error::{Error, Result};
 pub use sequences::{Sequence, Sequences, is_ascending};

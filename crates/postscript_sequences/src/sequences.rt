@@ -1,15 +1,18 @@
 //! Variation sequences of a font.
 ghost use Rattle.std.specs.Prelude.{◌≡◌, ◌↔◌, ℕ, ◌+◌, ◌<◌, ◌≤◌, length, drop, IfErr, IfOk, IsTrue, MatchOption};
 ghost use Rattle.std.specs.List.{Contains};
-ghost use Rattle.postscript_sequences.specs.Refusals.{Fails};
+ghost use Rattle.postscript_sequences.specs.Refusals.{Fails, KeepFails};
+ghost use Rattle.postscript_sequences.specs.Keeps.{Keeps};
 ghost use Rattle.postscript_sequences.specs.Tables.{format_of};
 ghost use Rattle.postscript_sequences.specs.Sequences.{AreAscending, AreFound, HasNone, IsGlyphOf, IsOfFormat, IsSubtable, Says, offset_at, table_of};
 
 use crate::arrays::record_of;
-use crate::error::Result;
+use crate::error::{Error, Result};
 use crate::numbers::number;
 use crate::parts::{parts_of, put_glyphs};
+use crate::renumbering::{GLYPHS, kept_parts, numbers_of};
 use crate::said::{Cursor, said};
+use crate::writing::written;
 use std::alloc::Global;
 
 /// What a font says of a sequence of a character and a variation selector.
@@ -109,6 +112,43 @@ impl<'l> Sequences<'l> {
             put_glyphs(&mut glyphs, &part.mapped)?;
         }
         Ok(glyphs)
+    }
+
+    /// Returns a new subtable with the sequences of some characters, under new glyph numbers.
+    ///
+    /// `glyphs` has the old glyph of each new glyph. A sequence is dropped if its glyph is not kept, so keep the glyphs of
+    /// [`Sequences::glyphs_of`]. Selectors, characters and ranges are in ascending order, and each range has one character.
+    /// A table without sequences has 10 bytes and no record.
+    ///
+    /// It costs as much as `glyphs_of`.
+    ///
+    /// # Errors
+    ///
+    /// - `Memory`: out of memory.
+    /// - `TooLong`: the search costs more than the limit.
+    /// - `TooLarge`: there are more than 65,536 glyphs, or the new table has 4,294,967,296 bytes or more.
+    pub fn kept(
+        &self,
+        alloc: Global,
+        chars: &[u32],
+        glyphs: &[u16],
+        limit: &mut u64,
+    ) -> Result<Vec<u8>>
+        requires { AreAscending chars.now }
+        // The new table has exactly the sequences of these characters whose glyphs are kept, under new numbers.
+        ensures exact { IfOk result (λ new. Keeps (table_of self.now) chars.now glyphs.now new.items) }
+        // The limit never grows.
+        ensures spends { limit.new ≤ limit.old }
+        // `TooLong` leaves nothing of the limit.
+        ensures why { IfErr result (λ e. KeepFails limit.new e) }
+    {
+        if glyphs.len() > GLYPHS {
+            return Err(Error::TooLarge);
+        }
+        let parts = parts_of(alloc, self.table, chars, limit)?;
+        let numbers = numbers_of(alloc, glyphs)?;
+        let kept = kept_parts(alloc, glyphs, &numbers, &parts)?;
+        written(alloc, &kept)
     }
 }
 
