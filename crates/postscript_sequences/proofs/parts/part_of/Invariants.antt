@@ -1,0 +1,15 @@
+use Rattle.std.proofs.Common.{◌≡◌, ℕ, ◌<◌, ◌≤◌, length, get_or, take}
+use Rattle.postscript_sequences.specs.Parts.{AreSaid}
+use Rattle.postscript_sequences.specs.Refusals.{Fails}
+use Rattle.postscript_sequences.specs.Said.{IsBehind}
+use Rattle.postscript_sequences.specs.Tables.{selector_at}
+use Rattle.postscript_sequences.proofs.parts.part_of.Given as goal
+
+-- the part has the characters so far, and the cursor is not past those that are left
+abbrev pub invariant-loop-char : goal.invariant-loop-char
+invariant-loop-char l = record {
+  spends : l.limit ≤ l.fn.limit;
+  selector : l.part.selector ≡ selector_at l.table l.i;
+  said : AreSaid l.table l.i (take l.char-index l.chars) l.part.defaults.items l.part.mapped.items;
+  behind : (k : ℕ) → l.char-index ≤ k → k < length l.chars → IsBehind l.table l.i l.cursor (get_or l.chars k 0);
+}

@@ -1,0 +1,10 @@
+pub mod Tables
+pub mod Sequences
+pub mod Said
+pub mod Refusals
+pub mod Parts
+pub mod Numbers
+pub mod Keeping
+pub mod Text
+pub mod Rows
+pub mod Keeps
