@@ -213,7 +213,7 @@ fn offset_of(list: &[u8], end: usize) -> Result<u16>
     Ok(end as u16)
 }
 
-/// Appends the header with the offset of the caret list, and the head of the first list of classes, for a number of glyphs.
+/// Appends the header for a number of glyphs, with the offset of the caret list, and the head of the list of classes.
 fn put_head(out: &mut Vec<u8>, count: u16, carets: u16) -> std::result::Result<(), AllocError>
     requires { count ≤ 16377 }
     ensures { OnOk result (out.new.items ≡ out.old.items ++ array_text (1 ∷ 2 ∷ 14 ∷ 0 ∷ carets ∷ (20 + count * 2) ∷ (26 + count * 4) ∷ 1 ∷ 0 ∷ count ∷ [])) }
@@ -235,11 +235,11 @@ fn put_head(out: &mut Vec<u8>, count: u16, carets: u16) -> std::result::Result<(
     )
 }
 
-/// Returns a `GDEF` table with the classes and carets of the kept glyphs, and with mark attachment classes and mark glyph sets.
+/// Returns a `GDEF` table with the classes and carets of the kept glyphs, and with classes and sets of marks.
 ///
 /// `kept` has the old numbers of the glyphs. The new number of a glyph is its index there. The new table has version 1.2.
 /// It has glyph classes, mark attachment classes, and as many mark glyph sets as the old one, with the kept glyphs of each.
-/// It has a caret list if a kept glyph has carets: coordinates and contour points, in the same order, without device tables.
+/// It has a caret list if a kept glyph has carets. These are in the same order and have no device tables.
 ///
 /// One unit of the limit is paid for each set, and for each kept glyph in each list and in each set. One more is paid for
 /// each caret of a kept glyph, and for each covered glyph and range that is looked at.
