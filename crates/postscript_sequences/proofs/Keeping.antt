@@ -14,7 +14,7 @@ use Rattle.postscript_sequences.specs.declared.parts.Part.{Part}
 use Rattle.postscript_sequences.specs.declared.writing.Row.{Row}
 use Rattle.postscript_sequences.proofs.Firsts.{number_small}
 use Rattle.postscript_sequences.proofs.Glyphs.{counts_record, default_there, glyph_there, none_there, part_there, record_counts, there_default, there_glyph, there_part}
-use Rattle.postscript_sequences.proofs.Kept.{defaults_rise, kept_rises, kept_there, mapped_rise, part_row, parts_rise, renumbered_rises, renumbered_there, row_part, rows_rise, there_kept, there_renumbered}
+use Rattle.postscript_sequences.proofs.Kept.{defaults_rise, kept_rises, kept_some, kept_there, mapped_rise, part_row, parts_rise, renumbered_rises, renumbered_there, row_part, rows_rise, there_kept, there_renumbered}
 use Rattle.postscript_sequences.proofs.Reading.{AreSmall, MappedSmall, holds_first, holds_item, holds_room, holds_second, length16, length24, length32, length_head, length_items, length_row, mapping_there, number16, number24, number32, range_there, there_mapping, there_range}
 use Rattle.postscript_sequences.proofs.Rising.{Rises, rises_from}
 
@@ -224,6 +224,21 @@ old_record : (table chars glyphs : List ℕ) (own : Part) → (of : IsOf table c
 old_record table chars glyphs own of selector is =
     counts_record table selector of.i of.listed of.counts (sym of.is.selector ∙ sym of.renumbered.selector ∙ is)
 
+-- without entries a table is absent
+at_none : {X : Type 0} (items : List X) (text bytes : List ℕ) (offset : ℕ) → IsAt items text bytes offset → offset ≡ 0 → items ≡ []
+at_none items text bytes offset (absent_at none _) start = none
+at_none items text bytes offset (there_at few some small holds) start = absurd (omega (arith, some, start))
+
+-- each record has a table
+record_filled : (table chars glyphs : List ℕ) (old new : List Part) (bytes : List ℕ) → Given table chars glyphs old new bytes → (i : ℕ) →
+    i < records_of bytes → default_at bytes i ≡ 0 → other_at bytes i ≡ 0 → ⊥
+record_filled table chars glyphs old new bytes g i less a b =
+    let r = record_own new bytes g.written g.well i less in
+    kept_some glyphs old new g.kept r.0 r.1.there (record {
+      defaults = at_none _ _ bytes (default_at bytes i) r.1.defaults a;
+      mapped = at_none _ _ bytes (other_at bytes i) r.1.mapped b;
+    })
+
 -- what the new table says, the old one says
 default_back : (table chars glyphs : List ℕ) (old new : List Part) (bytes : List ℕ) → Given table chars glyphs old new bytes →
     (char selector : ℕ) → IsDefault bytes char selector → Contains chars char × IsDefault table char selector
@@ -309,6 +324,7 @@ keeps table chars glyphs old new bytes ascending few are chosen written =
       format = format_is new bytes written;
       size = size_is new bytes written;
       order = g.rise;
+      filled = λ i less a b. record_filled table chars glyphs old new bytes g i less a b;
       defaults = λ char selector. (
         λ h. default_back table chars glyphs old new bytes g char selector h,
         λ h. default_on table chars glyphs old new bytes g char selector h.0 h.1,

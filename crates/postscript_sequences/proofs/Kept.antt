@@ -77,6 +77,15 @@ kept_there glyphs _ _ (keeping.kept old new one last are is some) own h = elim (
 kept_there glyphs _ _ (keeping.dropped old new one last are is none) own h =
     let w = kept_there glyphs old new are own h in (w.0, Contains-append_left old (one ∷ []) w.0 w.1, w.2)
 
+-- each kept part has sequences
+pub kept_some : (glyphs : List ℕ) (old new : List Part) → AreKept glyphs old new → (own : Part) → Contains new own → IsEmpty own → ⊥
+kept_some glyphs _ _ keeping.nothing own h none = none_there own h
+kept_some glyphs _ _ (keeping.kept old new one last are is some) own h none = elim (Contains-push_cases new last own h) [
+  | inl before ↦ kept_some glyphs old new are own before none
+  | inr same ↦ some (subst (λ (x : Part). IsEmpty x) (sym same) none)
+]
+kept_some glyphs _ _ (keeping.dropped old new one last are is empty) own h none = kept_some glyphs old new are own h none
+
 pub there_kept : (glyphs : List ℕ) (old new : List Part) → AreKept glyphs old new → (one : Part) → Contains old one →
     (own : Part) × IsRenumbered glyphs one own × (Contains new own ⊎ IsEmpty own)
 there_kept glyphs _ _ keeping.nothing one h = absurd (none_there one h)

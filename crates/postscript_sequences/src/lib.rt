@@ -12,7 +12,8 @@
 //!   `get` returns what the subtable says of the sequence (`IsDefault` and `IsMapped` in specs/Sequences.antt);
 //! - `glyphs_of` returns exactly the glyphs of the sequences of some characters, with any selector;
 //! - the table of `kept` says of each sequence of these characters what the old one says, under new glyph numbers, and has
-//!   no other sequences (`Keeps` in specs/Keeps.antt). A sequence is dropped if its glyph is not kept;
+//!   no other sequences (`Keeps` in specs/Keeps.antt). A sequence is dropped if its glyph is not kept, and a record if it
+//!   has no sequences left;
 //! - each call is safe and ends, on all bytes. `glyphs_of` and `kept` keep to a limit, and allocate nothing by the counts
 //!   that a table claims.
 //!
