@@ -1,9 +1,9 @@
 -- The parts of records, one character and one record after the other.
-use Rattle.std.proofs.Common.{◌≡◌, ℕ, ◌+◌, ◌<◌, ◌≤◌, List, [], ◌∷◌, ◌++◌, length, get_or, take, arith, below_more, refl, sym, subst}
+use Rattle.std.proofs.Common.{◌≡◌, ℕ, ◌+◌, ◌<◌, ◌≤◌, List, [], ◌∷◌, ◌++◌, length, get_or, take, arith, below_more, sym, subst}
 use Rattle.std.specs.Prelude.{Option, None, Some}
 use Rattle.std.proofs.lemmas.List.{take_more}
-use Rattle.postscript_sequences.specs.Parts.{AreParts, AreSaid, Counts, IsPart, IsPut, default, glyph, neither, no_part, nothing, part, skipped}
-use Rattle.postscript_sequences.specs.Said.{IsBehind, IsBelow, Tells}
+use Rattle.postscript_sequences.specs.Parts.{AreParts, AreSaid, IsPart, IsPut, default, glyph, neither, no_part, part, skipped}
+use Rattle.postscript_sequences.specs.Said.{IsBehind, Tells}
 use Rattle.postscript_sequences.specs.Tables.{selector_at}
 use Rattle.postscript_sequences.specs.declared.parts.Part.{Part}
 use Rattle.postscript_sequences.specs.declared.said.Cursor.{Cursor}

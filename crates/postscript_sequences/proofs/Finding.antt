@@ -1,9 +1,9 @@
 -- What a record says of a character is what the table says of the sequence.
-use Rattle.std.proofs.Common.{◌≡◌, ℕ, ◌<◌, ◌≤◌, List, arith, sym, subst, inl, inr}
+use Rattle.std.proofs.Common.{◌≡◌, ℕ, ◌<◌, ◌≤◌, List, arith, subst, inl, inr}
 use Rattle.std.specs.Prelude.{MatchOption, Option, None, Some}
 use Rattle.std.proofs.lemmas.Bool.{cases_lt}
 use Rattle.postscript_sequences.specs.Tables.{selector_at, char_at}
-use Rattle.postscript_sequences.specs.Sequences.{HasDefault, HasGlyph, HasNone, IsDefault, IsMapped, IsMapping, IsRecord, Says}
+use Rattle.postscript_sequences.specs.Sequences.{HasDefault, HasGlyph, HasNone, IsMapping, IsRecord, Says}
 use Rattle.postscript_sequences.specs.Said.{Tells}
 use Rattle.postscript_sequences.specs.declared.sequences.Sequence.{Sequence}
 use Rattle.postscript_sequences.specs.declared.sequences.Sequence.TheVariants.{Default, Glyph}

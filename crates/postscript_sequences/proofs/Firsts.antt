@@ -1,5 +1,5 @@
 -- New numbers of glyphs are indices of the kept ones.
-use Rattle.std.proofs.Common.{◌≡◌, ℕ, zero, suc, ◌+◌, ◌<◌, ◌==◌, List, length, get_or, arith, Bool, true, false}
+use Rattle.std.proofs.Common.{◌≡◌, ℕ, zero, suc, ◌<◌, ◌==◌, List, length, get_or, arith, Bool, true, false}
 use Rattle.std.specs.Prelude.{Option, None, Some, nat_eq, if◌then◌else◌}
 use Rattle.postscript_sequences.specs.Numbers.{first_some, new_number, or_else}
 

@@ -1,12 +1,12 @@
 -- The sequences in the parts of a table are those of the table.
-use Rattle.std.proofs.Common.{◌≡◌, ◌⊎◌, ℕ, zero, suc, ◌+◌, ◌<◌, ◌≤◌, List, [], ◌∷◌, ◌++◌, length, append-nil, drop, get_or, map, flat_map, inl, inr, arith, refl, sym, ap, subst, ◌∙◌}
+use Rattle.std.proofs.Common.{◌≡◌, ◌⊎◌, ℕ, zero, suc, ◌<◌, ◌≤◌, List, [], ◌∷◌, ◌++◌, length, append-nil, drop, map, flat_map, inl, inr, arith, refl, sym, ap, subst, ◌∙◌}
 use Rattle.std.specs.Prelude.{◌↔◌}
 use Rattle.std.specs.List.{Contains}
 use Rattle.std.proofs.lemmas.Bool.{cases_lt}
 use Rattle.std.proofs.lemmas.List.{at_drop_all}
 use Rattle.std.proofs.lemmas.List.Elements.{Contains-append_cases, Contains-append_left, Contains-append_right, Contains-push, Contains-push_cases}
 use Rattle.postscript_sequences.specs.Parts.{AreParts, AreSaid, Counts, IsPart, default, glyph, glyphs_in, neither, no_part, nothing, part, skipped}
-use Rattle.postscript_sequences.specs.Sequences.{HasDefault, HasGlyph, IsDefault, IsGlyphOf, IsMapped, IsRecord}
+use Rattle.postscript_sequences.specs.Sequences.{HasDefault, HasGlyph, IsGlyphOf, IsRecord}
 use Rattle.postscript_sequences.specs.Tables.{glyph_at, other_at, records_of, selector_at}
 use Rattle.postscript_sequences.specs.declared.parts.Part.{Part}
 use Rattle.postscript_sequences.proofs.Finding.{same_mapping}

@@ -1,20 +1,20 @@
 -- A subtable that is written has the sequences of the old one.
-use Rattle.std.proofs.Common.{◌≡◌, ◌⊎◌, ℕ, ◌+◌, ◌-◌, ◌*◌, ◌/◌, ◌<◌, ◌≤◌, List, [], ◌∷◌, ◌++◌, length, length-append, get_or, flat_map, min, arith, refl, sym, ap, subst, ◌∙◌, inl, inr}
-use Rattle.std.specs.Prelude.{◌↔◌, Some}
+use Rattle.std.proofs.Common.{◌≡◌, ℕ, ◌+◌, ◌*◌, ◌<◌, ◌≤◌, List, [], ◌++◌, length, get_or, flat_map, arith, refl, sym, subst, ◌∙◌, inl, inr}
+use Rattle.std.specs.Prelude.{Some}
 use Rattle.std.specs.List.{Contains}
-use Rattle.postscript_sequences.specs.Keeping.{AreKept, IsEmpty, IsRenumbered}
+use Rattle.postscript_sequences.specs.Keeping.{AreKept, IsRenumbered}
 use Rattle.postscript_sequences.specs.Keeps.{IsMappedTo, Keeps}
 use Rattle.postscript_sequences.specs.Numbers.{new_number}
 use Rattle.postscript_sequences.specs.Parts.{AreParts, Counts, IsPart}
 use Rattle.postscript_sequences.specs.Rows.{Holds, IsAt, IsRowOf, IsWritten, absent_at, there_at}
-use Rattle.postscript_sequences.specs.Sequences.{AreAscending, HasDefault, HasGlyph, IsDefault, IsMapped, IsMapping, IsRange, IsRecord}
-use Rattle.postscript_sequences.specs.Tables.{default_at, format_of, glyph_at, length_of, number, other_at, records_of, selector_at}
+use Rattle.postscript_sequences.specs.Sequences.{AreAscending, HasDefault, HasGlyph, IsDefault, IsMapped, IsRecord}
+use Rattle.postscript_sequences.specs.Tables.{default_at, format_of, length_of, number, other_at, records_of, selector_at}
 use Rattle.postscript_sequences.specs.Text.{defaults_text, head_text, mapped_text, row_text, uint16, uint24, uint32}
 use Rattle.postscript_sequences.specs.declared.parts.Part.{Part}
 use Rattle.postscript_sequences.specs.declared.writing.Row.{Row}
 use Rattle.postscript_sequences.proofs.Firsts.{number_small}
 use Rattle.postscript_sequences.proofs.Glyphs.{counts_record, default_there, glyph_there, none_there, part_there, record_counts, there_default, there_glyph, there_part}
-use Rattle.postscript_sequences.proofs.Kept.{defaults_rise, kept_rises, kept_there, mapped_rise, part_row, parts_rise, renumbered_rises, renumbered_there, row_part, rows_rise, same_count, there_kept, there_renumbered}
+use Rattle.postscript_sequences.proofs.Kept.{defaults_rise, kept_rises, kept_some, kept_there, mapped_rise, part_row, parts_rise, renumbered_rises, renumbered_there, row_part, rows_rise, there_kept, there_renumbered}
 use Rattle.postscript_sequences.proofs.Reading.{AreSmall, MappedSmall, holds_first, holds_item, holds_room, holds_second, length16, length24, length32, length_head, length_items, length_row, mapping_there, number16, number24, number32, range_there, there_mapping, there_range}
 use Rattle.postscript_sequences.proofs.Rising.{Rises, rises_from}
 
@@ -139,16 +139,16 @@ own_row parts bytes w k less own there well is =
     let r : Row = get_or w.rows k no_row in
     let text : Holds (row_text r) bytes (10 + k * 11) = row_holds parts bytes w k no_row less in
     let rest : Holds (uint32 r.defaults ++ uint32 r.mapped) bytes (10 + k * 11 + 3) =
-        holds_second (uint24 r.selector) (uint32 r.defaults ++ uint32 r.mapped) 3 (length24 r.selector) text in
+    holds_second (uint24 r.selector) (uint32 r.defaults ++ uint32 r.mapped) 3 (length24 r.selector) text in
     let small : r.selector < 16777216 = let a = is.selector in let b = well.selector in omega (arith, a, b) in
     let selector : selector_at bytes k ≡ r.selector = number24 r.selector small
-        (holds_first (uint24 r.selector) (uint32 r.defaults ++ uint32 r.mapped) text) in
+    (holds_first (uint24 r.selector) (uint32 r.defaults ++ uint32 r.mapped) text) in
     let defaults : default_at bytes k ≡ r.defaults = number32 r.defaults (at_small _ _ bytes r.defaults is.defaults)
-        (holds_first (uint32 r.defaults) (uint32 r.mapped) rest) in
+    (holds_first (uint32 r.defaults) (uint32 r.mapped) rest) in
     let next : 10 + k * 11 + 3 + 4 ≡ 10 + k * 11 + 7 = omega arith in
     let mapped : other_at bytes k ≡ r.mapped = number32 r.mapped (at_small _ _ bytes r.mapped is.mapped)
-        (subst (λ n. Holds (uint32 r.mapped) bytes n) next
-        (holds_second (uint32 r.defaults) (uint32 r.mapped) 4 (length32 r.defaults) rest)) in
+    (subst (λ n. Holds (uint32 r.mapped) bytes n) next
+    (holds_second (uint32 r.defaults) (uint32 r.mapped) 4 (length32 r.defaults) rest)) in
     record {
       listed = let e = records_are parts bytes w in omega (arith, e, less);
       there = there;
@@ -200,7 +200,7 @@ given : (table chars glyphs : List ℕ) (old new : List Part) (bytes : List ℕ)
     AreParts table chars (records_of table) old → AreKept glyphs old new → IsWritten new bytes → Given table chars glyphs old new bytes
 given table chars glyphs old new bytes ascending few are chosen written =
     let well : (own : Part) → Contains new own → IsWell own =
-        λ own there. well_of table chars glyphs own ascending few (own_of table chars glyphs old new are chosen own there) in
+    λ own there. well_of table chars glyphs own ascending few (own_of table chars glyphs old new are chosen own there) in
     record {
       are = are;
       kept = chosen;
@@ -223,6 +223,21 @@ old_record : (table chars glyphs : List ℕ) (own : Part) → (of : IsOf table c
     IsRecord table selector of.i
 old_record table chars glyphs own of selector is =
     counts_record table selector of.i of.listed of.counts (sym of.is.selector ∙ sym of.renumbered.selector ∙ is)
+
+-- without entries a table is absent
+at_none : {X : Type 0} (items : List X) (text bytes : List ℕ) (offset : ℕ) → IsAt items text bytes offset → offset ≡ 0 → items ≡ []
+at_none items text bytes offset (absent_at none _) start = none
+at_none items text bytes offset (there_at few some small holds) start = absurd (omega (arith, some, start))
+
+-- each record has a table
+record_filled : (table chars glyphs : List ℕ) (old new : List Part) (bytes : List ℕ) → Given table chars glyphs old new bytes → (i : ℕ) →
+    i < records_of bytes → default_at bytes i ≡ 0 → other_at bytes i ≡ 0 → ⊥
+record_filled table chars glyphs old new bytes g i less a b =
+    let r = record_own new bytes g.written g.well i less in
+    kept_some glyphs old new g.kept r.0 r.1.there (record {
+      defaults = at_none _ _ bytes (default_at bytes i) r.1.defaults a;
+      mapped = at_none _ _ bytes (other_at bytes i) r.1.mapped b;
+    })
 
 -- what the new table says, the old one says
 default_back : (table chars glyphs : List ℕ) (old new : List Part) (bytes : List ℕ) → Given table chars glyphs old new bytes →
@@ -285,16 +300,19 @@ mapped_on table chars glyphs old new bytes g char selector number h =
       | inl there ↦
           let r = new_record table chars glyphs old new bytes g p.0 q.0 there q.1 i selector p.2 is in
           let well = g.well q.0 there in
-          let m = there_mapping bytes q.0.mapped.items (other_at bytes r.0) well.mapped well.mapped_rise r.2.mapped char number has in
-          (r.0, r.1, record {
-            not_default = λ d.
-                let again = range_there bytes q.0.defaults.items (default_at bytes r.0) well.defaults r.2.defaults char d.0 d.1 in
-                own_glyph.not_default (default_there table i chars p.0.defaults.items p.0.mapped.items p.2.said char
-                (subst (λ xs. Contains xs char) q.1.defaults again)).1;
-            k = m.0;
-            mapping = m.1;
-            is = m.2;
-          })
+          let m = there_mapping bytes q.0.mapped.items (other_at bytes r.0) well.mapped well.mapped_rise r.2.mapped char number has in (
+            r.0,
+            r.1,
+            record {
+              not_default = λ d.
+                  let again = range_there bytes q.0.defaults.items (default_at bytes r.0) well.defaults r.2.defaults char d.0 d.1 in
+                  own_glyph.not_default (default_there table i chars p.0.defaults.items p.0.mapped.items p.2.said char
+                  (subst (λ xs. Contains xs char) q.1.defaults again)).1;
+              k = m.0;
+              mapping = m.1;
+              is = m.2;
+            },
+          )
       | inr none ↦ absurd (none_there (char, number) (subst (λ xs. Contains xs (char, number)) none.mapped has))
     ]
 
@@ -306,6 +324,7 @@ keeps table chars glyphs old new bytes ascending few are chosen written =
       format = format_is new bytes written;
       size = size_is new bytes written;
       order = g.rise;
+      filled = λ i less a b. record_filled table chars glyphs old new bytes g i less a b;
       defaults = λ char selector. (
         λ h. default_back table chars glyphs old new bytes g char selector h,
         λ h. default_on table chars glyphs old new bytes g char selector h.0 h.1,

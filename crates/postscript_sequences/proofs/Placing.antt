@@ -1,8 +1,8 @@
 -- The records of parts, one after the other.
-use Rattle.std.proofs.Common.{◌≡◌, ℕ, ◌+◌, ◌*◌, ◌<◌, ◌≤◌, List, [], ◌∷◌, ◌++◌, length, length-append, append-nil, flat_map, get_or, replicate, take, arith, refl, sym, ap, subst, ◌∙◌, inl, inr}
+use Rattle.std.proofs.Common.{◌≡◌, ℕ, ◌+◌, ◌*◌, ◌<◌, List, [], ◌∷◌, ◌++◌, length, length-append, append-nil, flat_map, get_or, replicate, take, arith, refl, sym, ap, subst, ◌∙◌}
 use Rattle.std.proofs.lemmas.List.{append_assoc, length-replicate, take_more}
 use Rattle.postscript_sequences.specs.Rows.{AreRows, AreRowsOf, Holds, IsAt, IsPlaced, IsPut, IsRowOf, IsWritten, absent, absent_at, added, no_row, row, there_at}
-use Rattle.postscript_sequences.specs.Text.{defaults_text, head_text, mapped_text, row_text, uint16, uint32}
+use Rattle.postscript_sequences.specs.Text.{defaults_text, head_text, row_text}
 use Rattle.postscript_sequences.specs.declared.parts.Part.{Part}
 use Rattle.postscript_sequences.specs.declared.writing.Row.{Row}
 use Rattle.postscript_sequences.proofs.Kept.{same_count}
@@ -61,10 +61,10 @@ rows_more base parts k one rows all own old new some less here are put is front 
     let first = placed_more base _ _ old put.middle own.defaults put.defaults in
     let second = placed_more base _ _ put.middle new own.mapped put.mapped in
     let a : AreRows (front ++ new) (take k parts) rows =
-        subst (λ xs. AreRows xs (take k parts) rows) (sym (front_more front put.middle new second.0 second.1))
-        (rows_on (front ++ put.middle) second.0 (take k parts) rows
-        (subst (λ xs. AreRows xs (take k parts) rows) (sym (front_more front old put.middle first.0 first.1))
-        (rows_on (front ++ old) first.0 (take k parts) rows (are front long)))) in
+    subst (λ xs. AreRows xs (take k parts) rows) (sym (front_more front put.middle new second.0 second.1))
+    (rows_on (front ++ put.middle) second.0 (take k parts) rows
+    (subst (λ xs. AreRows xs (take k parts) rows) (sym (front_more front old put.middle first.0 first.1))
+    (rows_on (front ++ old) first.0 (take k parts) rows (are front long)))) in
     let b : IsRowOf (front ++ new) one own = record {
       selector = put.selector;
       defaults = subst (λ xs. IsAt one.defaults.items (defaults_text one.defaults.items) xs own.defaults) (sym (front_more front put.middle new second.0 second.1))

@@ -1,5 +1,5 @@
 -- A subtable that is written is read back.
-use Rattle.std.proofs.Common.{◌≡◌, ℕ, zero, suc, ◌+◌, ◌-◌, ◌*◌, ◌/◌, ◌<◌, ◌≤◌, Bool, false, List, [], ◌∷◌, ◌++◌, length, length-append, get_or, take, drop, flat_map, min, arith, refl, sym, ap, subst, ◌∙◌, inl, inr}
+use Rattle.std.proofs.Common.{◌≡◌, ℕ, zero, suc, ◌+◌, ◌-◌, ◌*◌, ◌/◌, ◌<◌, ◌≤◌, Bool, false, List, [], ◌∷◌, ◌++◌, length, length-append, get_or, take, drop, flat_map, min, arith, refl, sym, ap, subst, ◌∙◌}
 use Rattle.std.specs.Prelude.{nat_lt, ◌==◌, if◌then◌else◌}
 use Rattle.std.specs.List.{Contains}
 use Rattle.std.proofs.Math.Seq.{drop-append_seam, take-append_seam}
@@ -170,18 +170,20 @@ there_range bytes ds offset small rises h char there =
     let count = ranges_at bytes ds offset h in
     let same : get_or ds k 0 ≡ char = get_or_default ds k 0 char less ∙ there.2 in
     let first = first_is bytes ds offset k less (small_at ds small k less) h in
-    let last = last_is bytes ds offset k less (small_at ds small k less) h in
-    (k, record {
-      listed = omega (arith, less, count);
-      small = small.each char there;
-      from = omega (arith, first, same);
-      to = omega (arith, last, same);
-      before = λ j below.
-          let within : j < length ds = omega (arith, below, less) in
-          let early = last_is bytes ds offset j within (small_at ds small j within) h in
-          let low = rises.apart j k 0 below less in
-          omega (arith, early, low, same);
-    })
+    let last = last_is bytes ds offset k less (small_at ds small k less) h in (
+      k,
+      record {
+        listed = omega (arith, less, count);
+        small = small.each char there;
+        from = omega (arith, first, same);
+        to = omega (arith, last, same);
+        before = λ j below.
+            let within : j < length ds = omega (arith, below, less) in
+            let early = last_is bytes ds offset j within (small_at ds small j within) h in
+            let low = rises.apart j k 0 below less in
+            omega (arith, early, low, same);
+      },
+    )
 
 -- the mappings of a Non-Default UVS table
 length_mapping : (each : ℕ × ℕ) → length (mapping_text each) ≡ 5
@@ -247,17 +249,20 @@ there_mapping bytes ms offset small rises h char glyph there =
     let less : k < length ms = there.1 in
     let count = mappings_at bytes ms offset h in
     let same : (get_or ms k d).0 ≡ char = ap (λ x. x.0) there.2 in
-    let at = char_is bytes ms offset k d less small h in
-    (k, record {
-      listed = omega (arith, less, count);
-      small = small.char d there;
-      is = at ∙ same;
-      before = λ j below.
-          let within : j < length ms = omega (arith, below, less) in
-          let early = char_is bytes ms offset j d within small h in
-          let low = rises.apart j k d below less in
-          omega (arith, early, low, same);
-    }, glyph_is bytes ms offset k d less small h ∙ ap (λ x. x.1) there.2)
+    let at = char_is bytes ms offset k d less small h in (
+      k,
+      record {
+        listed = omega (arith, less, count);
+        small = small.char d there;
+        is = at ∙ same;
+        before = λ j below.
+            let within : j < length ms = omega (arith, below, less) in
+            let early = char_is bytes ms offset j d within small h in
+            let low = rises.apart j k d below less in
+            omega (arith, early, low, same);
+      },
+      glyph_is bytes ms offset k d less small h ∙ ap (λ x. x.1) there.2,
+    )
 
 -- the header and the records
 pub length_row : (own : Row) → length (row_text own) ≡ 11

@@ -1,5 +1,5 @@
 -- Parts under new glyph numbers. Only private contracts and proofs use these names.
-use Rattle.std.specs.Prelude.{◌≡◌, ℕ, ◌+◌, ◌<◌, List, [], ◌∷◌, ◌++◌, Option, None, Some, length, slice_index_or}
+use Rattle.std.specs.Prelude.{◌≡◌, ℕ, ◌<◌, List, [], ◌∷◌, ◌++◌, Option, None, Some, length, slice_index_or}
 use Rattle.postscript_sequences.specs.Numbers.{new_number}
 use Rattle.postscript_sequences.specs.declared.parts.Part.{Part}
 

@@ -1,5 +1,5 @@
 -- The records of a subtable and their tables. Only private contracts and proofs use these names.
-use Rattle.std.specs.Prelude.{◌≡◌, ℕ, ◌+◌, ◌*◌, ◌<◌, List, [], ◌∷◌, ◌++◌, length, flat_map}
+use Rattle.std.specs.Prelude.{◌≡◌, ℕ, ◌+◌, ◌<◌, List, [], ◌∷◌, ◌++◌, length, flat_map}
 use Rattle.postscript_sequences.specs.Text.{defaults_text, head_text, mapped_text, row_text}
 use Rattle.postscript_sequences.specs.declared.error.Error.{Error}
 use Rattle.postscript_sequences.specs.declared.error.Error.TheVariants.{Memory, TooLarge, TooLong}

@@ -1,5 +1,5 @@
 -- Positions in the arrays of a record. Only private contracts and proofs use these names.
-use Rattle.std.specs.Prelude.{◌≡◌, ℕ, ◌+◌, ◌*◌, ◌<◌, ◌≤◌, List, Option, None, Some}
+use Rattle.std.specs.Prelude.{ℕ, ◌<◌, ◌≤◌, List, Option, None, Some}
 use Rattle.postscript_sequences.specs.Tables.{default_at, other_at, ranges_of, last_at, mappings_of, char_at}
 use Rattle.postscript_sequences.specs.Sequences.{HasDefault, HasGlyph}
 use Rattle.postscript_sequences.specs.declared.said.Cursor.{Cursor}

@@ -47,12 +47,7 @@ fn number_of(glyphs: &[u16], numbers: &[Option<u16>], glyph: u16) -> Option<u16>
 }
 
 /// Returns a part under new glyph numbers. Sequences whose glyphs have none are dropped.
-fn renumbered(
-    alloc: Global,
-    glyphs: &[u16],
-    numbers: &[Option<u16>],
-    part: &Part,
-) -> Result<Part>
+fn renumbered(alloc: Global, glyphs: &[u16], numbers: &[Option<u16>], part: &Part) -> Result<Part>
     requires few { length glyphs.now ≤ 65536 }
     requires exact { AreNumbers glyphs.now numbers.now }
     ensures exact { IfOk result (λ new. IsRenumbered glyphs.now part.now new) }

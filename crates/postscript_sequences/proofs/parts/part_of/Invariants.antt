@@ -1,6 +1,5 @@
 use Rattle.std.proofs.Common.{◌≡◌, ℕ, ◌<◌, ◌≤◌, length, get_or, take}
 use Rattle.postscript_sequences.specs.Parts.{AreSaid}
-use Rattle.postscript_sequences.specs.Refusals.{Fails}
 use Rattle.postscript_sequences.specs.Said.{IsBehind}
 use Rattle.postscript_sequences.specs.Tables.{selector_at}
 use Rattle.postscript_sequences.proofs.parts.part_of.Given as goal

@@ -1,7 +1,4 @@
-use Rattle.std.proofs.Common.{◌≡◌, ℕ, ◌++◌, ◌∷◌, [], arith, ap, ◌∙◌}
-use Rattle.std.proofs.lemmas.Bool.{cases_lt}
-use Rattle.std.proofs.Common.{inl, inr}
-use Rattle.postscript_sequences.specs.Tables.{selector_at}
+use Rattle.std.proofs.Common.{arith, ap, ◌∙◌}
 use Rattle.postscript_sequences.proofs.Collecting.{below_next, below_same, no_parts, parts_less, parts_more}
 use Rattle.postscript_sequences.proofs.parts.parts_of.Goals as goal
 use Rattle.postscript_sequences.proofs.parts.parts_of.Goals.{then-selector-next+in_ok-part+in_ok-push, else-selector-next}

@@ -1,4 +1,4 @@
-use Rattle.std.proofs.Common.{◌≡◌, Bool, true, false, ap, subst, ◌∙◌}
+use Rattle.std.proofs.Common.{ap, subst, ◌∙◌}
 use Rattle.std.specs.Prelude.{MatchBool}
 use Rattle.postscript_sequences.specs.Keeping.{IsEmpty}
 use Rattle.postscript_sequences.proofs.Numbered.{kept_less, kept_more, kept_start}

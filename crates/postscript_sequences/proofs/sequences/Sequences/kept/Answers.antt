@@ -12,7 +12,7 @@ returns-clause-exact c =
     IfOk-weaker c.written.result (λ x. IsWritten c.deref-3.result.now x.items)
     (λ x. Keeps (table_of c.args.self.now) c.args.chars.now c.args.glyphs.now x.items)
     (λ x is. keeps (table_of c.args.self.now) c.args.chars.now c.args.glyphs.now c.in_ok-parts.parts.items c.in_ok-kept.kept.items x.items
-        c.requires (omega arith) c.in_ok-parts.ensures.are
-        (subst (λ xs. AreKept c.args.glyphs.now xs c.in_ok-kept.kept.items) c.deref-2.ensures.value c.in_ok-kept.ensures.exact)
-        (subst (λ xs. IsWritten xs x.items) c.deref-3.ensures.value is))
+    c.requires (omega arith) c.in_ok-parts.ensures.are
+    (subst (λ xs. AreKept c.args.glyphs.now xs c.in_ok-kept.kept.items) c.deref-2.ensures.value c.in_ok-kept.ensures.exact)
+    (subst (λ xs. IsWritten xs x.items) c.deref-3.ensures.value is))
     c.written.ensures.written
