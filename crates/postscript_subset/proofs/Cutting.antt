@@ -137,8 +137,8 @@ pub cut-so : (r : Result Subset Error) (choice : Choice) (features : Features) (
     IfOk r (λ subset. IsCutBy by features face gsub lookups left subset) → IfOk r (λ subset. IsCutFace choice features face left subset)
 unfolding is-by
 cut-so (Ok subset) choice features face by gsub lookups glyphs left anew k h =
-    let is : IsBy choice features face (all_tables subset.gdef subset.gsub subset.gpos h.gdef h.gsub h.gpos) h.with =
-    is-by choice features face by h.with gsub lookups glyphs (all_tables subset.gdef subset.gsub subset.gpos h.gdef h.gsub h.gpos) k h.has in
+    let is : IsBy choice features face (all_tables subset.gdef subset.gsub subset.gpos subset.kern h.gdef h.gsub h.gpos h.kern) h.with =
+    is-by choice features face by h.with gsub lookups glyphs (all_tables subset.gdef subset.gsub subset.gpos subset.kern h.gdef h.gsub h.gpos h.kern) k h.has in
     let are : AreOriginsOf h.with face h.origins =
     origins-alike by h.with face h.origins h.has.chars h.has.glyphs h.has.unmapped h.has.retain_gids h.are in
     record {
@@ -146,15 +146,17 @@ cut-so (Ok subset) choice features face by gsub lookups glyphs left anew k h =
       gdef = h.gdef;
       gsub = h.gsub;
       gpos = h.gpos;
+      kern = h.kern;
       file = h.file;
       is = is-by choice features face by h.with gsub lookups glyphs
-          (all_tables subset.gdef subset.gsub subset.gpos h.gdef h.gsub h.gpos) k h.has;
+          (all_tables subset.gdef subset.gsub subset.gpos subset.kern h.gdef h.gsub h.gpos h.kern) k h.has;
       origins = h.origins;
       are = are;
       classes = h.classes;
       substitutions = h.substitutions;
       positions = h.positions;
-      stays = text-stays choice features face (all_tables subset.gdef subset.gsub subset.gpos h.gdef h.gsub h.gpos) h.with h.origins is
+      pairs = h.pairs;
+      stays = text-stays choice features face (all_tables subset.gdef subset.gsub subset.gpos subset.kern h.gdef h.gsub h.gpos h.kern) h.with h.origins is
           (h.has.retain_gids ∙ k.widened.retain_gids ∙ anew) are;
       left_out = h.left_out;
     }
@@ -210,6 +212,8 @@ no-file e choice features face by gsub lookups glyphs room k h =
         outcomes.Absent,
         outcomes.Absent,
         outcomes.Absent,
+        outcomes.Absent,
+        [],
         [],
         [],
         [],
@@ -225,8 +229,11 @@ no-file e choice features face by gsub lookups glyphs room k h =
         with.4,
         with.5,
         with.6,
-        is-by choice features face by with.0 gsub lookups glyphs (all_tables with.1 with.2 with.3 with.4 with.5 with.6) k with.7,
-        subset-from h.0 with.0 face room with.8,
+        with.7,
+        with.8,
+        is-by choice features face by with.0 gsub lookups glyphs
+            (all_tables with.1 with.2 with.3 with.4 with.5 with.6 with.7 with.8) k with.9,
+        subset-from h.0 with.0 face room with.10,
       )
     ]
 
@@ -266,14 +273,16 @@ subset-so (Ok subset) choice features bytes number left face was h = record {
   gdef = h.gdef;
   gsub = h.gsub;
   gpos = h.gpos;
+  kern = h.kern;
   is = h.is;
   origins = h.origins;
   are = h.are;
   classes = h.classes;
   substitutions = h.substitutions;
   positions = h.positions;
+  pairs = h.pairs;
   there = tables-there choice h.by face subset.file.items
-      (all_tables subset.gdef subset.gsub subset.gpos h.gdef h.gsub h.gpos) h.is.widened.given h.file;
+      (all_tables subset.gdef subset.gsub subset.gpos subset.kern h.gdef h.gsub h.gpos h.kern) h.is.widened.given h.file;
   stays = h.stays;
   left_out = h.left_out;
 }
@@ -298,9 +307,9 @@ unfinished-so cause by with face layers h has = (cause, refl, inr (with, has, h)
 pub placed-so : (choice : Choice) (features : Features) (face : Face) (by : Choice) (gsub lookups glyphs : List ℕ) (subset : Subset) →
     choice.retain_gids ≡ true → Known choice features face by gsub lookups glyphs → IsSubsetFile by face subset.file.items →
     IsCopiedAs subset.gdef face.file gdef_tag → IsCopiedAs subset.gsub face.file gsub_tag → IsCopiedAs subset.gpos face.file gpos_tag →
-    subset.left_out.items ≡ [] → IsPlaced choice features face subset
+    subset.kern ≡ outcomes.NotChosen → subset.left_out.items ≡ [] → IsPlaced choice features face subset
 unfolding is-by
-placed-so choice features face by gsub lookups glyphs subset retain k file gdef gsub-is gpos none =
+placed-so choice features face by gsub lookups glyphs subset retain k file gdef gsub-is gpos kern none =
     let is : IsBy choice features face [] by = is-by choice features face by by gsub lookups glyphs [] k (no-tables by) in
     record {
       by = by;
@@ -309,6 +318,7 @@ placed-so choice features face by gsub lookups glyphs subset retain k file gdef 
       gdef = gdef;
       gsub = gsub-is;
       gpos = gpos;
+      kern = kern;
       stays = text-stays-same choice features face [] by subset.file.items is (k.widened.retain_gids ∙ retain) file;
       left_out = none;
     }
@@ -341,6 +351,7 @@ in-place-so (Ok subset) choice features bytes number face was retain h = record 
   gdef = h.gdef;
   gsub = h.gsub;
   gpos = h.gpos;
+  kern = h.kern;
   copied = copied-there choice features face h.by subset.file.items retain h.is h.file;
   stays = h.stays;
   left_out = h.left_out;
@@ -355,6 +366,8 @@ no-placed cause choice features face by gsub lookups glyphs left room k h = inr 
   outcomes.Absent,
   outcomes.Absent,
   outcomes.Absent,
+  outcomes.Absent,
+  [],
   [],
   [],
   [],

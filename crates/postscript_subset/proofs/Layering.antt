@@ -5,7 +5,7 @@ use Rattle.postscript_layout_write.specs.Refusals.{Fails, Refuses}
 use Rattle.postscript_layout_write.specs.declared.error.Error.{Error as Fault}
 use Rattle.postscript_layout_write.specs.declared.error.Error.TheVariants.{ListsTooLong, Memory, TooLarge, TooLong}
 use Rattle.postscript_sfnt.specs.declared.file.FontFile.{FontFile}
-use Rattle.postscript_subset.specs.Layers.{IsGdef, IsGsub, RefusesGlyphs, are_few}
+use Rattle.postscript_subset.specs.Layers.{IsGdef, IsGpos, IsGsub, RefusesGlyphs, are_few}
 use Rattle.postscript_subset.specs.declared.features.Features.{Features}
 use Rattle.postscript_subset.specs.declared.layers.Outcome.{Outcome}
 use Rattle.postscript_subset.specs.declared.layers.Outcome.TheVariants.{Absent, Kept, Lost, NotChosen}
@@ -51,4 +51,21 @@ less-gsub (Lost e) file features lookups origins gdef left less new below h = (
     | inl refused ↦ inl (less-rules e h.0 left less below refused)
     | inr lost ↦ inr lost
   ],
+)
+
+pub less-gpos : (o : Outcome) (file : FontFile) (features : Features) (origins : List ℕ) (gdef : Outcome) (left less : ℕ) (new : List ℕ) → less ≤ left →
+    IsGpos o file features origins gdef left new → IsGpos o file features origins gdef less new
+less-gpos Absent file features origins gdef left less new below h = h
+less-gpos NotChosen file features origins gdef left less new below h = h
+less-gpos Kept file features origins gdef left less new below h = h
+less-gpos (Lost e) file features origins gdef left less new below h = (
+  h.0,
+  (
+    h.1.0,
+    h.1.1,
+    elim h.1.2 [
+      | inl refused ↦ inl (less-rules e h.1.0 left less below refused)
+      | inr lost ↦ inr lost
+    ],
+  ),
 )

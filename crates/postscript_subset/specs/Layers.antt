@@ -1,5 +1,10 @@
 -- Layout tables under new glyph numbers, and why one is not written.
 use Rattle.std.specs.Prelude.{◌≡◌, ◌⊎◌, ℕ, ◌<◌, ◌++◌, Bool, true, false, List, [], ◌∷◌, length, nat_lt}
+use Rattle.postscript_kern.specs.Kept.{AreKept, Subtable}
+use Rattle.postscript_kern.specs.Pairs.{count_of}
+use Rattle.postscript_kern.specs.Refusals.{Refuses as RefusesKern}
+use Rattle.postscript_kern.specs.Written.{IsTable}
+use Rattle.postscript_kern.specs.declared.error.Error.TheVariants as kern_errors
 use Rattle.postscript_layout.specs.Numbers.{word}
 use Rattle.postscript_layout_write.specs.Classes.{KeepsClasses, RefusesClasses}
 use Rattle.postscript_layout_write.specs.Definitions.{KeepsDefinitions}
@@ -11,7 +16,8 @@ use Rattle.postscript_layout_write.specs.Substituting.{KeepsRules}
 use Rattle.postscript_sfnt.specs.Lent.{HasNoTable, IsTableOf}
 use Rattle.postscript_sfnt.specs.declared.file.FontFile.{FontFile}
 use Rattle.postscript_layout_write.specs.declared.error.Error.{Error}
-use Rattle.postscript_subset.specs.Lookups.{HavePositions}
+use Rattle.postscript_layout_write.specs.declared.error.Error.TheVariants as faults
+use Rattle.postscript_subset.specs.Lookups.{HaveKerning, HavePositions}
 use Rattle.postscript_subset.specs.declared.features.Features.{Features}
 use Rattle.postscript_subset.specs.declared.features.Features.TheVariants.{All, These}
 use Rattle.postscript_subset.specs.declared.layers.Outcome.{Outcome}
@@ -26,6 +32,9 @@ gsub_tag = 0x47535542
 
 abbrev pub gpos_tag : ℕ
 gpos_tag = 0x47504f53
+
+abbrev pub kern_tag : ℕ
+kern_tag = 0x6b65726e
 
 -- the face has the table, and this is true of it
 abbrev pub OfTable : FontFile → (tag : ℕ) → (List ℕ → Type 0) → Type 0
@@ -93,6 +102,28 @@ IsGpos Kept file features origins gdef left new =
 IsGpos (Lost e) file features origins gdef left new =
     HavePositions features × OfTable file gpos_tag (λ gpos. Refuses e gpos left ⊎ (gdef ≡ Lost e))
 
+-- the new `kern` table has the pairs of the origins
+abbrev pub KeepsPairs : (old origins new : List ℕ) → Type 0
+KeepsPairs old origins new = (subtables : List Subtable) × AreKept old origins (count_of old) subtables × IsTable subtables new
+
+-- a `kern` table has no pairs of origins
+abbrev pub HasNoPairs : (old origins : List ℕ) → Type 0
+HasNoPairs old origins = AreKept old origins (count_of old) []
+
+abbrev pub RefusesPairs : Error → (old origins : List ℕ) → (left : ℕ) → Type 0
+RefusesPairs faults.Memory old origins left = ⊥
+RefusesPairs faults.TooLong old origins left = RefusesKern kern_errors.TooLong old origins left
+RefusesPairs faults.TooLarge old origins left = RefusesKern kern_errors.TooLarge old origins left
+RefusesPairs faults.ListsTooLong old origins left = ⊥
+
+-- The outcome for `kern`, and the new table. It is chosen if kerning is. It is absent if the face has no such table, or no pairs of origins in it.
+abbrev pub IsKern : Outcome → (file : FontFile) → (features : Features) → (origins : List ℕ) → (left : ℕ) → (new : List ℕ) → Type 0
+IsKern Absent file features origins left new =
+    HasNoTable file kern_tag ⊎ (HaveKerning features × OfTable file kern_tag (λ kern. HasNoPairs kern origins))
+IsKern NotChosen file features origins left new = (HaveKerning features → ⊥) × OfTable file kern_tag (λ kern. Unit {0})
+IsKern Kept file features origins left new = HaveKerning features × OfTable file kern_tag (λ kern. KeepsPairs kern origins new)
+IsKern (Lost e) file features origins left new = HaveKerning features × OfTable file kern_tag (λ kern. RefusesPairs e kern origins left)
+
 -- the outcome for a table that is copied
 abbrev pub IsCopiedAs : Outcome → (file : FontFile) → (tag : ℕ) → Type 0
 IsCopiedAs Kept file tag = OfTable file tag (λ table. Unit {0})
@@ -105,5 +136,6 @@ table_if Kept tag table = (tag, table) ∷ []
 table_if _ tag table = []
 
 -- the layout tables that are kept
-abbrev pub all_tables : (gdef gsub gpos : Outcome) → (a b c : List ℕ) → List (ℕ × List ℕ)
-all_tables gdef gsub gpos a b c = table_if gdef gdef_tag a ++ (table_if gsub gsub_tag b ++ table_if gpos gpos_tag c)
+abbrev pub all_tables : (gdef gsub gpos kern : Outcome) → (a b c d : List ℕ) → List (ℕ × List ℕ)
+all_tables gdef gsub gpos kern a b c d =
+    table_if gdef gdef_tag a ++ (table_if gsub gsub_tag b ++ (table_if gpos gpos_tag c ++ table_if kern kern_tag d))

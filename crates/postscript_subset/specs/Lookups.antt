@@ -15,3 +15,8 @@ AreNamedBy (These tags) gsub lookups = AreNamed gsub tags.now lookups
 abbrev pub HavePositions : Features → Type 0
 HavePositions All = Unit {0}
 HavePositions (These tags) = (Contains tags.now 0x6b65726e ⊎ Contains tags.now 0x6d61726b) ⊎ (Contains tags.now 0x6d6b6d6b ⊎ Contains tags.now 0x63757273)
+
+-- `kern` is among the features
+abbrev pub HaveKerning : Features → Type 0
+HaveKerning All = Unit {0}
+HaveKerning (These tags) = Contains tags.now 0x6b65726e

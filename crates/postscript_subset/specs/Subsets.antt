@@ -14,13 +14,13 @@ use Rattle.postscript_layout_write.specs.Pairs.{lookups_of}
 use Rattle.postscript_layout_write.specs.Texts.{MayBecome}
 use Rattle.postscript_sfnt.specs.Lent.{IsTableOf}
 use Rattle.postscript_subset.specs.Closing.{AreClosed, IsTableOrNone, below}
-use Rattle.postscript_subset.specs.Layers.{IsCopiedAs, IsGdef, IsGpos, IsGsub, all_tables, gdef_tag, gpos_tag, gsub_tag, have_marks}
+use Rattle.postscript_subset.specs.Layers.{IsCopiedAs, IsGdef, IsGpos, IsGsub, IsKern, all_tables, gdef_tag, gpos_tag, gsub_tag, have_marks}
 use Rattle.postscript_subset.specs.declared.error.Error.{Error}
 use Rattle.postscript_subset.specs.declared.error.Error.TheVariants.{File, LargeGlyph, TooLong}
 use Rattle.postscript_subset.specs.declared.features.Features.{Features}
 use Rattle.postscript_subset.specs.declared.features.Features.TheVariants.{All as AllFeatures}
 use Rattle.postscript_subset.specs.declared.layers.Outcome.{Outcome}
-use Rattle.postscript_subset.specs.declared.layers.Outcome.TheVariants.{Kept}
+use Rattle.postscript_subset.specs.declared.layers.Outcome.TheVariants.{Kept, NotChosen}
 use Rattle.postscript_subset.specs.declared.subset.Subset.{Subset}
 
 -- the tag and the bytes of a table
@@ -80,13 +80,15 @@ pub record IsCutWithLayout (choice : Choice) (features : Features) (bytes : List
   pub gdef : List ℕ
   pub gsub : List ℕ
   pub gpos : List ℕ
-  pub is : IsBy choice features cut.old (all_tables subset.gdef subset.gsub subset.gpos gdef gsub gpos) by
+  pub kern : List ℕ
+  pub is : IsBy choice features cut.old (all_tables subset.gdef subset.gsub subset.gpos subset.kern gdef gsub gpos kern) by
   pub origins : List ℕ
   pub are : AreOriginsOf by cut.old origins
   pub classes : IsGdef subset.gdef cut.old.file origins left gdef
   pub substitutions : IsGsub subset.gsub cut.old.file features is.made.lookups origins subset.gdef left gsub
   pub positions : IsGpos subset.gpos cut.old.file features origins subset.gdef left gpos
-  pub there : (i : ℕ) (table : ℕ × List ℕ) → slice_get (all_tables subset.gdef subset.gsub subset.gpos gdef gsub gpos) i ≡ Some table →
+  pub pairs : IsKern subset.kern cut.old.file features origins left kern
+  pub there : (i : ℕ) (table : ℕ × List ℕ) → slice_get (all_tables subset.gdef subset.gsub subset.gpos subset.kern gdef gsub gpos kern) i ≡ Some table →
       (new : Face) → IsFaceIn subset.file.items 0 new → HasCopy new.file table.0 table.1
   pub stays : TextStaysIn choice cut.old is.made.count is.made.gsub is.made.are.chosen origins
   pub left_out : subset.left_out.items ≡ left_in subset.gsub (have_marks origins subset.gdef) is.made.gsub is.made.lookups
@@ -105,6 +107,7 @@ pub record IsCutInPlace (choice : Choice) (features : Features) (bytes : List �
   pub gdef : IsCopiedAs subset.gdef cut.old.file gdef_tag
   pub gsub : IsCopiedAs subset.gsub cut.old.file gsub_tag
   pub gpos : IsCopiedAs subset.gpos cut.old.file gpos_tag
+  pub kern : subset.kern ≡ NotChosen
   pub copied : (tag : ℕ) (table : List ℕ) → Contains (copied_by true) tag → IsTableOf cut.old.file tag table →
       (new : Face) → IsFaceIn subset.file.items 0 new → HasCopy new.file tag table
   pub stays : TextStaysSame choice cut.old is.made.count is.made.gsub is.made.are.chosen subset.file.items
@@ -113,7 +116,8 @@ pub record IsCutInPlace (choice : Choice) (features : Features) (bytes : List �
 -- why no file of the face is written
 abbrev pub NoFileFrom : Choice → Features → (old : Face) → Cause → Type 0
 NoFileFrom choice features old e = IsUnopened old.cff.now e ⊎ ((by : Choice) × (gdef : Outcome) × (gsub : Outcome) × (gpos : Outcome)
-    × (a : List ℕ) × (b : List ℕ) × (c : List ℕ) × IsBy choice features old (all_tables gdef gsub gpos a b c) by × NoSubsetFrom by old e)
+    × (kern : Outcome) × (a : List ℕ) × (b : List ℕ) × (c : List ℕ) × (d : List ℕ)
+    × IsBy choice features old (all_tables gdef gsub gpos kern a b c d) by × NoSubsetFrom by old e)
 
 -- Why no file is written. Running out of memory may be the error at any time.
 abbrev pub NoCutWithLayout : Choice → Features → (bytes : List ℕ) → (number left : ℕ) → Error → Type 0

@@ -1,6 +1,6 @@
 //! Layout features.
 ghost use Rattle.std.specs.Prelude.{◌≡◌, ◌⊎◌, ◌↔◌, ◌≤◌, IfOk, IfErr, IsTrue};
-ghost use Rattle.postscript_subset.specs.Lookups.{AreNamedBy, HavePositions};
+ghost use Rattle.postscript_subset.specs.Lookups.{AreNamedBy, HaveKerning, HavePositions};
 ghost use Rattle.postscript_subset.specs.Refusals.{IsSearched};
 
 use crate::error::Result;
@@ -48,6 +48,16 @@ impl Features<'_> {
                 (tags.contains(&KERN) || tags.contains(&MARK))
                     || (tags.contains(&MKMK) || tags.contains(&CURS))
             }
+        }
+    }
+
+    /// Returns true if `kern` is among the features.
+    pub(crate) fn has_kerning(&self) -> bool
+        ensures { IsTrue result ↔ HaveKerning self.now }
+    {
+        match self {
+            Features::All => true,
+            Features::These(tags) => tags.contains(&KERN),
         }
     }
 }

@@ -65,6 +65,7 @@ pub(crate) fn cut_in_place(
         gsub: copied_as(&face.file, *b"GSUB"),
         gpos: copied_as(&face.file, *b"GPOS"),
         gdef: copied_as(&face.file, *b"GDEF"),
+        kern: Outcome::NotChosen,
         left_out: Vec::new(alloc),
     })
 }

@@ -1,10 +1,11 @@
 //! Layout tables under new glyph numbers.
-ghost use Rattle.std.specs.Prelude.{◌≡◌, ◌≤◌, [], IfOk, IfErr};
+ghost use Rattle.std.specs.Prelude.{◌≡◌, ◌≤◌, ℕ, [], List, IfOk, IfErr};
+ghost use Rattle.postscript_kern.specs.Refusals.{Refuses as RefusesKern};
 ghost use Rattle.postscript_layout.specs.Numbers.{word};
 ghost use Rattle.postscript_files.specs.declared.error.Error.TheVariants as causes;
 ghost use Rattle.postscript_layout_write.specs.Refusals.{Fails, Refuses};
 ghost use Rattle.postscript_layout_write.specs.Substituting.{KeepsRules};
-ghost use Rattle.postscript_subset.specs.Layers.{HasChosen, IsGdef, IsGpos, IsGsub, KeepsGlyphs, KeepsPlaces, OfWhole, RefusesGlyphs, are_few, have_marks};
+ghost use Rattle.postscript_subset.specs.Layers.{HasChosen, IsGdef, IsGpos, IsGsub, IsKern, KeepsGlyphs, KeepsPlaces, OfWhole, RefusesGlyphs, RefusesPairs, are_few, have_marks};
 ghost use Rattle.postscript_subset.specs.Layering.{AreLayers, IsLayer};
 ghost use Rattle.postscript_subset.specs.declared.error.Error.TheVariants as errors;
 ghost use Rattle.postscript_subset.specs.declared.layers.Outcome.TheVariants as outcomes;
@@ -12,6 +13,7 @@ ghost use Rattle.postscript_subset.specs.declared.layers.Outcome.TheVariants as 
 use crate::error::{Error, Result};
 use crate::features::Features;
 use postscript_base::index::number::number_at;
+use postscript_kern::{Error as KernFault, kept_kerning};
 use postscript_layout_write::{
     Error as Fault, flagged_positions, flagged_substitutions, glyph_classes, glyph_definitions,
     positions, substitutions, with_features,
@@ -22,9 +24,11 @@ use std::alloc::Global;
 /// The outcome for a layout table.
 #[derive(Clone, Copy, Debug, Drop, PartialEq, Eq)]
 pub enum Outcome {
-    /// The face has no such table, or no glyph classes in its `GDEF` table.
+    /// The face has no such table, no glyph classes in its `GDEF` table, or no pairs of glyphs of the subset in its `kern`
+    /// table.
     Absent,
-    /// The face has a `GPOS` table, but none of `kern`, `mark`, `mkmk` and `curs` is among the features.
+    /// The face has a `GPOS` table, but none of `kern`, `mark`, `mkmk` and `curs` is among the features. Or it has a `kern`
+    /// table, but `kern` is not among the features, or glyphs keep their numbers.
     NotChosen,
     /// The new file has the table.
     Kept,
@@ -45,6 +49,7 @@ pub(crate) struct Layers {
     pub(crate) gdef: Layer,
     pub(crate) gsub: Layer,
     pub(crate) gpos: Layer,
+    pub(crate) kern: Layer,
 }
 
 /// Returns an outcome without a table.
@@ -282,6 +287,46 @@ fn gpos_of(
     }
 }
 
+/// Converts an error of a `kern` table. Memory is an error of the call.
+fn kern_fault(fault: KernFault) -> Result<Fault>
+    ensures fault { IfOk result (λ e. (old origins : List ℕ) (left : ℕ) → RefusesKern fault old origins left → RefusesPairs e old origins left) }
+    ensures memory { IfErr result (λ e. e ≡ errors.File causes.Memory) }
+{
+    match fault {
+        KernFault::Memory => Err(Error::File(postscript_files::Error::Memory)),
+        KernFault::TooLong => Ok(Fault::TooLong),
+        KernFault::TooLarge => Ok(Fault::TooLarge),
+    }
+}
+
+/// Returns the `kern` table with the pairs of the origins, if `kern` is among the features.
+fn kern_of(
+    alloc: Global,
+    file: &FontFile<'_>,
+    features: &Features<'_>,
+    origins: &[u16],
+    limit: &mut u64,
+) -> Result<Layer>
+    ensures kern { IfOk result (λ kern. IsKern kern.outcome file.now features.now origins.now limit.new kern.table.items) }
+    ensures spends { limit.new ≤ limit.old }
+    ensures memory { IfErr result (λ e. e ≡ errors.File causes.Memory) }
+{
+    let Some(kern) = file.table(*b"kern") else {
+        return Ok(without(alloc, Outcome::Absent));
+    };
+    if !features.has_kerning() {
+        return Ok(without(alloc, Outcome::NotChosen));
+    }
+    match kept_kerning(alloc, kern, origins, limit) {
+        Ok(Some(table)) => Ok(Layer {
+            outcome: Outcome::Kept,
+            table,
+        }),
+        Ok(None) => Ok(without(alloc, Outcome::Absent)),
+        Err(fault) => Ok(without(alloc, Outcome::Lost(kern_fault(fault)?))),
+    }
+}
+
 /// Returns the layout tables of the origins.
 pub(crate) fn layers_of(
     alloc: Global,
@@ -298,5 +343,11 @@ pub(crate) fn layers_of(
     let gdef = gdef_of(alloc, file, origins, limit)?;
     let gsub = gsub_of(alloc, file, features, lookups, origins, gdef.outcome, limit)?;
     let gpos = gpos_of(alloc, file, features, origins, gdef.outcome, limit)?;
-    Ok(Layers { gdef, gsub, gpos })
+    let kern = kern_of(alloc, file, features, origins, limit)?;
+    Ok(Layers {
+        gdef,
+        gsub,
+        gpos,
+        kern,
+    })
 }

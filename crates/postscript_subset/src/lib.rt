@@ -1,7 +1,7 @@
 //! Writes OpenType files with only some characters, whose layout tables still apply (ISO/IEC 14496-22, 6).
 //!
 //! [`subset_with_layout`] cuts a face as [`postscript_files::subset_file`] does. It also keeps the glyphs that the substitutions
-//! of chosen features can make, and writes `GSUB`, `GPOS` and `GDEF` tables under the new glyph numbers. [`glyphs_with_layout`]
+//! of chosen features can make, and writes `GSUB`, `GPOS`, `GDEF` and `kern` tables under the new glyph numbers. [`glyphs_with_layout`]
 //! returns these glyphs beforehand.
 //!
 //! [`text_chars`] lists the characters that such a subset needs, so that shapers set text with it as with the whole face.

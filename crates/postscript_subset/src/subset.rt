@@ -28,6 +28,8 @@ pub(crate) const GPOS: u32 = 0x47504f53;
 
 pub(crate) const GSUB: u32 = 0x47535542;
 
+const KERN: u32 = 0x6b65726e;
+
 /// A file with layout tables.
 #[derive(Drop)]
 pub struct Subset {
@@ -39,6 +41,8 @@ pub struct Subset {
     pub gpos: Outcome,
     /// The outcome for `GDEF`.
     pub gdef: Outcome,
+    /// The outcome for `kern`. It is `NotChosen` if glyphs keep their numbers: `copied` may have this table then.
+    pub kern: Outcome,
     /// The chosen lookups that the new `GSUB` table does not keep. There are none if there is no such table.
     pub left_out: Vec<u16>,
 }
@@ -144,10 +148,16 @@ fn put_all(given: &mut Vec<Given>, layers: Layers) -> Result<()>
     ensures put { OnOk result (map shown given.new.items ≡ map shown given.old.items ++ tables_of layers) }
     ensures memory { IfErr result (λ e. e ≡ errors.File causes.Memory) }
 {
-    let Layers { gdef, gsub, gpos } = layers;
+    let Layers {
+        gdef,
+        gsub,
+        gpos,
+        kern,
+    } = layers;
     put(given, GDEF, gdef)?;
     put(given, GSUB, gsub)?;
-    put(given, GPOS, gpos)
+    put(given, GPOS, gpos)?;
+    put(given, KERN, kern)
 }
 
 /// Writes the subset of a choice, with these layout tables in addition.
@@ -182,10 +192,11 @@ fn write(
     let layers = layers_of(alloc, &face.file, features, lookups, &origins, limit)?;
     let marks = has_marks(&origins, layers.gdef.outcome);
     let left_out = left_of(alloc, gsub, lookups, layers.gsub.outcome, marks)?;
-    let (gsub, gpos, gdef) = (
+    let (gsub, gpos, gdef, kern) = (
         layers.gsub.outcome,
         layers.gpos.outcome,
         layers.gdef.outcome,
+        layers.kern.outcome,
     );
     let file = finish(alloc, face, by, layers)?;
     Ok(Subset {
@@ -193,6 +204,7 @@ fn write(
         gsub,
         gpos,
         gdef,
+        kern,
         left_out,
     })
 }
@@ -230,15 +242,16 @@ fn cut(
 /// - `GDEF`, with the glyph classes, if the face has classes;
 /// - `GSUB`, with the chosen features and lookups, if the face has this table;
 /// - `GPOS`, with the chosen features and all its positions, if the face has this table and `kern`, `mark`, `mkmk` or `curs` is
-///   among the features.
+///   among the features;
+/// - `kern`, with the pairs of the new glyphs, if `kern` is among the features and the face has such pairs.
 ///
 /// If `choice.retain_gids` is set, glyphs keep their numbers. All lookups of `GSUB` are then chosen, and `GDEF`, `GSUB` and `GPOS`
-/// are copied as far as the face has them.
+/// are copied as far as the face has them. `kern` is copied only if `choice.copied` has it.
 ///
 /// If `choice.given` or `choice.copied` has one of these tables too, the error is `SameTag`.
 ///
-/// The search for lookups and glyphs and the tables are paid from `limit`, as in `postscript_layout` and
-/// `postscript_layout_write`. If the limit does not suffice for a table, the table is lost, and the file is written.
+/// The search for lookups and glyphs and the tables are paid from `limit`, as in `postscript_layout`,
+/// `postscript_layout_write` and `postscript_kern`. If the limit does not suffice for a table, the table is lost, and the file is written.
 ///
 /// # Errors
 ///

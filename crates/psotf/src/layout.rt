@@ -66,6 +66,7 @@ pub fn plain(alloc: Global, face: &Face<'_>, choice: &Choice<'_>) -> Result<Subs
             gsub: Outcome::NotChosen,
             gpos: Outcome::NotChosen,
             gdef: Outcome::NotChosen,
+            kern: Outcome::NotChosen,
             left_out: Vec::new(alloc),
         }),
         Err(error) => Err(by_files(error)),
@@ -93,6 +94,7 @@ fn tell_lost(rt: &HostRuntime, what: &str, outcome: Outcome) -> Result<(), Failu
 /// Reports on standard error why kerning or substitutions are lost, and which lookups are left out.
 pub fn tell(rt: &HostRuntime, subset: &Subset) -> Result<(), Failure> {
     tell_lost(rt, "kerning and marks", subset.gpos)?;
+    tell_lost(rt, "the pairs of the kern table", subset.kern)?;
     tell_lost(rt, "substitutions", subset.gsub)?;
     if subset.left_out.is_empty() {
         return Ok(());

@@ -45,4 +45,4 @@ returns-clause-subset c =
     (known-in-place c.args.choice.now c.args.features.now c.args.face.now by c.gsub_in-gsub.result.now c.in_ok-closed.closed.lookups.items
     c.deref.result.now c.in_ok-unmapped.unmapped.items c.requires.retain c.gsub_in-gsub.ensures closed c.in_ok-unmapped.ensures.extended
     refl refl c.deref-2.ensures.value refl refl (c.deref-3.ensures.value ∙ c.in_ok-copied.ensures.tags) refl)
-    c.in_ok-file.ensures.subset c.copied_as-3.ensures c.copied_as.ensures c.copied_as-2.ensures c.new.ensures.items
+    c.in_ok-file.ensures.subset c.copied_as-3.ensures c.copied_as.ensures c.copied_as-2.ensures refl c.new.ensures.items

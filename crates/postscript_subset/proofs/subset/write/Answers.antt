@@ -17,6 +17,7 @@ returns-clause-subset c =
       gdef = layers.gdef.table.items;
       gsub = layers.gsub.table.items;
       gpos = layers.gpos.table.items;
+      kern = layers.kern.table.items;
       has = finished.1;
       file = finished.2;
       origins = origins;
@@ -24,6 +25,7 @@ returns-clause-subset c =
       classes = made.gdef;
       substitutions = made.gsub;
       positions = made.gpos;
+      pairs = made.kern;
       left_out = c.in_ok-left_out.ensures.left
           ∙ ap (λ (b : Bool). left_in layers.gsub.outcome b c.args.gsub.now c.args.lookups.now) marks;
     }
