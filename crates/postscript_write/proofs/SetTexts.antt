@@ -1,7 +1,5 @@
 -- Charsets of given identifiers, as they are read where they were written.
-use Rattle.std.proofs.Common.{◌≡◌, ◌↔◌, refl, sym, ap, subst, ◌∙◌, inl, inr, ℕ, zero, suc, ◌+◌, ◌-◌, ◌*◌, ◌/◌, ◌≤◌, ◌<◌, nat_lt, if◌then◌else◌, true, List, [], ◌∷◌, ◌++◌, append-nil, length, length-append, length-drop, take, drop, get_or, Bor, Some, None, arith}
-use Rattle.std.proofs.lemmas.Bool.{cases_lt}
-use Rattle.std.proofs.lemmas.Bool.Decides.{nat_tests}
+use Rattle.std.proofs.Common.{◌≡◌, ◌↔◌, refl, sym, ap, subst, ◌∙◌, inl, inr, ℕ, zero, suc, ◌+◌, ◌-◌, ◌*◌, ◌≤◌, ◌<◌, List, [], ◌∷◌, append-nil, length, length-append, length-drop, drop, get_or, Bor, arith}
 use Rattle.std.proofs.lemmas.List.{drop-drop}
 use Rattle.std.proofs.lemmas.List.FromFn.{get_or-range_with_len, length-range_with_len}
 use Rattle.std.proofs.lemmas.List.Sums.{sum_by-cons}
@@ -16,7 +14,7 @@ use Rattle.postscript_compact1.specs.CharSets.Formats.{Covered}
 use Rattle.postscript_compact1.specs.declared.char_set.CharSet.{CharSet}
 use Rattle.postscript_compact1.specs.declared.char_set.CharSet.TheVariants.{Format1}
 use Rattle.postscript_compact1.specs.declared.char_set.range.Range1.{Range1}
-use Rattle.postscript_view.specs.CharSet.{IsNamed, covered, identifier_at, more_of}
+use Rattle.postscript_view.specs.CharSet.{IsNamed, covered, more_of}
 use Rattle.postscript_view.specs.CharSets.{CharSetStandsAt}
 use Rattle.postscript_view.specs.Naming.{NamesBehind}
 use Rattle.postscript_view.specs.declared.char_set.Identifiers.{Identifiers}
@@ -25,8 +23,8 @@ use Rattle.postscript_view.proofs.Covering.{covered_more, covered_none, none_beh
 use Rattle.postscript_write.specs.Firsts.{AreFirsts}
 use Rattle.postscript_write.specs.SetTexts.{Continue, NamesAll, names_text, span_text, spans_text}
 use Rattle.postscript_write.specs.Texts.{number_text, TextStands}
-use Rattle.postscript_write.specs.Whole.{CharSetEnds, RangesEnd}
-use Rattle.postscript_write.proofs.Firsts.{from_zero, one_range, past, to_its_end}
+use Rattle.postscript_write.specs.Whole.{RangesEnd}
+use Rattle.postscript_write.proofs.Firsts.{from_zero, past, to_its_end}
 use Rattle.postscript_write.proofs.ListedAgain.{list_names, list_stands}
 use Rattle.postscript_write.proofs.Rows.{behind_number, number_read, row_stands, rows_length}
 use Rattle.postscript_write.proofs.Standing.{length-number_text, stands_amid, stands_first, stands_within}
@@ -292,6 +290,15 @@ module _ (identifiers firsts : List ℕ) (are : AreFirsts (Continue identifiers)
     ends =
         let text : List ℕ = spans_text identifiers firsts in
         let s = alone text in
-        inr (1, length firsts * 3, format text 0 s, omega arith, omega arith, spans_end text 0 s, omega (arith, spans_long identifiers firsts));
+        let all : length identifiers ≡ 1 + length identifiers - 1 = omega arith in
+        inr (
+          1,
+          length firsts * 3,
+          format text 0 s,
+          omega arith,
+          omega arith,
+          subst (λ n. RangesEnd (drop (0 + 1) text) 1 n (length firsts * 3)) all (spans_end text 0 s),
+          omega (arith, spans_long identifiers firsts),
+        );
     few = omega (arith, spans_long identifiers firsts, fewer);
   }

@@ -1,10 +1,10 @@
 -- A char set that whole fonts are read with takes no byte behind its text, so that it stands wherever the text stands.
-use Rattle.std.proofs.Common.{◌≡◌, refl, sym, ap, subst, ◌∙◌, ◌⊎◌, inl, inr, ℕ, zero, suc, ◌+◌, ◌-◌, ◌*◌, ◌<◌, ◌≤◌, nat_lt, List, [], ◌∷◌, ◌++◌, length, length-append, length-drop, take, drop, arith}
+use Rattle.std.proofs.Common.{◌≡◌, refl, sym, ap, subst, ◌∙◌, ◌⊎◌, inl, inr, ℕ, zero, suc, ◌+◌, ◌-◌, ◌*◌, ◌<◌, ◌≤◌, nat_lt, List, [], ◌∷◌, length, length-drop, take, drop, arith}
 use Rattle.std.proofs.lemmas.Bool.{cases_lt}
 use Rattle.std.proofs.lemmas.Bool.Decides.{nat_tests}
 use Rattle.std.proofs.lemmas.List.{drop-drop}
 use Rattle.std.proofs.lemmas.List.Sums.{sum_by-cons}
-use Rattle.std.specs.Prelude.{flat_map, sum_by}
+use Rattle.std.specs.Prelude.{sum_by}
 use Rattle.postscript_base.specs.Index.{number_at}
 use Rattle.postscript_base.specs.Numbers.{big_endian, number, slice}
 use Rattle.postscript_base.specs.Tape.Outcome.{Got, Reading, after}
@@ -17,12 +17,11 @@ use Rattle.postscript_compact1.proofs.Steps.{Done, Step, accepted}
 use Rattle.postscript_view.specs.CharSet.{covered, more_of}
 use Rattle.postscript_view.proofs.Covering.{covered_none}
 use Rattle.postscript_view.proofs.Wider.{got_if}
-use Rattle.postscript_write.specs.Texts.{number_text, TextStands}
+use Rattle.postscript_write.specs.Texts.{TextStands}
 use Rattle.postscript_write.specs.Whole.{CharSetEnds, RangesEnd}
 use Rattle.postscript_write.proofs.Locality.{slice_is}
 use Rattle.postscript_write.proofs.Moved.{number_moves}
-use Rattle.postscript_write.proofs.Rows.{number_read, rows_length}
-use Rattle.postscript_write.proofs.Standing.{length-number_text, stands_first, stands_within}
+use Rattle.postscript_write.proofs.Standing.{stands_within}
 
 -- a number that is read, and one that can be
 pub number_got : (n : ℕ) (bytes : List ℕ) (place value next : ℕ) → 0 < n → number n bytes place ≡ Got value next →

@@ -1,13 +1,10 @@
 -- The strings of a new font with new SIDs, each once (Technical Note 5176, section 10, "String INDEX").
-use Rattle.std.specs.Prelude.{◌≡◌, ◌⊎◌, ℕ, ◌+◌, ◌<◌, List, [], ◌∷◌, ◌++◌, flat_map, Option, Some, None, IsSome, length, slice_index_or}
+use Rattle.std.specs.Prelude.{◌≡◌, ◌⊎◌, ℕ, ◌+◌, ◌<◌, List, [], ◌∷◌, Option, Some, None, IsSome, length, slice_index_or}
 use Rattle.std.specs.List.{filter_map}
 use Rattle.postscript_base.specs.Compact1.Dictionary.{Dictionary}
 use Rattle.postscript_write.specs.Parts.{naming}
-use Rattle.postscript_write.specs.Renumbered.{new_identifier}
 use Rattle.postscript_write.specs.Sizes.{bytes_in}
 use Rattle.postscript_write.specs.Strings.{identifier_in}
-use Rattle.postscript_write.specs.Texts.{number_text}
-use Rattle.postscript_write.specs.declared.strings.Strings.{Strings}
 
 -- the strings without a new SID
 unfoldable pub left_of : List (Option ℕ) → (old : List (List ℕ)) → List (List ℕ)

@@ -1,4 +1,4 @@
-use Rattle.std.proofs.Common.{◌≡◌, ◌∙◌, ◌++◌, ap, sym, subst, List, ℕ, length, arith}
+use Rattle.std.proofs.Common.{◌≡◌, ◌∙◌, ◌++◌, ap, sym, subst, List, ℕ, arith}
 use Rattle.postscript_write.specs.SetTexts.{NamesAll, names_text, spans_text}
 use Rattle.postscript_write.proofs.SetTexts.{names_all, spans_all}
 use Rattle.postscript_write.proofs.char_sets.names.Goals as goal
