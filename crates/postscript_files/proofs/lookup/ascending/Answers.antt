@@ -15,8 +15,7 @@ pub returns-clause-same : goal.returns-clause-same
 returns-clause-same c = λ char.
     let sorted : List ℕ = c.sort.new.self.items in
     let kept : c.dedup.new.self.items ≡ dedup eqb sorted = dedup_is eqb _ _ c.dedup.ensures.filtered in
-    let items : c.in_ok-all.all.items ≡ c.args.chars.now = c.in_ok-all.ensures.items in
-    (
+    let items : c.in_ok-all.all.items ≡ c.args.chars.now = c.in_ok-all.ensures.items in (
       λ h. subst (λ xs. Contains xs char) items
           (Contains-permutation _ _ char (IsPermutation-sym _ _ c.in_ok-sort.ensures.permutation)
           (Contains-from_dedup eqb sorted char (subst (λ xs. Contains xs char) kept h))),
