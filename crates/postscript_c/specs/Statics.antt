@@ -1,5 +1,5 @@
 -- The static font file of a location of a variable font, for C.
-use Rattle.std.specs.Prelude.{◌≡◌, ◌≤◌, ◌<◌, ℕ, ℤ, pos, nat_lt, if◌then◌else◌, List, [], Bool, length, slice_get, Option, Some, None, Result, Ok, Err, IfOk, IfErr}
+use Rattle.std.specs.Prelude.{◌≡◌, ◌≤◌, ◌<◌, ◌/◌, ℕ, ℤ, pos, nat_lt, if◌then◌else◌, List, [], Bool, length, slice_get, Option, Some, None, Result, Ok, Err, IfOk, IfErr}
 use Rattle.postscript_base.specs.Error.{code}
 use Rattle.postscript_base.specs.Index.{number_at}
 use Rattle.postscript_c.specs.Answers.{undrawn_code}
@@ -16,7 +16,7 @@ use Rattle.postscript_c.specs.declared.written.PsfRefusal.{PsfRefusal}
 use Rattle.postscript_instance.specs.declared.error.Error.{Error as CodeError}
 use Rattle.postscript_instance.specs.declared.error.Error.TheVariants as code_errors
 use Rattle.postscript_instance_file.specs.Instances.{IsInstanceFile}
-use Rattle.postscript_instance_file.specs.Refusals.{NoInstanceFile}
+use Rattle.postscript_instance_file.specs.Refusals.{NoInstanceFileWithin}
 use Rattle.postscript_instance_file.specs.declared.error.Error.{Error}
 use Rattle.postscript_instance_file.specs.declared.error.Error.TheVariants as errors
 use Rattle.postscript_instance_file.specs.declared.error.GlyphError.{GlyphError}
@@ -62,22 +62,23 @@ pub record AreSettingsIn (bytes : List ℕ) (face : ℕ) (values : List ℤ) (se
   pub is : IsFaceOf bytes face file
   pub are : AreSettingsOf file values settings
 
--- the file of a face at the location of some settings, in whole units if `rounded` is not 0, or why it is not written
-pub record IsWrittenAt (bytes : List ℕ) (face : ℕ) (settings : List Setting) (rounded : ℕ) (answer : Result StaticFont Error) : Type 0 where
+-- The file of a face at the location of some settings, in whole units if `rounded` is not 0, or why it is not written. All glyphs together
+-- may cost the limit, and one glyph what `static_font` allows with a twentieth of it.
+pub record IsWrittenAt (bytes : List ℕ) (face : ℕ) (settings : List Setting) (rounded limit : ℕ) (answer : Result StaticFont Error) : Type 0 where
   pub whole : Bool
   pub set : IsSet rounded whole
   pub file : IfOk answer (λ made. IsInstanceFile whole bytes face settings made.file.items)
-  pub why : IfErr answer (λ e. NoInstanceFile whole bytes face settings e)
+  pub why : IfErr answer (λ e. NoInstanceFileWithin (limit / 20) limit whole bytes face settings e)
 
 -- The file at the location with these values, or why there is none. There is no such face, the values give no location, or the file is not
 -- written.
-abbrev pub IsStaticOf : (bytes : List ℕ) (face : ℕ) (values : List ℤ) (rounded : ℕ) → Result StaticFont NoStatic → Type 0
-IsStaticOf bytes face values rounded (Ok made) =
-    (settings : List Setting) × AreSettingsIn bytes face values settings × IsWrittenAt bytes face settings rounded (Ok made)
-IsStaticOf bytes face values rounded (Err (NoFace e)) = files.NoFace e bytes face
-IsStaticOf bytes face values rounded (Err (NoPlace e)) = (file : FontFile) × IsFaceOf bytes face file × IsUnplaced file values e
-IsStaticOf bytes face values rounded (Err (Unwritten e)) =
-    (settings : List Setting) × AreSettingsIn bytes face values settings × IsWrittenAt bytes face settings rounded (Err e)
+abbrev pub IsStaticOf : (bytes : List ℕ) (face : ℕ) (values : List ℤ) (rounded limit : ℕ) → Result StaticFont NoStatic → Type 0
+IsStaticOf bytes face values rounded limit (Ok made) =
+    (settings : List Setting) × AreSettingsIn bytes face values settings × IsWrittenAt bytes face settings rounded limit (Ok made)
+IsStaticOf bytes face values rounded limit (Err (NoFace e)) = files.NoFace e bytes face
+IsStaticOf bytes face values rounded limit (Err (NoPlace e)) = (file : FontFile) × IsFaceOf bytes face file × IsUnplaced file values e
+IsStaticOf bytes face values rounded limit (Err (Unwritten e)) =
+    (settings : List Setting) × AreSettingsIn bytes face values settings × IsWrittenAt bytes face settings rounded limit (Err e)
 
 -- the tag that a name spells
 abbrev pub tag_of : (name : List ℕ) → ℕ
@@ -187,7 +188,7 @@ TellsStatic (Ok made) status old new was told = HandsOver made.file.items status
 TellsStatic (Err e) status old new was told = (status ≡ pos (no_static_code e)) × (told ≡ no_static_refusal e) × (new ≡ old)
 
 -- the status and the outputs for a location of a face of a file
-abbrev pub TellsStaticOf : (bytes : List ℕ) (face : ℕ) (values : List ℤ) (rounded : ℕ) (status : ℤ) (old new : Lent ℕ)
+abbrev pub TellsStaticOf : (bytes : List ℕ) (face : ℕ) (values : List ℤ) (rounded limit : ℕ) (status : ℤ) (old new : Lent ℕ)
     (was told : PsfRefusal) → Type 0
-TellsStaticOf bytes face values rounded status old new was told =
-    (answer : Result StaticFont NoStatic) × IsStaticOf bytes face values rounded answer × TellsStatic answer status old new was told
+TellsStaticOf bytes face values rounded limit status old new was told =
+    (answer : Result StaticFont NoStatic) × IsStaticOf bytes face values rounded limit answer × TellsStatic answer status old new was told

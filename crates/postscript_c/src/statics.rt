@@ -129,7 +129,7 @@ fn written(
     rounded: u32,
     limit: u64,
 ) -> Result<StaticFont, Error>
-    ensures { IsWrittenAt bytes.now face settings.items rounded result }
+    ensures { IsWrittenAt bytes.now face settings.items rounded limit result }
 {
     let mut left = limit;
     let whole = is_set(rounded);
@@ -155,7 +155,7 @@ fn static_with(
     limit: u64,
 ) -> Result<StaticFont, NoStatic>
     requires { AreSettingsIn bytes.now face values.now settings.items }
-    ensures { IsStaticOf bytes.now face values.now rounded result }
+    ensures { IsStaticOf bytes.now face values.now rounded limit result }
 {
     match written(alloc, bytes, face, settings, rounded, limit) {
         Ok(made) => Ok(made),
@@ -174,7 +174,7 @@ fn static_at(
     limit: u64,
 ) -> Result<StaticFont, NoStatic>
     requires { IsFaceOf bytes.now face file.now }
-    ensures { IsStaticOf bytes.now face values.now rounded result }
+    ensures { IsStaticOf bytes.now face values.now rounded limit result }
 {
     match settings_of(alloc, file, values) {
         Ok(settings) => static_with(alloc, bytes, face, values, settings, rounded, limit),
@@ -191,7 +191,7 @@ fn static_of(
     rounded: u32,
     limit: u64,
 ) -> Result<StaticFont, NoStatic>
-    ensures { IsStaticOf bytes.now face values.now rounded result }
+    ensures { IsStaticOf bytes.now face values.now rounded limit result }
 {
     match FontFile::read(bytes, face) {
         Ok(file) => static_at(alloc, bytes, face, &file, values, rounded, limit),
@@ -371,7 +371,7 @@ pub(crate) fn tell_static_of(
     count: &mut usize,
     refusal: &mut PsfRefusal,
 ) -> i32
-    ensures { TellsStaticOf bytes.now face values.now rounded result (lent room.old count.old)
+    ensures { TellsStaticOf bytes.now face values.now rounded limit result (lent room.old count.old)
         (lent room.new count.new) refusal.old refusal.new }
 {
     let answer = static_of(alloc, bytes, face, values, rounded, limit);

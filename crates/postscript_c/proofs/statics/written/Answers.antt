@@ -5,5 +5,5 @@ returns c = record {
   whole = c.is_set-whole.result;
   set = c.is_set-whole.ensures;
   file = c.instance_file.ensures.written;
-  why = c.instance_file.ensures.why;
+  why = c.instance_file.ensures.within;
 }
