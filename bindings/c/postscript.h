@@ -221,12 +221,14 @@ typedef struct psf_instance {
 } psf_instance;
 
 /* What became of the layout tables in psf_file_subset_layout. Each number is 0 if the face has no such table (for GDEF, also no glyph
- * classes), 1 if the new file has it, 2 if none of its features is chosen, and otherwise the reason why it is lost: PSF_TOO_LARGE,
- * PSF_TOO_LONG, or PSF_CUT_TABLE if its script and feature lists are truncated or too long. */
+ * classes; for kern, also no pairs of glyphs of the new file), 1 if the new file has it, 2 if none of its features is chosen (for kern,
+ * also if keeps is not 0, or if GPOS kerns in each language), and otherwise the reason why it is lost: PSF_TOO_LARGE, PSF_TOO_LONG, or
+ * PSF_CUT_TABLE if its script and feature lists are truncated or too long. */
 typedef struct psf_layout {
     int32_t gsub;
     int32_t gpos;
     int32_t gdef;
+    int32_t kern;
 } psf_layout;
 
 /* Details of an error of psf_font_flat, psf_font_subset, psf_file_flat, psf_file_subset, psf_file_subset_layout and
@@ -339,8 +341,9 @@ int32_t psf_file_flat(const uint8_t *file, size_t length, size_t face, uint64_t 
  * are lost: psf_file_subset_layout keeps them.
  * If lenient is 0, a character without a glyph is an error; otherwise it is left out. If keeps is 0, glyphs get new numbers in
  * ascending order; otherwise they keep their numbers, and all others are empty.
+ * Only the runs of the kept glyphs share the limit; if they exceed it, the call returns PSF_TOO_LONG.
  * Outputs and errors are those of psf_file_flat, and PSF_NO_MAP, PSF_NO_ADVANCES, PSF_NO_CHARACTER, PSF_CUT_TABLE, PSF_SAME_TAG,
- * and those of psf_font_subset. */
+ * and those of psf_font_subset. A glyph that fails need not be the first one. */
 int32_t psf_file_subset(const uint8_t *file, size_t length, size_t face, const uint32_t *characters, size_t asked,
                         const size_t *glyphs, size_t named, const uint32_t *copied, size_t tables, uint32_t lenient,
                         uint32_t keeps, uint64_t limit, uint8_t *subset, size_t room, size_t *count, psf_refusal *refusal);

@@ -574,13 +574,13 @@ static void check_subset_layout(const uint8_t *file, size_t length) {
     uint8_t written[1024];
     size_t count = 0, place = 0, size = 0;
     psf_refusal refusal = {77, 77};
-    psf_layout layout = {77, 77, 77};
+    psf_layout layout = {77, 77, 77, 77};
     psf_font font;
     holds(psf_file_subset_layout(file, length, 0, letter, 1, 0, 0, 0, 0, 0, 0, 1, features, 2, 0, LIMIT, written, 20, &count, &layout, &refusal)
           == PSF_NO_ROOM && layout.gsub == 1, "no room for a subset with layout");
     holds(psf_file_subset_layout(file, length, 0, letter, 1, 0, 0, 0, 0, 0, 0, 1, features, 2, 0, LIMIT, written, 1024, &count, &layout, &refusal)
           == PSF_OK && refusal.glyph == 77, "a subset with layout");
-    holds(layout.gsub == 1 && layout.gpos == 1 && layout.gdef == 0, "its layout tables");
+    holds(layout.gsub == 1 && layout.gpos == 1 && layout.gdef == 0 && layout.kern == 0, "its layout tables");
     holds(psf_file_table(written, count, 0, gsub, &place, &size) == PSF_OK && psf_file_table(written, count, 0, gpos, &place, &size) == PSF_OK,
           "with GSUB and GPOS");
     holds(psf_file_table(written, count, 0, cff, &place, &size) == PSF_OK && psf_font_open(written + place, size, &font) == PSF_OK

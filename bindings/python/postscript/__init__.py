@@ -335,7 +335,7 @@ class _Instance(Structure):
 
 
 class _Layout(Structure):
-    _fields_ = [("gsub", c_int32), ("gpos", c_int32), ("gdef", c_int32)]
+    _fields_ = [("gsub", c_int32), ("gpos", c_int32), ("gdef", c_int32), ("kern", c_int32)]
 
 
 class _Refusal(Structure):
@@ -516,7 +516,7 @@ def _tags_of(tags: Iterable[str]) -> Any:
 
 def _tell_lost(layout: _Layout) -> None:
     """Warns of layout tables that are lost."""
-    for tag, status in (("GSUB", layout.gsub), ("GPOS", layout.gpos), ("GDEF", layout.gdef)):
+    for tag, status in (("GSUB", layout.gsub), ("GPOS", layout.gpos), ("GDEF", layout.gdef), ("kern", layout.kern)):
         if status > 2:
             warnings.warn(f"{tag} is lost: {_text_of(status)}", LayoutWarning, stacklevel=3)
 

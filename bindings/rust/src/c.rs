@@ -80,6 +80,7 @@ pub struct Layout {
     pub gsub: i32,
     pub gpos: i32,
     pub gdef: i32,
+    pub kern: i32,
 }
 
 /// `psf_operation`.

@@ -92,6 +92,8 @@ pub struct Layout {
     pub gpos: LayoutTable,
     /// Glyph classes.
     pub gdef: LayoutTable,
+    /// The pairs of a `kern` table. They are not chosen if `GPOS` kerns in each language.
+    pub kern: LayoutTable,
 }
 
 /// The tag of a table as a number.
@@ -289,8 +291,8 @@ impl<'f> SubsetFile<'f> {
         let file = self.file.unwrap_or_default();
         let (bytes, told) = c::file_subset_layout(file, self.face, &self.choice, self.limit)
             .map_err(WriteError::of)?;
-        let [gsub, gpos, gdef] = [told.gsub, told.gpos, told.gdef].map(LayoutTable::of);
-        Ok((bytes, Layout { gsub, gpos, gdef }))
+        let [gsub, gpos, gdef, kern] = [told.gsub, told.gpos, told.gdef, told.kern].map(LayoutTable::of);
+        Ok((bytes, Layout { gsub, gpos, gdef, kern }))
     }
 }
 

@@ -71,7 +71,7 @@ fn files_are_written() {
 fn files_are_written_with_layout() {
     let bytes = hex(include_str!("../../layout.hex"));
     let font = Font::from_file(&bytes, 0).unwrap();
-    let kept = |gpos| Layout { gsub: LayoutTable::Kept, gpos, gdef: LayoutTable::Absent };
+    let kept = |gpos| Layout { gsub: LayoutTable::Kept, gpos, gdef: LayoutTable::Absent, kern: LayoutTable::Absent };
     let (file, layout) = font.subset_file().text("a").exact(true).write_with_layout().unwrap();
     assert_eq!((Font::from_file(&file, 0).unwrap().glyph_count(), layout), (2, kept(LayoutTable::Kept)));
     let file = font.subset_file().text("a").write().unwrap();

@@ -1,7 +1,7 @@
 -- The result of a call that writes a font file with layout tables.
 use Rattle.std.specs.Prelude.{◌≡◌, ◌≢◌, ◌⊎◌, ◌≤◌, ℕ, ℤ, pos, List, true, false, Result, Ok, Err, IfOk, IfErr}
 use Rattle.postscript_c.specs.Texts.{HandsOver, Lent}
-use Rattle.postscript_c.specs.WholeFiles.{IsBeyond, IsChoice, RunsEnd, whole_code, whole_refusal}
+use Rattle.postscript_c.specs.WholeFiles.{IsChoice, whole_code, whole_refusal}
 use Rattle.postscript_c.specs.Written.{refusal}
 use Rattle.postscript_c.specs.declared.layouts.PsfLayout.{PsfLayout}
 use Rattle.postscript_c.specs.declared.written.PsfRefusal.{PsfRefusal}
@@ -32,6 +32,7 @@ outcomes_of subset = record {
   gsub = pos (outcome_code subset.gsub);
   gpos = pos (outcome_code subset.gpos);
   gdef = pos (outcome_code subset.gdef);
+  kern = pos (outcome_code subset.kern);
 }
 
 -- the status of an error
@@ -76,12 +77,11 @@ AreCharsOf exact bytes face chars used = ((exact ≢ 0) × (used ≡ chars)) ⊎
 abbrev pub IsLaidOutFile : (chars glyphs copied : List ℕ) (lenient keeps exact : ℕ) (tags : List ℕ) (all limit : ℕ) (bytes : List ℕ) (face : ℕ)
     (answer : Result Subset Error) → Type 0
 IsLaidOutFile chars glyphs copied lenient keeps exact tags all limit bytes face answer =
-    ((used : List ℕ) × AreCharsOf exact bytes face chars used × ((choice : Choice) × IsChoice used glyphs copied lenient keeps choice
+    ((used : List ℕ) × AreCharsOf exact bytes face chars used × ((choice : Choice) × IsChoice used glyphs copied lenient keeps limit choice
     × IsLaidOutBy choice tags all limit bytes face answer)) ⊎ ((e : Error) × (answer ≡ Err e) × NoTextChars bytes face e)
 
--- If the runs end within the limit, the result satisfies `IsAnswer`. Otherwise nothing is written, and the details are 0.
-abbrev pub TellsLaidOutWithin : (bytes : List ℕ) (face limit : ℕ) (status : ℤ) (IsAnswer : Result Subset Error → Type 0)
-    (old new : Lent ℕ) (before layout : PsfLayout) (was told : PsfRefusal) → Type 0
-TellsLaidOutWithin bytes face limit status IsAnswer old new before layout was told =
-    (RunsEnd bytes face limit × ((answer : Result Subset Error) × IsAnswer answer × TellsLaidOut answer status old new before layout was told))
-    ⊎ (IsBeyond bytes face limit status × (told ≡ refusal 0 (pos 0)) × (new ≡ old) × (layout ≡ before))
+-- the result satisfies `IsAnswer`
+abbrev pub TellsLaidOutOf : (status : ℤ) (IsAnswer : Result Subset Error → Type 0) (old new : Lent ℕ) (before layout : PsfLayout)
+    (was told : PsfRefusal) → Type 0
+TellsLaidOutOf status IsAnswer old new before layout was told =
+    (answer : Result Subset Error) × IsAnswer answer × TellsLaidOut answer status old new before layout was told

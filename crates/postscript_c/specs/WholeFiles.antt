@@ -1,5 +1,5 @@
 -- The result of a call that writes a font file.
-use Rattle.std.specs.Prelude.{◌≡◌, ◌≢◌, ◌⊎◌, ℕ, ℤ, pos, List, [], Bool, true, false, Result, Ok, Err, IfOk, IfErr, Vec}
+use Rattle.std.specs.Prelude.{◌≡◌, ◌≢◌, ◌⊎◌, ℕ, ℤ, pos, List, [], Bool, true, false, Result, Ok, Err, Some, IfOk, IfErr, Vec}
 use Rattle.std.specs.declared.alloc.Global.{Global}
 use Rattle.postscript_c.specs.Files.{file_code}
 use Rattle.postscript_c.specs.Fitting.{FirstFits, TellsFits}
@@ -67,11 +67,16 @@ pub record IsBeyond (bytes : List ℕ) (face limit : ℕ) (status : ℤ) : Type 
   pub told : TellsFits cff limit status left
   pub failed : status ≢ pos 0
 
+-- the result satisfies `IsAnswer`
+abbrev pub TellsFileOf : (status : ℤ) (IsAnswer : Result (Vec ℕ Global) Error → Type 0) (old new : Lent ℕ) (was told : PsfRefusal) → Type 0
+TellsFileOf status IsAnswer old new was told =
+    (answer : Result (Vec ℕ Global) Error) × IsAnswer answer × TellsFile answer status old new was told
+
 -- If the runs end within the limit, the result satisfies `IsAnswer`. Otherwise nothing is written, and the details are 0.
 abbrev pub TellsFileWithin : (bytes : List ℕ) (face limit : ℕ) (status : ℤ) (IsAnswer : Result (Vec ℕ Global) Error → Type 0)
     (old new : Lent ℕ) (was told : PsfRefusal) → Type 0
 TellsFileWithin bytes face limit status IsAnswer old new was told =
-    (RunsEnd bytes face limit × ((answer : Result (Vec ℕ Global) Error) × IsAnswer answer × TellsFile answer status old new was told))
+    (RunsEnd bytes face limit × TellsFileOf status IsAnswer old new was told)
     ⊎ (IsBeyond bytes face limit status × (told ≡ refusal 0 (pos 0)) × (new ≡ old))
 
 -- the file without subroutines, or why there is none
@@ -85,7 +90,7 @@ IsSet number true = number ≢ 0
 IsSet number false = number ≡ 0
 
 -- the choice of characters and glyphs that a caller makes
-pub record IsChoice (chars glyphs copied : List ℕ) (lenient keeps : ℕ) (choice : Choice) : Type 0 where
+pub record IsChoice (chars glyphs copied : List ℕ) (lenient keeps limit : ℕ) (choice : Choice) : Type 0 where
   pub chars_are : choice.chars.now ≡ chars
   pub glyphs_are : choice.glyphs.now ≡ glyphs
   pub none_unmapped : choice.unmapped.now ≡ []
@@ -93,11 +98,12 @@ pub record IsChoice (chars glyphs copied : List ℕ) (lenient keeps : ℕ) (choi
   pub leaves_out : IsSet lenient choice.lenient
   pub retains : IsSet keeps choice.retain_gids
   pub none_given : choice.given.now ≡ []
+  pub within : choice.limit ≡ Some limit
 
 -- the file with this choice of characters and glyphs, or why there is none
-pub record IsSubsetFile (chars glyphs copied : List ℕ) (lenient keeps : ℕ) (bytes : List ℕ) (face : ℕ)
+pub record IsSubsetFile (chars glyphs copied : List ℕ) (lenient keeps limit : ℕ) (bytes : List ℕ) (face : ℕ)
     (answer : Result (Vec ℕ Global) Error) : Type 0 where
   pub choice : Choice
-  pub chosen : IsChoice chars glyphs copied lenient keeps choice
+  pub chosen : IsChoice chars glyphs copied lenient keeps limit choice
   pub subset : IfOk answer (λ file. IsSubsetOf choice bytes face file.items)
   pub refused : IfErr answer (λ e. NoSubsetOf choice bytes face e)

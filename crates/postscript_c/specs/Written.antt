@@ -22,7 +22,7 @@ use Rattle.postscript_write.specs.Sizes.{HasShortCodes, IsSmall}
 use Rattle.postscript_write.specs.Sources.{AreThere, IsWritten, every}
 use Rattle.postscript_write.specs.Whole.{IsWholeFont}
 use Rattle.postscript_write.specs.declared.error.Error.{Error}
-use Rattle.postscript_write.specs.declared.error.Error.TheVariants.{Refused, Glyph, SeveralFonts, MissingGlyph, MissingPart, MissingName, LongGlyph, NoGlyphs, TooLarge}
+use Rattle.postscript_write.specs.declared.error.Error.TheVariants.{Refused, Glyph, SeveralFonts, MissingGlyph, MissingPart, MissingName, LongGlyph, NoGlyphs, TooLarge, TooLong}
 
 -- the status of an error; if the font is rejected, it is the status of the cause
 abbrev pub written_code : Error → ℕ
@@ -35,6 +35,7 @@ written_code (MissingName glyph) = 38
 written_code (LongGlyph glyph) = 45
 written_code NoGlyphs = 43
 written_code TooLarge = 45
+written_code TooLong = 46
 
 abbrev pub refusal : (glyph : ℕ) → (cause : ℤ) → PsfRefusal
 refusal glyph cause = record { glyph = glyph; cause = cause }
@@ -50,6 +51,7 @@ refusal_of (Refused cause) = refusal 0 (pos 0)
 refusal_of SeveralFonts = refusal 0 (pos 0)
 refusal_of NoGlyphs = refusal 0 (pos 0)
 refusal_of TooLarge = refusal 0 (pos 0)
+refusal_of TooLong = refusal 0 (pos 0)
 
 -- On 0 the font is stored, and on 32 only its size. Otherwise the status is an error's, and the glyph and the cause of the error are
 -- stored. The other outputs are unchanged.

@@ -14,13 +14,14 @@ use postscript_subset::{Error, Features, Outcome, Result, Subset, subset_with_la
 use std::alloc::Global;
 
 /// What became of the layout tables. Each number is 0 if the face has no such table, 1 if the new file has it, and 2 if none
-/// of its features is chosen. Otherwise the table is lost, and the number is the status of the reason: 45, 46 or 73.
+/// of its features is chosen, or `kern` is not needed. Otherwise the table is lost, and the number is the status of the reason: 45, 46 or 73.
 #[repr(C)]
 #[derive(Clone, Copy)]
 pub struct PsfLayout {
     pub gsub: i32,
     pub gpos: i32,
     pub gdef: i32,
+    pub kern: i32,
 }
 
 /// The number of an outcome.
@@ -46,6 +47,7 @@ fn layout_of(subset: &Subset) -> PsfLayout
         gsub: outcome_status(subset.gsub),
         gpos: outcome_status(subset.gpos),
         gdef: outcome_status(subset.gdef),
+        kern: outcome_status(subset.kern),
     }
 }
 
@@ -156,6 +158,6 @@ pub(crate) fn laid_out_of(
     ensures { IsLaidOutFile chars.now glyphs.now copied.now lenient keeps exact tags.now all limit bytes.now face result }
 {
     let used = chars_of(alloc, bytes, face, chars, exact)?;
-    let choice = choice_of(&used, glyphs, copied, lenient, keeps);
+    let choice = choice_of(&used, glyphs, copied, lenient, keeps, limit);
     laid_out(alloc, bytes, face, &choice, tags, all, limit)
 }

@@ -93,8 +93,9 @@ pub(crate) fn choice_of<'l>(
     copied: &'l [u32],
     lenient: u32,
     keeps: u32,
+    limit: u64,
 ) -> Choice<'l>
-    ensures { IsChoice chars.now glyphs.now copied.now lenient keeps result }
+    ensures { IsChoice chars.now glyphs.now copied.now lenient keeps limit result }
 {
     Choice {
         chars,
@@ -104,6 +105,7 @@ pub(crate) fn choice_of<'l>(
         retain_gids: keeps != 0,
         copied,
         given: &[],
+        limit: Some(limit),
     }
 }
 
@@ -117,9 +119,10 @@ pub(crate) fn subset_of(
     copied: &[u32],
     lenient: u32,
     keeps: u32,
+    limit: u64,
 ) -> Result<Vec<u8>>
-    ensures { IsSubsetFile chars.now glyphs.now copied.now lenient keeps bytes.now face result }
+    ensures { IsSubsetFile chars.now glyphs.now copied.now lenient keeps limit bytes.now face result }
 {
-    let choice = choice_of(chars, glyphs, copied, lenient, keeps);
+    let choice = choice_of(chars, glyphs, copied, lenient, keeps, limit);
     subset_file(alloc, bytes, face, &choice)
 }

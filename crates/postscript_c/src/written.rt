@@ -7,7 +7,7 @@ ghost use Rattle.postscript_write.specs.Making.{IsCutFont, IsKeptFont};
 ghost use Rattle.postscript_write.specs.Sources.{chosen, keeping};
 
 use crate::status::{
-    NO_GLYPH, NO_GLYPHS, NO_NAME, NO_PART, REFUSED_GLYPH, SEVERAL_FONTS, TOO_LARGE,
+    NO_GLYPH, NO_GLYPHS, NO_NAME, NO_PART, REFUSED_GLYPH, SEVERAL_FONTS, TOO_LARGE, TOO_LONG,
 };
 use crate::texts::hand_over;
 use crate::told::status;
@@ -37,6 +37,7 @@ pub(crate) fn written_status(e: &Error) -> i32
         Error::MissingName(_) => NO_NAME,
         Error::NoGlyphs => NO_GLYPHS,
         Error::LongGlyph(_) | Error::TooLarge => TOO_LARGE,
+        Error::TooLong => TOO_LONG,
     }
 }
 

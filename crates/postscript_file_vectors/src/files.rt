@@ -171,6 +171,21 @@ fn choices_that_do_not_fit(rt: HostRuntime) {
     }
 }
 
+/// The glyph of `0x60` costs 8 units, and `.notdef` 1.
+#[test]
+fn files_within_a_limit(rt: HostRuntime) {
+    let alloc = rt.alloc();
+    let bytes = file(&rt, alloc, 0, "", 0);
+    let mut asked = choice(&[0x60], false, &[]);
+    asked.limit = Some(9);
+    let found = refusal(&rt, alloc, bytes.as_slice(), &asked);
+    is_text(&rt, found.as_str(), "", "a file");
+    asked.limit = Some(8);
+    let found = refusal(&rt, alloc, bytes.as_slice(), &asked);
+    let wanted = "the kept glyphs cost more than the limit";
+    is_text(&rt, found.as_str(), wanted, "no file");
+}
+
 /// Empty tables with the tags from 1 to the one before `end`.
 fn empty_tables<R: Abort>(rt: &R, alloc: Global, end: u32) -> Vec<Given> {
     let mut tables = Vec::new(alloc);

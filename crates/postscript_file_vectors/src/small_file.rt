@@ -78,5 +78,6 @@ pub fn choice<'t>(chars: &'t [u32], retain_gids: bool, copied: &'t [u32]) -> Cho
         retain_gids,
         copied,
         given: &[],
+        limit: None,
     }
 }

@@ -7,7 +7,9 @@ use postscript::compact1::FontSet;
 use postscript_base::index::IndexView;
 use postscript_drawing::{LIMIT, outline_of};
 use postscript_view::FontView;
-use postscript_write::{Error, flat_font, index, kept_glyphs, subset, subset_keeping};
+use postscript_write::{
+    Error, flat_font, index, kept_glyphs, kept_glyphs_within, subset, subset_keeping, subset_within,
+};
 use std::alloc::Global;
 use std::io::Cursor;
 use std::process::Abort;
@@ -224,6 +226,40 @@ fn components_kept(rt: HostRuntime) {
     keeps(&rt, alloc, bytes.as_slice(), 3, &[0, 1, 2, 3]);
     keeps(&rt, alloc, bytes.as_slice(), 2, &[0, 2]);
     keeps(&rt, alloc, bytes.as_slice(), 0, &[0]);
+}
+
+/// The `seac` glyph costs 6 units, its base and its accent 8 each, and `.notdef` 1. So the limits 23 and 22 are on both
+/// sides of the cost.
+#[test]
+fn glyphs_kept_within_a_limit(rt: HostRuntime) {
+    let alloc = rt.alloc();
+    let bytes = bytes_of(&rt, alloc, ACCENTED);
+    let told = kept_glyphs_within(alloc, bytes.as_slice(), &[3], Some(23)).expect(&rt, "glyphs");
+    holds(&rt, told.as_slice() == [0, 1, 2, 3], "all glyphs");
+    let past = kept_glyphs_within(alloc, bytes.as_slice(), &[3], Some(22));
+    holds(&rt, matches!(past, Err(Error::TooLong)), "past the limit");
+    for keeps in [false, true] {
+        let cut = subset_within(alloc, bytes.as_slice(), &[3], keeps, Some(23)).expect(&rt, "23");
+        holds(&rt, cut.kept.as_slice() == [0, 1, 2, 3], "all kept");
+        draws(&rt, alloc, cut.font.as_slice(), 3, 8);
+        let past = subset_within(alloc, bytes.as_slice(), &[3], keeps, Some(22));
+        holds(&rt, matches!(past, Err(Error::TooLong)), "past the limit");
+    }
+}
+
+/// With a limit, the error of a glyph that fails comes from the search.
+#[test]
+fn glyphs_that_fail_within_a_limit(rt: HostRuntime) {
+    let alloc = rt.alloc();
+    let mut bytes = joined(&rt, alloc, PLAIN, "00 02 4142");
+    // the code of glyph 2 returns
+    if let Some(code) = bytes.get_mut(69) {
+        *code = 0x0b;
+    }
+    let refused = subset_within(alloc, bytes.as_slice(), &[3, 2], false, Some(1000));
+    holds(&rt, matches!(refused, Err(Error::Glyph(2, _))), "glyph 2");
+    let written = subset_within(alloc, bytes.as_slice(), &[3], false, Some(1000));
+    holds(&rt, written.is_ok(), "without glyph 2");
 }
 
 /// A component that the font does not have is not kept, and drawing the glyph fails as before.

@@ -27,7 +27,8 @@ use Rattle.postscript_files.specs.Copies.{tagged}
 use Rattle.postscript_files.specs.Faces.{IsBestMap, IsFaceIn, cff_tag, cmap_tag, hhea_tag, hmtx_tag, maxp_tag}
 use Rattle.postscript_files.specs.Listed.{AreParts, HasParts, IsFileOfParts, IsUnmade, NoFileOfParts}
 use Rattle.postscript_files.specs.Made.{AreBytes, HasNoOrigins, IsCutFile, IsHmtxOf, IsMade, IsMapOf}
-use Rattle.postscript_files.specs.Origins.{AreFew, AreOrigins, AreOriginsOf, IsCutRefusedBy, IsKeptGlyph, IsOrigin, NoOriginsOf}
+use Rattle.postscript_write.specs.Costs.{KeepsWithin}
+use Rattle.postscript_files.specs.Origins.{AreFew, AreOrigins, AreOriginsOf, IsCutRefusedBy, IsKeptGlyph, IsOrigin, KeepsToLimit, NoOriginsOf}
 use Rattle.postscript_files.specs.Subsets.{AreCounted, AreInOrder, AreTablesOf, HasSame, IsSame, IsSubsetFace, IsSubsetFile, IsSubsetFont, IsSubsetOf, KeepsNumber, NoSubsetBy, NoSubsetFrom, NoSubsetOf}
 use Rattle.postscript_files.specs.declared.choice.Choice.{Choice}
 use Rattle.postscript_files.specs.declared.error.Error.{Error}
@@ -367,15 +368,17 @@ opened choice old pairs origins font made file some m it =
 
 pub if-subset : (r : Result (Vec ℕ Global) Error) (choice : Choice) (old : Face) (pairs : List Mapping) (named origins font : List ℕ)
     (made : Made) → AreKeptPairs choice old.map pairs → named ≡ named_of (glyphs_of choice) pairs →
-    IsSubsetFont choice.retain_gids named old.cff.now font → AreOrigins choice.retain_gids named old.cff.now origins →
+    IsSubsetFont choice.retain_gids named old.cff.now font → KeepsWithin choice.limit named old.cff.now →
+    AreOrigins choice.retain_gids named old.cff.now origins →
     IsMade old pairs origins made → IfOk r (λ file. IsFileOfParts choice old.file font made file.items) →
     IfOk r (λ file. IsCutFile choice old file.items)
-if-subset (Ok file) choice old pairs named origins font made kept same is are m it =
+if-subset (Ok file) choice old pairs named origins font made kept same is within are m it =
     let font-is : IsSubsetFont choice.retain_gids (named_of (glyphs_of choice) pairs) old.cff.now font =
     subst (λ (xs : List ℕ). IsSubsetFont choice.retain_gids xs old.cff.now font) same is in
     let origins-are : AreOrigins choice.retain_gids (named_of (glyphs_of choice) pairs) old.cff.now origins =
     subst (λ (xs : List ℕ). AreOrigins choice.retain_gids xs old.cff.now origins) same are in
     record {
+      within = (pairs, kept, subst (λ (xs : List ℕ). KeepsWithin choice.limit xs old.cff.now) same within);
       opens = it.opens;
       sound = it.sound;
       there = opened choice old pairs origins font made file.items
@@ -383,7 +386,7 @@ if-subset (Ok file) choice old pairs named origins font made kept same is are m 
       is = λ new read.
           subset-face choice old new pairs origins font made kept font-is origins-are m (it.is new.file read.read) file.items read;
     }
-if-subset (Err e) choice old pairs named origins font made kept same is are m it = tt
+if-subset (Err e) choice old pairs named origins font made kept same is within are m it = tt
 
 pub subset-by : (r : Result (Vec ℕ Global) Error) (choice : Choice) (old : Face) →
     (choice.lenient ≡ false → NoneIsMissing old.map choice.chars.now) → IfOk r (λ file. IsCutFile choice old file.items) →
@@ -392,6 +395,7 @@ subset-by (Ok file) choice old all it = record {
   opens = it.opens;
   sound = it.sound;
   all = all;
+  within = it.within;
   there = it.there;
   is = it.is;
 }
@@ -405,6 +409,7 @@ subset-so (Ok file) choice bytes number old was it = record {
   opens = it.opens;
   sound = it.sound;
   all = it.all;
+  within = it.within;
   there = it.there;
   is = it.is;
 }
@@ -544,18 +549,18 @@ no-written-so (Err e) choice old pairs named origins font made kept same is few 
 -- the font of the named glyphs is refused
 pub no-font-so : (e : Error) (choice : Choice) (old : Face) (pairs : List Mapping) (named all : List ℕ) → AreKeptPairs choice old.map pairs →
     named ≡ named_of (glyphs_of choice) pairs → all ≡ named →
-    (fault : Refusal) × (e ≡ errors.Font fault) × IsCutRefusedBy choice.retain_gids all old.cff.now fault →
+    (fault : Refusal) × (e ≡ errors.Font fault) × IsCutRefusedBy choice.limit choice.retain_gids all old.cff.now fault →
     NoSubsetFrom choice old e
 no-font-so e choice old pairs named all kept is same h =
     subst (λ (x : Error). NoSubsetFrom choice old x) (sym h.1) (
       pairs,
       kept,
-      subst (λ (xs : List ℕ). IsCutRefusedBy choice.retain_gids xs old.cff.now h.0) (same ∙ is) h.2,
+      subst (λ (xs : List ℕ). IsCutRefusedBy choice.limit choice.retain_gids xs old.cff.now h.0) (same ∙ is) h.2,
     )
 
 pub no-origins-so : (e : Error) (choice : Choice) (old : Face) (pairs : List Mapping) (named all : List ℕ) →
     AreKeptPairs choice old.map pairs → named ≡ named_of (glyphs_of choice) pairs → all ≡ named →
-    HasNoOrigins choice.retain_gids all old.cff.now e → NoSubsetFrom choice old e
+    HasNoOrigins choice.limit choice.retain_gids all old.cff.now e → NoSubsetFrom choice old e
 no-origins-so e choice old pairs named all kept is same h = elim h [
   | inl memory ↦ subst (λ (x : Error). NoSubsetFrom choice old x) (sym memory) tt
   | inr font ↦ no-font-so e choice old pairs named all kept is same font
@@ -563,19 +568,19 @@ no-origins-so e choice old pairs named all kept is same h = elim h [
 
 -- the origins of a choice are not found
 no-order : (e : Error) (choice : Choice) (old : Face) (pairs : List Mapping) (all : List ℕ) → AreKeptPairs choice old.map pairs →
-    all ≡ named_of (glyphs_of choice) pairs → HasNoOrigins choice.retain_gids all old.cff.now e → NoOriginsOf choice old e
+    all ≡ named_of (glyphs_of choice) pairs → HasNoOrigins choice.limit choice.retain_gids all old.cff.now e → NoOriginsOf choice old e
 no-order e choice old pairs all kept same h = elim h [
   | inl memory ↦ subst (λ (x : Error). NoOriginsOf choice old x) (sym memory) tt
   | inr font ↦ subst (λ (x : Error). NoOriginsOf choice old x) (sym font.1) (
     pairs,
     kept,
-    subst (λ (xs : List ℕ). IsCutRefusedBy choice.retain_gids xs old.cff.now font.0) same font.2,
+    subst (λ (xs : List ℕ). IsCutRefusedBy choice.limit choice.retain_gids xs old.cff.now font.0) same font.2,
   )
 ]
 
 pub no-origins-of : (r : Result (Vec ℕ Global) Error) (choice : Choice) (old : Face) (pairs : List Mapping) (all : List ℕ) →
     AreKeptPairs choice old.map pairs → all ≡ named_of (glyphs_of choice) pairs →
-    IfErr r (λ e. HasNoOrigins choice.retain_gids all old.cff.now e) → IfErr r (λ e. NoOriginsOf choice old e)
+    IfErr r (λ e. HasNoOrigins choice.limit choice.retain_gids all old.cff.now e) → IfErr r (λ e. NoOriginsOf choice old e)
 no-origins-of (Ok origins) choice old pairs all kept same h = tt
 no-origins-of (Err e) choice old pairs all kept same h = no-order e choice old pairs all kept same h
 

@@ -1,5 +1,5 @@
 -- The tables that are made. Only private contracts, laws and proofs use these definitions.
-use Rattle.std.specs.Prelude.{◌≡◌, ◌⊎◌, ℕ, ◌+◌, ◌*◌, ◌<◌, ◌≤◌, Bool, List, length, map, take, drop, replicate, slice_index_or}
+use Rattle.std.specs.Prelude.{◌≡◌, ◌⊎◌, ℕ, ◌+◌, ◌*◌, ◌<◌, ◌≤◌, Bool, List, Option, length, map, take, drop, replicate, slice_index_or}
 use Rattle.postscript_base.specs.Index.{number_at}
 use Rattle.postscript_sfnt.specs.Lent.{IsTableOf}
 use Rattle.postscript_sfnt.specs.Metrics.{IsGlyphs, IsWord}
@@ -19,7 +19,7 @@ use Rattle.postscript_write.specs.Sources.{chosen}
 use Rattle.postscript_write.specs.declared.error.Error.{Error as Refusal}
 use Rattle.postscript_files.specs.Faces.{IsFaceIn, post_tag}
 use Rattle.postscript_files.specs.Measures.{metric_in}
-use Rattle.postscript_files.specs.Origins.{IsCutRefusedBy, IsOrigin}
+use Rattle.postscript_files.specs.Origins.{IsCutRefusedBy, IsOrigin, KeepsToLimit}
 use Rattle.postscript_files.specs.Renumbered.{AreNumbersOf, AreRenumbered, AreSmall}
 use Rattle.postscript_files.specs.Subsets.{IsSubsetFace}
 use Rattle.postscript_files.specs.declared.choice.Choice.{Choice}
@@ -83,12 +83,13 @@ pub record IsMade (face : Face) (pairs : List Mapping) (origins : List ℕ) (mad
   pub post_size : length made.post.items ≡ 32
 
 -- why the origins are not found
-abbrev pub HasNoOrigins : (retain : Bool) → (named cff : List ℕ) → Error → Type 0
-HasNoOrigins retain named cff e = (e ≡ errors.Memory)
-    ⊎ ((fault : Refusal) × (e ≡ errors.Font fault) × IsCutRefusedBy retain named cff fault)
+abbrev pub HasNoOrigins : Option ℕ → (retain : Bool) → (named cff : List ℕ) → Error → Type 0
+HasNoOrigins limit retain named cff e = (e ≡ errors.Memory)
+    ⊎ ((fault : Refusal) × (e ≡ errors.Font fault) × IsCutRefusedBy limit retain named cff fault)
 
--- A sound file that opens, and whose face is a subset of this one however it is read.
+-- A sound file that opens, and whose face is a subset of this one however it is read. If there is a limit, the kept glyphs share it.
 pub record IsCutFile (choice : Choice) (old : Face) (file : List ℕ) : Type 0 where
+  pub within : KeepsToLimit choice old
   pub opens : (count : ℕ) × Opens file count
   pub sound : IsSoundFile file
   pub there : (new : Face) × IsFaceIn file 0 new

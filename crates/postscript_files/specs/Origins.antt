@@ -1,5 +1,5 @@
 -- The new numbers of glyphs. The origin of a new glyph is the old glyph that it is made of.
-use Rattle.std.specs.Prelude.{◌≡◌, ◌≢◌, ◌⊎◌, ◌↔◌, ℕ, ◌<◌, Bool, true, false, List, length, slice_index_or}
+use Rattle.std.specs.Prelude.{◌≡◌, ◌≢◌, ◌⊎◌, ◌↔◌, ℕ, ◌<◌, Bool, true, false, List, Option, length, slice_index_or}
 use Rattle.std.specs.List.{Contains, range_with_len}
 use Rattle.postscript_base.specs.declared.error.Error as causes
 use Rattle.postscript_base.specs.declared.error.Error.TheVariants as reasons
@@ -7,6 +7,7 @@ use Rattle.postscript_drawing.specs.Components.{glyphs_of as glyphs_in}
 use Rattle.postscript_sfnt_write.specs.declared.mapping.Mapping.{Mapping}
 use Rattle.postscript_view.specs.declared.font.FontView.{FontView}
 use Rattle.postscript_write.specs.Components.{AreKept, IsOpened}
+use Rattle.postscript_write.specs.Costs.{KeepsWithin, StopsIn}
 use Rattle.postscript_write.specs.Refusals.{IsRefusedAs, IsSubsetRefusedBy, NeedsNoName}
 use Rattle.postscript_write.specs.Sources.{choice_by}
 use Rattle.postscript_write.specs.declared.error.Error.{Error as Refusal}
@@ -50,13 +51,19 @@ abbrev pub IsKeptGlyph : Choice → Face → (glyph : ℕ) → Type 0
 IsKeptGlyph choice face glyph = (pairs : List Mapping) × (kept : List ℕ) × AreKeptPairs choice face.map pairs
     × AreKept (named_of (glyphs_of choice) pairs) face.cff.now kept × Contains kept glyph
 
+-- if there is a limit, the runs of the kept glyphs share it
+abbrev pub KeepsToLimit : Choice → Face → Type 0
+KeepsToLimit choice face = (pairs : List Mapping) × AreKeptPairs choice face.map pairs
+    × KeepsWithin choice.limit (named_of (glyphs_of choice) pairs) face.cff.now
+
 -- the number of glyphs in the `CFF ` table
 abbrev pub HasGlyphs : Face → (count : ℕ) → Type 0
 HasGlyphs face count = (font : FontView) × IsOpened face.cff.now font × (count ≡ glyphs_in font)
 
--- why a font with only these glyphs is not written, as `subset` says, or `subset_keeping` if glyphs keep their numbers
-pub record IsCutRefusedBy (retain : Bool) (named cff : List ℕ) (e : Refusal) : Type 0 where
-  pub why : IsSubsetRefusedBy named (choice_by retain) cff e
+-- Why a font with only these glyphs is not written, as `subset` says, or `subset_keeping` if glyphs keep their numbers. Or the limit is used
+-- up, or a kept glyph fails.
+pub record IsCutRefusedBy (limit : Option ℕ) (retain : Bool) (named cff : List ℕ) (e : Refusal) : Type 0 where
+  pub why : IsSubsetRefusedBy named (choice_by retain) cff e ⊎ StopsIn cff named limit e
   pub names : retain ≡ true → NeedsNoName e
 
 -- why a font is not opened
@@ -68,5 +75,5 @@ IsUnopened cff e = (e ≡ errors.Memory)
 abbrev pub NoOriginsOf : Choice → Face → Error → Type 0
 NoOriginsOf choice face Memory = Unit {0}
 NoOriginsOf choice face (Font e) = (pairs : List Mapping) × AreKeptPairs choice face.map pairs
-    × IsCutRefusedBy choice.retain_gids (named_of (glyphs_of choice) pairs) face.cff.now e
+    × IsCutRefusedBy choice.limit choice.retain_gids (named_of (glyphs_of choice) pairs) face.cff.now e
 NoOriginsOf choice face _ = ⊥

@@ -19,7 +19,7 @@ use Rattle.postscript_view.specs.Layout.{IsLaidOut}
 use Rattle.postscript_view.specs.declared.font.FontView.{FontView}
 use Rattle.postscript_write.specs.Components.{IsOpened, IsSubset}
 use Rattle.postscript_write.specs.Drawings.{DrawsKept, DrawsTheSame}
-use Rattle.postscript_write.specs.Kept.{HasAllInPlace, HasAllKept}
+use Rattle.postscript_write.specs.Kept.{HasAllBy}
 use Rattle.postscript_write.specs.Making.{IsFontBy}
 use Rattle.postscript_write.specs.SameGlyphs.{GlyphsKept, IsSameGlyph}
 use Rattle.postscript_write.specs.Sources.{AreThere, choice_by}
@@ -27,7 +27,7 @@ use Rattle.postscript_files.specs.Choices.{AreKeptPairs, AreMappingsOf, IsFirstO
 use Rattle.postscript_files.specs.Copies.{AreTooLarge, HasCopy, IsListed, tagged}
 use Rattle.postscript_files.specs.Faces.{IsFaceIn, IsNeeded, NoFaceIn, cff_tag, cmap_tag, hhea_tag, hmtx_tag, maxp_tag, post_tag}
 use Rattle.postscript_files.specs.Measures.{bearing_in}
-use Rattle.postscript_files.specs.Origins.{AreOriginsOf, IsCutRefusedBy, IsKeptGlyph, IsOrigin}
+use Rattle.postscript_files.specs.Origins.{AreOriginsOf, IsCutRefusedBy, IsKeptGlyph, IsOrigin, KeepsToLimit}
 use Rattle.postscript_files.specs.Sound.{IsSoundFont}
 use Rattle.postscript_files.specs.declared.choice.Choice.{Choice}
 use Rattle.postscript_files.specs.declared.choice.Given.{Given}
@@ -39,11 +39,6 @@ use Rattle.postscript_files.specs.declared.face.Face.{Face}
 abbrev pub AreNamed : Choice → (old : Face) → (named : List ℕ) → Type 0
 AreNamed choice old named = (glyph : ℕ) → Contains named glyph →
     Contains (glyphs_of choice) glyph ⊎ ((char : ℕ) × IsKept choice old.map char glyph)
-
--- the glyphs that `kept_glyphs` returns are in the new table, in order, or under their old numbers if glyphs keep them
-abbrev pub HasAllBy : (retain : Bool) → (named cff new : List ℕ) → Type 0
-HasAllBy true named cff new = HasAllInPlace named cff new
-HasAllBy false named cff new = HasAllKept named cff new
 
 -- The new `CFF ` table is one that `subset` writes, or `subset_keeping` if glyphs keep their numbers.
 pub record IsSubsetFont (retain : Bool) (named cff new : List ℕ) : Type 0 where
@@ -146,23 +141,25 @@ pub record IsSubsetFace (choice : Choice) (old new : Face) : Type 0 where
   pub given : (i : ℕ) (table : Given) → slice_get choice.given.now i ≡ Some table → HasCopy new.file table.tag table.bytes.items
   pub only : (i : ℕ) → i < tables_of new.file → IsExpected choice old.file (tag_of new.file i)
 
--- The old file has the face, with all characters that are asked for unless missing ones are left out. The new file is sound. It has one
--- face, of version "OTTO", which opens, and it is such a subset however it is opened.
+-- The old file has the face, with all characters that are asked for unless missing ones are left out. If there is a limit, the runs of the
+-- kept glyphs share it. The new file is sound. It has one face, of version "OTTO", which opens, and it is such a subset however it is opened.
 pub record IsSubsetOf (choice : Choice) (bytes : List ℕ) (number : ℕ) (file : List ℕ) : Type 0 where
   pub old : Face
   pub was : IsFaceIn bytes number old
   pub opens : (count : ℕ) × Opens file count
   pub sound : IsSoundFile file
   pub all : choice.lenient ≡ false → NoneIsMissing old.map choice.chars.now
+  pub within : KeepsToLimit choice old
   pub there : (new : Face) × IsFaceIn file 0 new
   pub is : (new : Face) → IsFaceIn file 0 new → IsSubsetFace choice old new
 
--- The face has all characters that are asked for, unless missing ones are left out. The new file is sound. It has one face, of version
--- "OTTO", which opens, and it is a subset of this face however it is opened.
+-- The face has all characters that are asked for, unless missing ones are left out. If there is a limit, the runs of the kept glyphs share
+-- it. The new file is sound. It has one face, of version "OTTO", which opens, and it is a subset of this face however it is opened.
 pub record IsSubsetFile (choice : Choice) (old : Face) (file : List ℕ) : Type 0 where
   pub opens : (count : ℕ) × Opens file count
   pub sound : IsSoundFile file
   pub all : choice.lenient ≡ false → NoneIsMissing old.map choice.chars.now
+  pub within : KeepsToLimit choice old
   pub there : (new : Face) × IsFaceIn file 0 new
   pub is : (new : Face) → IsFaceIn file 0 new → IsSubsetFace choice old new
 
@@ -216,7 +213,7 @@ NoSubsetFrom choice old Cut = length old.maxp.now < 6
 NoSubsetFrom choice old (MissingCharacter char) = (choice.lenient ≡ false) × IsFirstOf old.map choice.chars.now char
 NoSubsetFrom choice old (SameTag tag) = IsTwice choice old.file tag
 NoSubsetFrom choice old (Font e) = (pairs : List Mapping) × AreKeptPairs choice old.map pairs
-    × IsCutRefusedBy choice.retain_gids (named_of (glyphs_of choice) pairs) old.cff.now e
+    × IsCutRefusedBy choice.limit choice.retain_gids (named_of (glyphs_of choice) pairs) old.cff.now e
 NoSubsetFrom choice old _ = ⊥
 
 -- No subset of the face is written, or its `hhea` table is truncated.

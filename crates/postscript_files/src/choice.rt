@@ -45,6 +45,8 @@ pub struct Choice<'t> {
     pub copied: &'t [u32],
     /// Further tables for the new file.
     pub given: &'t [Given],
+    /// The limit that the runs of all kept glyphs share, in units of `Program::step_within`, or `None` if there is none.
+    pub limit: Option<u64>,
 }
 
 /// Sets the mark of a number, if there is one.

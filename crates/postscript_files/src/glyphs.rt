@@ -53,7 +53,9 @@ impl Face<'_> {
     ///
     /// # Errors
     ///
-    /// - `Font`: the `CFF ` table is malformed, or a chosen glyph is missing, or no glyph is kept.
+    /// - `Font`: the `CFF ` table is malformed, or a chosen glyph is missing, or no glyph is kept, or (`TooLong`) the runs of
+    ///   the kept glyphs cost more than `choice.limit`. If there is a limit and glyphs get new numbers, it is an error that
+    ///   the charstring of a kept glyph fails.
     /// - `Memory`: out of memory.
     pub fn origins(&self, alloc: Global, choice: &Choice<'_>) -> Result<Vec<usize>>
         // These are the old glyphs that the new glyphs are made of, in the order of the new numbers.
@@ -65,6 +67,11 @@ impl Face<'_> {
     {
         let pairs = kept_pairs(alloc, &self.map, choice)?;
         let named = named(alloc, choice, &pairs)?;
-        origins_of(alloc, self.cff, &named, choice.retain_gids)
+        let Choice {
+            retain_gids,
+            limit,
+            ..
+        } = *choice;
+        origins_of(alloc, self.cff, &named, retain_gids, limit)
     }
 }

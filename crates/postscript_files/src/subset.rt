@@ -4,6 +4,8 @@ ghost use Rattle.std.specs.List.{range_with_len};
 ghost use Rattle.postscript_sfnt.specs.Lent.{HasNoTable, IsTableOf};
 ghost use Rattle.postscript_sfnt.specs.Metrics.{IsGlyphs, IsWord};
 ghost use Rattle.postscript_sfnt_write.specs.Metrics.{KeepsBut};
+ghost use Rattle.postscript_write.specs.Components.{AreKept};
+ghost use Rattle.postscript_write.specs.Costs.{KeepsWithin, StopsIn};
 ghost use Rattle.postscript_write.specs.Refusals.{IsChoiceRefusedBy};
 ghost use Rattle.postscript_write.specs.declared.error.Error.{Error as Refusal};
 ghost use Rattle.postscript_files.specs.Copies.{IsListed};
@@ -25,43 +27,29 @@ use postscript_sfnt_write::{
     Mapping, Table, cmap, hmtx, with_number_of_glyphs, with_number_of_metrics, without_names,
 };
 use postscript_view::FontView;
-use postscript_write::{kept_glyphs, subset, subset_keeping};
+use postscript_write::{FontSubset, kept_glyphs_within, subset_within};
 use std::alloc::Global;
 
 /// A `post` table without information.
 const NO_POST: [u8; 32] = [0; 32];
 
-/// Writes a font with only these glyphs, which keep their numbers.
-fn font_keeping(alloc: Global, cff: &[u8], named: &[usize]) -> Result<Vec<u8>>
-    ensures font { IfOk result (λ font. IsSubsetFont true named.now cff.now font.items) }
-    ensures refused { IfErr result (λ e. (fault : Refusal) × (e ≡ errors.Font fault) × IsCutRefusedBy true named.now cff.now fault) }
+/// Writes a font with only these glyphs, and returns the glyphs that it is made of. `retain_gids` is set if they keep
+/// their numbers.
+fn cut_of(
+    alloc: Global,
+    cff: &[u8],
+    named: &[usize],
+    retain_gids: bool,
+    limit: Option<u64>,
+) -> Result<FontSubset>
+    ensures font { IfOk result (λ cut. IsSubsetFont retain_gids named.now cff.now cut.font.items) }
+    ensures kept { IfOk result (λ cut. AreKept named.now cff.now cut.kept.items) }
+    ensures within { OnOk result (KeepsWithin limit named.now cff.now) }
+    ensures refused { IfErr result (λ e. (fault : Refusal) × (e ≡ errors.Font fault) × IsCutRefusedBy limit retain_gids named.now cff.now fault) }
 {
-    match subset_keeping(alloc, cff, named) {
-        Ok(font) => Ok(font),
+    match subset_within(alloc, cff, named, retain_gids, limit) {
+        Ok(cut) => Ok(cut),
         Err(error) => Err(Error::Font(error)),
-    }
-}
-
-/// Writes a font with only these glyphs, which get new numbers.
-fn font_anew(alloc: Global, cff: &[u8], named: &[usize]) -> Result<Vec<u8>>
-    ensures font { IfOk result (λ font. IsSubsetFont false named.now cff.now font.items) }
-    ensures refused { IfErr result (λ e. (fault : Refusal) × (e ≡ errors.Font fault) × IsCutRefusedBy false named.now cff.now fault) }
-{
-    match subset(alloc, cff, named) {
-        Ok(font) => Ok(font),
-        Err(error) => Err(Error::Font(error)),
-    }
-}
-
-/// Writes a font with only these glyphs. `retain_gids` is set if they keep their numbers.
-fn font_of(alloc: Global, cff: &[u8], named: &[usize], retain_gids: bool) -> Result<Vec<u8>>
-    ensures font { IfOk result (λ font. IsSubsetFont retain_gids named.now cff.now font.items) }
-    ensures refused { IfErr result (λ e. (fault : Refusal) × (e ≡ errors.Font fault) × IsCutRefusedBy retain_gids named.now cff.now fault) }
-{
-    if retain_gids {
-        font_keeping(alloc, cff, named)
-    } else {
-        font_anew(alloc, cff, named)
     }
 }
 
@@ -94,25 +82,48 @@ pub(crate) fn origins_of(
     cff: &[u8],
     named: &[usize],
     retain_gids: bool,
+    limit: Option<u64>,
 ) -> Result<Vec<usize>>
     ensures are { IfOk result (λ origins. AreOrigins retain_gids named.now cff.now origins.items) }
     ensures few { IfOk result (λ origins. AreFew origins.items) }
-    ensures refused { IfErr result (λ e. HasNoOrigins retain_gids named.now cff.now e) }
+    ensures refused { IfErr result (λ e. HasNoOrigins limit retain_gids named.now cff.now e) }
 {
     are_bytes(cff);
     if retain_gids {
         every(alloc, cff)
     } else {
-        kept(alloc, cff, named)
+        kept(alloc, cff, named, limit)
+    }
+}
+
+/// Returns the origins of the glyphs of a subset that is written. `kept` are the glyphs that it is made of.
+fn origins_by(
+    alloc: Global,
+    cff: &[u8],
+    named: &[usize],
+    kept: Vec<usize>,
+    retain_gids: bool,
+) -> Result<Vec<usize>>
+    requires kept { AreKept named.now cff.now kept.items }
+    ensures are { IfOk result (λ origins. AreOrigins retain_gids named.now cff.now origins.items) }
+    ensures few { IfOk result (λ origins. AreFew origins.items) }
+    ensures refused { IfErr result (λ e. IsUnopened cff.now e) }
+{
+    are_bytes(cff);
+    if retain_gids {
+        every(alloc, cff)
+    } else {
+        Ok(kept)
     }
 }
 
 /// Returns the glyphs that are kept.
-fn kept(alloc: Global, cff: &[u8], named: &[usize]) -> Result<Vec<usize>>
+fn kept(alloc: Global, cff: &[u8], named: &[usize], limit: Option<u64>) -> Result<Vec<usize>>
     ensures are { IfOk result (λ origins. AreOrigins false named.now cff.now origins.items) }
-    ensures refused { IfErr result (λ e. (fault : Refusal) × (e ≡ errors.Font fault) × IsChoiceRefusedBy named.now cff.now fault) }
+    ensures refused { IfErr result (λ e. (fault : Refusal) × (e ≡ errors.Font fault)
+        × (IsChoiceRefusedBy named.now cff.now fault ⊎ StopsIn cff.now named.now limit fault)) }
 {
-    match kept_glyphs(alloc, cff, named) {
+    match kept_glyphs_within(alloc, cff, named, limit) {
         Ok(kept) => Ok(kept),
         Err(error) => Err(Error::Font(error)),
     }
@@ -329,10 +340,11 @@ fn subset_of(alloc: Global, face: &Face<'_>, choice: &Choice<'_>) -> Result<Vec<
 {
     let pairs = kept_pairs(alloc, &face.map, choice)?;
     let named = named(alloc, choice, &pairs)?;
-    let cff = font_of(alloc, face.cff, &named, choice.retain_gids)?;
-    let origins = origins_of(alloc, face.cff, &named, choice.retain_gids)?;
+    let cut = cut_of(alloc, face.cff, &named, choice.retain_gids, choice.limit)?;
+    let FontSubset { font, kept } = cut;
+    let origins = origins_by(alloc, face.cff, &named, kept, choice.retain_gids)?;
     let made = made_of(alloc, face, &pairs, &origins)?;
-    written(alloc, face, choice, &cff, &made)
+    written(alloc, face, choice, &font, &made)
 }
 
 /// Writes a file with only some characters and glyphs of a face, desubroutinized.
@@ -349,7 +361,8 @@ fn subset_of(alloc: Global, face: &Face<'_>, choice: &Choice<'_>) -> Result<Vec<
 ///
 /// - `File`, `MissingTable`, `NoMap`, `NoAdvances`: as for [`Face::open`].
 /// - `MissingCharacter`: the face has no glyph for a character, and `choice.lenient` is not set. The error has the first one.
-/// - `Font`: the `CFF ` table is malformed, or one of the kept glyphs is, or no glyph is kept.
+/// - `Font`: the `CFF ` table is malformed, or one of the kept glyphs is, or no glyph is kept, or (`TooLong`) the runs of
+///   the kept glyphs cost more than `choice.limit`. If there is a limit, a glyph that fails need not be the first one.
 /// - `Cut`: the `maxp` table is truncated.
 /// - `SameTag`: two tables of the new file have this tag.
 /// - `TooLarge`: the new file would have 4,096 tables or more, or 2^32 bytes or more.

@@ -57,6 +57,7 @@ widened choice by with added tables w h = record {
   unmapped = h.unmapped ∙ w.unmapped;
   lenient = h.lenient ∙ w.lenient;
   retain_gids = h.retain_gids ∙ w.retain_gids;
+  limit = h.limit ∙ w.limit;
   copied = h.copied ∙ w.copied;
   given = h.given ∙ ap (λ (xs : List (ℕ × List ℕ)). xs ++ tables) (w.given ∙ append-nil (map shown choice.given.now));
 }
@@ -73,9 +74,9 @@ pub record Known (choice : Choice) (features : Features) (face : Face) (by : Cho
 pub known-anew : (choice : Choice) (features : Features) (face : Face) (by : Choice) (gsub lookups glyphs : List ℕ) (unmapped : List ℕ) →
     choice.retain_gids ≡ false → IsTableOrNone face.file gsub_tag gsub → AreClosed choice features face gsub lookups glyphs →
     AreExtended face choice.unmapped.now glyphs unmapped → by.chars.now ≡ choice.chars.now → by.glyphs.now ≡ choice.glyphs.now →
-    by.unmapped.now ≡ unmapped → by.lenient ≡ choice.lenient → by.retain_gids ≡ choice.retain_gids → by.copied.now ≡ choice.copied.now →
-    by.given.now ≡ choice.given.now → Known choice features face by gsub lookups glyphs
-known-anew choice features face by gsub lookups glyphs unmapped anew is are extended chars numbers further lenient retain copied given = record {
+    by.unmapped.now ≡ unmapped → by.lenient ≡ choice.lenient → by.retain_gids ≡ choice.retain_gids → by.limit ≡ choice.limit →
+    by.copied.now ≡ choice.copied.now → by.given.now ≡ choice.given.now → Known choice features face by gsub lookups glyphs
+known-anew choice features face by gsub lookups glyphs unmapped anew is are extended chars numbers further lenient retain limit copied given = record {
   is = is;
   are = subst (λ (r : Bool). AreClosed choice (features_by r features) face gsub lookups glyphs) (sym anew) are;
   unmapped = unmapped;
@@ -86,6 +87,7 @@ known-anew choice features face by gsub lookups glyphs unmapped anew is are exte
     unmapped = further ∙ extended.2;
     lenient = lenient;
     retain_gids = retain;
+    limit = limit;
     copied = subst (λ (r : Bool). by.copied.now ≡ choice.copied.now ++ copied_by r) (sym anew) (copied ∙ sym (append-nil choice.copied.now));
     given = ap (map shown) given ∙ sym (append-nil (map shown choice.given.now));
   };
@@ -96,9 +98,10 @@ pub known-in-place : (choice : Choice) (features : Features) (face : Face) (by :
     (unmapped : List ℕ) → choice.retain_gids ≡ true → IsTableOrNone face.file gsub_tag gsub →
     AreClosed choice kinds.All face gsub lookups glyphs → AreExtended face choice.unmapped.now glyphs unmapped →
     by.chars.now ≡ choice.chars.now → by.glyphs.now ≡ choice.glyphs.now → by.unmapped.now ≡ unmapped → by.lenient ≡ choice.lenient →
-    by.retain_gids ≡ choice.retain_gids → by.copied.now ≡ choice.copied.now ++ copied_by true → by.given.now ≡ choice.given.now →
+    by.retain_gids ≡ choice.retain_gids → by.limit ≡ choice.limit → by.copied.now ≡ choice.copied.now ++ copied_by true →
+    by.given.now ≡ choice.given.now →
     Known choice features face by gsub lookups glyphs
-known-in-place choice features face by gsub lookups glyphs unmapped retain is are extended chars numbers further lenient same copied given = record {
+known-in-place choice features face by gsub lookups glyphs unmapped retain is are extended chars numbers further lenient same limit copied given = record {
   is = is;
   are = subst (λ (r : Bool). AreClosed choice (features_by r features) face gsub lookups glyphs) (sym retain) are;
   unmapped = unmapped;
@@ -109,6 +112,7 @@ known-in-place choice features face by gsub lookups glyphs unmapped retain is ar
     unmapped = further ∙ extended.2;
     lenient = lenient;
     retain_gids = same;
+    limit = limit;
     copied = subst (λ (r : Bool). by.copied.now ≡ choice.copied.now ++ copied_by r) (sym retain) copied;
     given = ap (map shown) given ∙ sym (append-nil (map shown choice.given.now));
   };
@@ -197,6 +201,7 @@ no-tables by = record {
   unmapped = refl;
   lenient = refl;
   retain_gids = refl;
+  limit = refl;
   copied = refl;
   given = sym (append-nil (map shown by.given.now));
 }
@@ -267,6 +272,7 @@ subset-so (Ok subset) choice features bytes number left face was h = record {
     opens = h.file.opens;
     sound = h.file.sound;
     all = h.file.all;
+    within = h.file.within;
     there = h.file.there;
     is = h.file.is;
   };
@@ -344,6 +350,7 @@ in-place-so (Ok subset) choice features bytes number face was retain h = record 
     opens = h.file.opens;
     sound = h.file.sound;
     all = h.file.all;
+    within = h.file.within;
     there = h.file.there;
     is = h.file.is;
   };

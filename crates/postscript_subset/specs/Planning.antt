@@ -28,6 +28,7 @@ pub record HasTables (by : Choice) (tables : List (ℕ × List ℕ)) (with : Cho
   pub unmapped : with.unmapped.now ≡ by.unmapped.now
   pub lenient : with.lenient ≡ by.lenient
   pub retain_gids : with.retain_gids ≡ by.retain_gids
+  pub limit : with.limit ≡ by.limit
   pub copied : with.copied.now ≡ by.copied.now
   pub given : map shown with.given.now ≡ map shown by.given.now ++ tables
 

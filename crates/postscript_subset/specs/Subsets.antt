@@ -43,6 +43,7 @@ pub record IsWidened (choice by : Choice) (added : List ℕ) (tables : List (ℕ
   pub unmapped : by.unmapped.now ≡ choice.unmapped.now ++ added
   pub lenient : by.lenient ≡ choice.lenient
   pub retain_gids : by.retain_gids ≡ choice.retain_gids
+  pub limit : by.limit ≡ choice.limit
   pub copied : by.copied.now ≡ choice.copied.now ++ copied_by choice.retain_gids
   pub given : map shown by.given.now ≡ map shown choice.given.now ++ tables
 

@@ -31,8 +31,8 @@ use Rattle.postscript_write.specs.Components.{AreClosed, IsComponentOf, IsOpened
 use Rattle.postscript_write.specs.Drawings.{DrawsKept, DrawsTheSame, KeepsDrawings, IsSourceAt}
 use Rattle.postscript_write.specs.Fonts.{ShowsGlyph, HasGlyphsOf, IsMade, IsMadeOf, Repeats}
 use Rattle.postscript_write.specs.Glyphs.{Sources, run_in}
-use Rattle.postscript_write.specs.Making.{HaveCharSets, IsCutFont, IsKeptFont}
-use Rattle.postscript_write.specs.Sources.{IsWritten, chosen, every, is_kept, keeping, kept_or_none}
+use Rattle.postscript_write.specs.Making.{HaveCharSets, IsCutFont, IsFontBy, IsKeptFont}
+use Rattle.postscript_write.specs.Sources.{IsWritten, choice_by, chosen, every, is_kept, keeping, kept_or_none}
 use Rattle.postscript_write.proofs.Carried.{Carries, CarriesComponents, SameRuns, carried, turned}
 use Rattle.postscript_write.proofs.Accented.{component-there}
 use Rattle.postscript_write.proofs.Places.{Placed, Takes, chosen-placed, chosen-rises, every-at, every-many, every-placed, first-back, first-forth, glyph_or, keeping-at, keeping-many, keeping-placed, one-place}
@@ -467,15 +467,10 @@ flat-draws bytes flat w old new glyph i was is at =
         let at = every-at n j (subst (λ m. j < m) (every-many n) less) in
         subst (λ o. SameName w.made.sets.old_set o w.made.sets.new_set j) at (w.made.strings.glyphs j less) identifier
 
-pub subset-drawn : (r : Result (Vec ℕ Global) Error) (named bytes : List ℕ) →
-    IfOk r (λ flat. IsSubset IsCutFont chosen named bytes flat.items) → IfOk r (λ flat. DrawsKept chosen named bytes flat.items)
-subset-drawn (Ok flat) named bytes h = subset-draws named bytes flat.items h
-subset-drawn (Err e) named bytes h = tt
-
-pub keeping-drawn : (r : Result (Vec ℕ Global) Error) (named bytes : List ℕ) →
-    IfOk r (λ flat. IsSubset IsKeptFont keeping named bytes flat.items) → IfOk r (λ flat. DrawsKept keeping named bytes flat.items)
-keeping-drawn (Ok flat) named bytes h = keeping-draws named bytes flat.items h
-keeping-drawn (Err e) named bytes h = tt
+pub drawn-by : (retain : Bool) (named bytes flat : List ℕ) → IsSubset (IsFontBy retain) (choice_by retain) named bytes flat →
+    DrawsKept (choice_by retain) named bytes flat
+drawn-by true named bytes flat h = keeping-draws named bytes flat h
+drawn-by false named bytes flat h = subset-draws named bytes flat h
 
 pub flat-drawn : (r : Result (Vec ℕ Global) Error) (bytes : List ℕ) → IfOk r (λ flat. IsWritten IsKeptFont every bytes flat.items) →
     IfOk r (λ flat. KeepsDrawings every bytes flat.items)

@@ -85,3 +85,4 @@ pub mod LenientOld
 pub mod LenientSets
 pub mod LenientNew
 pub mod WholeAgain
+pub mod Stopping

@@ -25,7 +25,7 @@ use Rattle.postscript_write.specs.RefusedGlyphs.{IsFaultless, IsNamed}
 use Rattle.postscript_write.specs.Sizes.{IsLarge}
 use Rattle.postscript_write.specs.Steps.{IsNotNumbered, IsNotOpened, RefusedBy, RefusedFor}
 use Rattle.postscript_write.specs.declared.error.Error.{Error}
-use Rattle.postscript_write.specs.declared.error.Error.TheVariants.{Refused, Glyph, SeveralFonts, MissingGlyph, MissingPart, MissingName, LongGlyph, NoGlyphs, TooLarge}
+use Rattle.postscript_write.specs.declared.error.Error.TheVariants.{Refused, Glyph, SeveralFonts, MissingGlyph, MissingPart, MissingName, LongGlyph, NoGlyphs, TooLarge, TooLong}
 
 pub made : (bytes flat : List ℕ) (old new : View) (source : Option ℕ) (i number : ℕ) (code : List ℕ) → SameParts old.parts new.parts →
     slice_get new.char_strings i ≡ Some code →
@@ -77,6 +77,7 @@ refused_by font sources numbers flats i (LongGlyph glyph) less h before = absurd
 refused_by font sources numbers flats i (MissingName glyph) less h before = absurd h
 refused_by font sources numbers flats i NoGlyphs less h before = absurd h
 refused_by font sources numbers flats i TooLarge less h before = absurd h
+refused_by font sources numbers flats i TooLong less h before = absurd h
 
 -- a glyph without a part
 pub partless : (font : FontView) (sources : Sources) (i : ℕ) (e : Error) → i < length sources →
@@ -108,6 +109,7 @@ not_numbered bytes font sources (LongGlyph glyph) h = absurd h
 not_numbered bytes font sources (MissingName glyph) h = absurd h
 not_numbered bytes font sources NoGlyphs h = absurd h
 not_numbered bytes font sources TooLarge h = absurd h
+not_numbered bytes font sources TooLong h = absurd h
 
 -- where a glyph without a name is not the cause, the refusal names none
 pub names_none : (P : Error → Type 0) → ((glyph : ℕ) → P (MissingName glyph) → ⊥) → (e : Error) → P e → NeedsNoName e
@@ -120,6 +122,7 @@ names_none P never (LongGlyph glyph) h = tt
 names_none P never (MissingName glyph) h = never glyph h
 names_none P never NoGlyphs h = tt
 names_none P never TooLarge h = tt
+names_none P never TooLong h = tt
 
 -- a glyph without a name
 pub nameless : (font : FontView) (set : CharSetView) (sources : Sources) (i : ℕ) (e : Error) →
@@ -167,6 +170,7 @@ is_refused sources bytes font (LongGlyph glyph) is h = (font, is, h)
 is_refused sources bytes font (MissingName glyph) is h = (font, is, h)
 is_refused sources bytes font NoGlyphs is h = absurd h
 is_refused sources bytes font TooLarge is h = (font, is, h)
+is_refused sources bytes font TooLong is h = absurd h
 
 pub not_opened : (sources : (glyphs : ℕ) → Sources) (bytes : List ℕ) (e : Error) → IsNotOpened bytes e → IsRefusedBy sources bytes e
 not_opened sources bytes (Glyph glyph cause) h = absurd h
@@ -178,6 +182,7 @@ not_opened sources bytes (LongGlyph glyph) h = absurd h
 not_opened sources bytes (MissingName glyph) h = absurd h
 not_opened sources bytes NoGlyphs h = absurd h
 not_opened sources bytes TooLarge h = absurd h
+not_opened sources bytes TooLong h = absurd h
 
 -- the refusal of a glyph, running out of memory aside
 pub run_refused : (font : View) (glyph number : ℕ) (code : List ℕ) (part : PrivateDict) (cause : base.Error) (e : Error) →

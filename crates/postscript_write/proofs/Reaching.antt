@@ -1,19 +1,21 @@
 -- Glyphs that are reached one after another.
 use Rattle.std.proofs.Common.{◌≡◌, refl, sym, ap, subst, ◌∙◌, inl, inr, ℕ, zero, suc, ◌+◌, ◌<◌, ◌≤◌, List, [], ◌∷◌, ◌++◌, append_assoc, length, get_or, arith, Bool, true, false, slice_set}
-use Rattle.std.specs.Prelude.{◌⊎◌, ◌↔◌, ◌==◌, OnOk, Result, Ok, Err}
+use Rattle.std.specs.Prelude.{◌⊎◌, ◌↔◌, ◌==◌, ◌≢◌, OnOk, Result, Ok, Err}
 use Rattle.std.specs.List.{Contains}
 use Rattle.std.proofs.lemmas.Bool.{eqb-true, eq-eqb}
 use Rattle.std.proofs.lemmas.List.{append-nil, get_or-set_same, get_or-set_other, get_or_append_left, get_or_default, get_or_past, length-append}
+use Rattle.std.proofs.lemmas.List.Quantifiers.{all_pairs_push}
 use Rattle.std.proofs.lemmas.List.Elements.{Contains-append_left, Contains-append_right, Contains-append_cases, Contains-get_or, Contains-push, Contains-push_cases}
 use Rattle.postscript_drawing.specs.Components.{glyphs_of}
 use Rattle.postscript_view.specs.declared.font.FontView.{FontView}
 use Rattle.postscript_write.specs.Closure.{AreMarkedAs, AreReached, Grow, unmarked_in}
 use Rattle.postscript_write.specs.Components.{AreComponentsOf, IsComponentOf, IsReached, is_named, is_drawn_with}
 use Rattle.postscript_write.specs.Components.{IsUntold}
+use Rattle.postscript_write.specs.Costs.{AreDistinct}
 use Rattle.postscript_write.specs.Sources.{AreThere, is_kept}
 use Rattle.postscript_write.specs.Steps.{IsNotChosen}
 use Rattle.postscript_write.specs.declared.error.Error.{Error}
-use Rattle.postscript_write.specs.declared.error.Error.TheVariants.{Refused, Glyph, SeveralFonts, MissingGlyph, MissingPart, MissingName, LongGlyph, NoGlyphs, TooLarge}
+use Rattle.postscript_write.specs.declared.error.Error.TheVariants.{Refused, Glyph, SeveralFonts, MissingGlyph, MissingPart, MissingName, LongGlyph, NoGlyphs, TooLarge, TooLong}
 use Rattle.postscript_write.proofs.Accented.{component-there, or-left, or-right, or-split}
 use Rattle.postscript_write.proofs.Marks.{apart, set_more}
 use Rattle.postscript_write.proofs.Places.{nat_cases}
@@ -76,6 +78,7 @@ grow-none marks glyphs marked = record {
     ],
   );
   spent = refl;
+  distinct = λ h. h;
 }
 
 pub grow-marked : (marks : List Bool) (glyphs : List ℕ) (one : ℕ) → get_or marks one false ≡ true → AreMarkedAs marks glyphs →
@@ -93,6 +96,7 @@ grow-marked marks glyphs one set marked = record {
     ],
   );
   spent = refl;
+  distinct = λ h. h;
 }
 
 pub grow-one : (marks : List Bool) (glyphs : List ℕ) (one : ℕ) → one < length marks → get_or marks one false ≡ false →
@@ -120,6 +124,9 @@ grow-one marks glyphs one less off many marked = record {
     ],
   );
   spent = (let set = unmarked-set marks one less off in omega (arith, set, length-append glyphs (one ∷ [])));
+  distinct = λ before. all_pairs_push (λ (x y : ℕ). x ≢ y) glyphs one before (λ k d there same.
+      let set = (marked one).1 (k, there, get_or_default glyphs k one d there ∙ same) in
+      let never : true ≡ false = sym set ∙ off in absurd (cc));
 }
 
 pub grow-then : (a b c : List Bool) (xs ys zs added more : List ℕ) → Grow a xs added b ys → Grow b ys more c zs →
@@ -146,7 +153,17 @@ grow-then a b c xs ys zs added more x y = record {
     ],
   );
   spent = y.spent ∙ x.spent;
+  distinct = λ before. y.distinct (x.distinct before);
 }
+
+-- the named glyphs and .notdef, from an empty list on
+pub grow-named : (a b c : List Bool) (xs ys zs named : List ℕ) → xs ≡ [] → Grow a xs named b ys → Grow b ys (0 ∷ []) c zs →
+    Grow a [] (named ++ 0 ∷ []) c zs
+grow-named a b c xs ys zs named none first last =
+    grow-then a b c [] ys zs named (0 ∷ []) (subst (λ (xs : List ℕ). Grow a xs named b ys) none first) last
+
+pub none-distinct : AreDistinct []
+none-distinct i j d lt within = absurd (omega (arith, within))
 
 -- Glyphs that are followed so far: to each one before this place its components were added.
 pub record Follows (font : FontView) (start : List ℕ) (marks : List Bool) (glyphs : List ℕ) (next : ℕ) : Type 0 where
@@ -221,17 +238,10 @@ reached-from font start named holds _ (is_named glyph h) = is_named glyph (holds
 reached-from font start named holds _ (is_drawn_with from glyph r is) =
     is_drawn_with from glyph (reached-from font start named holds from r) is
 
--- Of those that are named and .notdef, what is reached is what is reached from those that are named.
-pub closed-of : (font : FontView) (a b : List Bool) (start named closed : List ℕ) → Grow a [] (named ++ 0 ∷ []) b start →
-    AreReached font start closed →
-    (glyph : ℕ) → (is_kept closed glyph ≡ true) ↔ IsReached font named glyph
-closed-of font a b start named closed grown reached glyph = (
-  λ kept. reached-from font start named starts glyph (elim (kept-cases closed glyph kept) [
-    | inl has ↦ (reached glyph).0 has
-    | inr none ↦ subst (λ g. IsReached font start g) (sym none) (is_named 0 (kept-notdef start))
-  ]),
-  λ is. kept-in closed glyph ((reached glyph).1 (reached-from font named start begins glyph is)),
-)
+-- What is reached from the named ones and .notdef is what is reached from the named ones.
+pub reached-same : (font : FontView) (a b : List Bool) (start named : List ℕ) → Grow a [] (named ++ 0 ∷ []) b start → (glyph : ℕ) →
+    IsReached font start glyph ↔ IsReached font named glyph
+reached-same font a b start named grown glyph = (reached-from font start named starts glyph, reached-from font named start begins glyph)
   where
     starts : (g : ℕ) → is_kept start g ≡ true → is_kept named g ≡ true
     starts g h = elim (kept-cases start g h) [
@@ -251,6 +261,25 @@ closed-of font a b start named closed grown reached glyph = (
       | inr none ↦ subst (λ g. is_kept start g ≡ true) (sym none) (kept-notdef start)
     ]
 
+-- the glyphs of the list are the ones that are reached
+pub contains-of : (font : FontView) (a b : List Bool) (start named closed : List ℕ) → Grow a [] (named ++ 0 ∷ []) b start →
+    AreReached font start closed → (glyph : ℕ) → Contains closed glyph ↔ IsReached font named glyph
+contains-of font a b start named closed grown reached glyph =
+    let same = reached-same font a b start named grown glyph in
+    (λ has. same.0 ((reached glyph).0 has), λ is. (reached glyph).1 (same.1 is))
+
+pub closed-of : (font : FontView) (a b : List Bool) (start named closed : List ℕ) → Grow a [] (named ++ 0 ∷ []) b start →
+    AreReached font start closed →
+    (glyph : ℕ) → (is_kept closed glyph ≡ true) ↔ IsReached font named glyph
+closed-of font a b start named closed grown reached glyph =
+    let all = contains-of font a b start named closed grown reached in (
+      λ kept. elim (kept-cases closed glyph kept) [
+        | inl has ↦ (all glyph).0 has
+        | inr none ↦ subst (λ g. IsReached font named g) (sym none) (is_named 0 (kept-notdef named))
+      ],
+      λ is. kept-in closed glyph ((all glyph).1 is),
+    )
+
 -- the components of a glyph are there
 pub untold-of : (font : FontView) (from : ℕ) (added : List ℕ) (e : Error) → AreComponentsOf font from added →
     IsNotChosen added (glyphs_of font) e → IsUntold font e
@@ -267,6 +296,7 @@ untold-of font from added (LongGlyph glyph) are h = absurd h
 untold-of font from added (MissingName glyph) are h = absurd h
 untold-of font from added NoGlyphs are h = absurd h
 untold-of font from added TooLarge are h = absurd h
+untold-of font from added TooLong are h = absurd h
 
 pub on_ok : {E : Type 0} {P Q : Type 0} (r : Result (Unit {0}) E) → (P → Q) → OnOk r P → OnOk r Q
 on_ok (Ok done) f h = f h

@@ -25,10 +25,10 @@ use Rattle.postscript_write.specs.Components.{IsOpened, IsSubset}
 use Rattle.postscript_write.specs.Drawings.{IsSourceAt}
 use Rattle.postscript_write.specs.Fonts.{HasGlyphsOf, IsMade, IsMadeOf}
 use Rattle.postscript_write.specs.Glyphs.{Sources, run_in}
-use Rattle.postscript_write.specs.Making.{HaveCharSets, IsCutFont, IsKeptFont}
+use Rattle.postscript_write.specs.Making.{HaveCharSets, IsCutFont, IsFontBy, IsKeptFont}
 use Rattle.postscript_write.specs.Naming.{SameName}
 use Rattle.postscript_write.specs.SameGlyphs.{GlyphsKept, HasAdvance, HaveSameName, IsSameGlyph, KeepsGlyphs}
-use Rattle.postscript_write.specs.Sources.{IsWritten, chosen, every, keeping}
+use Rattle.postscript_write.specs.Sources.{IsWritten, choice_by, chosen, every, keeping}
 use Rattle.postscript_write.specs.Strings.{KeepsStrings, SameStrings, SameText}
 use Rattle.postscript_write.specs.declared.error.Error.{Error}
 use Rattle.postscript_write.proofs.Drawings.{MadeRuns, RunFrom, made-back, made-runs, many-of, one-key, shown-run, shows}
@@ -205,15 +205,10 @@ same-cut sources bytes flat w old new glyph i was is at =
     same-glyph (sources n) bytes flat w.old w.new glyph i w.made.made w.made.sets there old new was is w.was w.is
     (alike-cut (sources n) bytes flat w.old w.new glyph i w.made.made w.made.sets there w.made.strings)
 
-pub subset-same : (r : Result (Vec ℕ Global) Error) (named bytes : List ℕ) →
-    IfOk r (λ flat. IsSubset IsCutFont chosen named bytes flat.items) → IfOk r (λ flat. GlyphsKept chosen named bytes flat.items)
-subset-same (Ok flat) named bytes h = (h.closed, h.are, same-cut (chosen h.closed) bytes flat.items h.written)
-subset-same (Err e) named bytes h = tt
-
-pub keeping-same : (r : Result (Vec ℕ Global) Error) (named bytes : List ℕ) →
-    IfOk r (λ flat. IsSubset IsKeptFont keeping named bytes flat.items) → IfOk r (λ flat. GlyphsKept keeping named bytes flat.items)
-keeping-same (Ok flat) named bytes h = (h.closed, h.are, same-kept (keeping h.closed) bytes flat.items h.written)
-keeping-same (Err e) named bytes h = tt
+pub same-by : (retain : Bool) (named bytes flat : List ℕ) → IsSubset (IsFontBy retain) (choice_by retain) named bytes flat →
+    GlyphsKept (choice_by retain) named bytes flat
+same-by true named bytes flat h = (h.closed, h.are, same-kept (keeping h.closed) bytes flat h.written)
+same-by false named bytes flat h = (h.closed, h.are, same-cut (chosen h.closed) bytes flat h.written)
 
 pub flat-same : (r : Result (Vec ℕ Global) Error) (bytes : List ℕ) → IfOk r (λ flat. IsWritten IsKeptFont every bytes flat.items) →
     IfOk r (λ flat. KeepsGlyphs every bytes flat.items)

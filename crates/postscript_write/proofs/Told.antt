@@ -1,18 +1,16 @@
 -- The glyphs that are told are those that are written.
 use Rattle.std.proofs.Common.{◌≡◌, refl, sym, ap, subst, ◌∙◌, ℕ, List, [], ◌∷◌, ◌++◌, length, Bool, true, false}
-use Rattle.std.specs.Prelude.{◌<◌, IfOk, Result, Ok, Err, Some, None, Vec, map, if◌then◌else◌}
-use Rattle.std.specs.declared.alloc.Global.{Global}
+use Rattle.std.specs.Prelude.{◌<◌, Some, None, map, if◌then◌else◌}
 use Rattle.postscript_drawing.specs.Components.{glyphs_of}
 use Rattle.postscript_view.specs.Value.{view_shown}
 use Rattle.postscript_view.specs.declared.font.FontView.{FontView}
 use Rattle.postscript_write.specs.Components.{AreClosed, AreKept, IsOpened, IsReached, IsSubset, is_named, is_drawn_with}
 use Rattle.postscript_write.specs.Drawings.{AreLike, AreLikeKept, DrawsKept, DrawsTheSame, IsSourceAt, Likeness}
 use Rattle.postscript_write.specs.Glyphs.{Sources}
-use Rattle.postscript_write.specs.Kept.{AreInPlace, HasAllInPlace, HasAllKept, KeptAreWritten}
-use Rattle.postscript_write.specs.Making.{IsCutFont}
+use Rattle.postscript_write.specs.Kept.{AreInPlace, HasAllBy, KeptAreWritten}
+use Rattle.postscript_write.specs.Making.{IsCutFont, IsFontBy}
 use Rattle.postscript_write.specs.SameGlyphs.{GlyphsKept, IsSameGlyph}
-use Rattle.postscript_write.specs.Sources.{chosen, is_kept, keeping, kept_of}
-use Rattle.postscript_write.specs.declared.error.Error.{Error}
+use Rattle.postscript_write.specs.Sources.{choice_by, chosen, is_kept, keeping, kept_of}
 use Rattle.postscript_write.proofs.Drawings.{component-moved, many-of}
 use Rattle.postscript_write.proofs.Marks.{kept_more}
 use Rattle.postscript_write.proofs.Places.{chosen-rises, keeping-at, keeping-many}
@@ -66,16 +64,6 @@ kept-alike IsLike named bytes flat kept k s old new glyph i was is source =
     ∙ same-kept k.closed s.0 (one-closed bytes named k.closed s.0 k.are s.1) n in
     s.2 old new glyph i was is (subst (λ (xs : List ℕ). IsSourceAt (map Some xs) i glyph) all source)
 
-pub has-kept : (r : Result (Vec ℕ Global) Error) (named bytes : List ℕ) → IfOk r (λ flat. IsSubset IsCutFont chosen named bytes flat.items) →
-    IfOk r (λ flat. DrawsKept chosen named bytes flat.items) → IfOk r (λ flat. GlyphsKept chosen named bytes flat.items) →
-    IfOk r (λ flat. HasAllKept named bytes flat.items)
-has-kept (Ok flat) named bytes written drawn same = λ kept k. record {
-  written = kept-are-written named bytes flat.items kept k written;
-  drawn = kept-alike DrawsTheSame named bytes flat.items kept k drawn;
-  same = kept-alike IsSameGlyph named bytes flat.items kept k same;
-}
-has-kept (Err e) named bytes written drawn same = tt
-
 -- glyphs that keep their numbers
 kept-in-place : (IsLike : Likeness) (named bytes flat kept : List ℕ) → AreKept named bytes kept → AreLikeKept IsLike keeping named bytes flat →
     AreInPlace IsLike bytes flat kept
@@ -93,10 +81,15 @@ kept-in-place IsLike named bytes flat kept k s old new i glyph was is source =
       is = keeping-at s.0 n glyph less ∙ ap (λ b. if b then Some glyph else None) own;
     })
 
-pub has-in-place : (r : Result (Vec ℕ Global) Error) (named bytes : List ℕ) → IfOk r (λ flat. DrawsKept keeping named bytes flat.items) →
-    IfOk r (λ flat. GlyphsKept keeping named bytes flat.items) → IfOk r (λ flat. HasAllInPlace named bytes flat.items)
-has-in-place (Ok flat) named bytes drawn same = λ kept k. record {
-  drawn = kept-in-place DrawsTheSame named bytes flat.items kept k drawn;
-  same = kept-in-place IsSameGlyph named bytes flat.items kept k same;
+-- the glyphs of the list are there, whether they keep their numbers or not
+pub has-all : (retain : Bool) (named bytes flat : List ℕ) → IsSubset (IsFontBy retain) (choice_by retain) named bytes flat →
+    DrawsKept (choice_by retain) named bytes flat → GlyphsKept (choice_by retain) named bytes flat → HasAllBy retain named bytes flat
+has-all true named bytes flat written drawn same = λ kept k. record {
+  drawn = kept-in-place DrawsTheSame named bytes flat kept k drawn;
+  same = kept-in-place IsSameGlyph named bytes flat kept k same;
 }
-has-in-place (Err e) named bytes drawn same = tt
+has-all false named bytes flat written drawn same = λ kept k. record {
+  written = kept-are-written named bytes flat kept k written;
+  drawn = kept-alike DrawsTheSame named bytes flat kept k drawn;
+  same = kept-alike IsSameGlyph named bytes flat kept k same;
+}

@@ -3,6 +3,7 @@ use Rattle.std.specs.Prelude.{◌≡◌, ◌⊎◌, ◌↔◌, ℕ, ◌+◌, Lis
 use Rattle.std.specs.List.{Contains}
 use Rattle.postscript_view.specs.declared.font.FontView.{FontView}
 use Rattle.postscript_write.specs.Components.{IsReached}
+use Rattle.postscript_write.specs.Costs.{AreDistinct}
 
 -- the number of glyphs without a mark
 abbrev pub unmarked_in : List Bool → ℕ
@@ -22,6 +23,7 @@ pub record Grow (marks : List Bool) (glyphs added : List ℕ) (new_marks : List 
   pub front : new_glyphs ≡ glyphs ++ more
   pub all : (glyph : ℕ) → Contains new_glyphs glyph ↔ (Contains glyphs glyph ⊎ Contains added glyph)
   pub spent : unmarked_in new_marks + length new_glyphs ≡ unmarked_in marks + length glyphs
+  pub distinct : AreDistinct glyphs → AreDistinct new_glyphs
 
 -- the glyphs that are reached from others
 abbrev pub AreReached : FontView → (others glyphs : List ℕ) → Type 0

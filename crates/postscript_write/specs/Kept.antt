@@ -1,5 +1,5 @@
 -- The glyphs of `kept_glyphs` are the glyphs of a subset.
-use Rattle.std.specs.Prelude.{List, ℕ, Some, map}
+use Rattle.std.specs.Prelude.{List, ℕ, Bool, true, false, Some, map}
 use Rattle.postscript_view.specs.declared.font.FontView.{FontView}
 use Rattle.postscript_write.specs.Components.{AreKept, IsOpened, IsSubset}
 use Rattle.postscript_write.specs.Drawings.{DrawsTheSame, IsSourceAt, KeepsDrawings, Likeness}
@@ -34,3 +34,8 @@ pub record HasKeptInPlace (bytes flat kept : List ℕ) : Type 0 where
 
 abbrev pub HasAllInPlace : (named bytes flat : List ℕ) → Type 0
 HasAllInPlace named bytes flat = (kept : List ℕ) → AreKept named bytes kept → HasKeptInPlace bytes flat kept
+
+-- the same for glyphs with new numbers, or with their old ones
+abbrev pub HasAllBy : (retain_gids : Bool) → (named bytes flat : List ℕ) → Type 0
+HasAllBy true named bytes flat = HasAllInPlace named bytes flat
+HasAllBy false named bytes flat = HasAllKept named bytes flat

@@ -31,6 +31,8 @@ pub mod ReadBack
 pub mod Sources
 pub mod Components
 pub mod Closure
+pub mod Costs
+pub mod Stepping
 pub mod Kept
 pub mod Drawings
 pub mod SameGlyphs

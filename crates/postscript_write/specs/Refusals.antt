@@ -10,7 +10,7 @@ use Rattle.postscript_write.specs.Components.{AreClosed}
 use Rattle.postscript_write.specs.Glyphs.{AreCodesOf, AreNumbersOf, Sources}
 use Rattle.postscript_write.specs.Sizes.{IsLarge}
 use Rattle.postscript_write.specs.declared.error.Error.{Error}
-use Rattle.postscript_write.specs.declared.error.Error.TheVariants.{Refused, Glyph, SeveralFonts, MissingGlyph, MissingPart, MissingName, LongGlyph, NoGlyphs, TooLarge}
+use Rattle.postscript_write.specs.declared.error.Error.TheVariants.{Refused, Glyph, SeveralFonts, MissingGlyph, MissingPart, MissingName, LongGlyph, NoGlyphs, TooLarge, TooLong}
 use Rattle.postscript_write.specs.RefusedGlyphs.{IsRefusedFirst, IsPartless, IsNameless, LacksSet, LacksEncoding, AreSound}
 
 -- With the charstrings of these glyphs the font is too large to write.
@@ -48,6 +48,7 @@ FontRefusedBy bytes font sources TooLarge = AreSound bytes font sources × IsToo
 FontRefusedBy bytes font sources SeveralFonts = ⊥
 FontRefusedBy bytes font sources (MissingGlyph glyph) = ⊥
 FontRefusedBy bytes font sources NoGlyphs = ⊥
+FontRefusedBy bytes font sources TooLong = ⊥
 
 -- a font with this property begins the bytes
 abbrev pub OfFont : List ℕ → (View → Type 0) → Type 0

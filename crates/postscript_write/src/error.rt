@@ -42,6 +42,9 @@ pub enum Error {
     /// strings, and four times the size of the input.
     #[error("the font is too large to write")]
     TooLarge,
+    /// The runs of the kept glyphs cost more than the limit.
+    #[error("the kept glyphs cost more than the limit")]
+    TooLong,
 }
 
 /// Converts an error of reading to `Refused`.

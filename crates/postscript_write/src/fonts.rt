@@ -1,5 +1,5 @@
 //! Fonts without subroutines, and subsets.
-ghost use Rattle.std.specs.Prelude.{◌≡◌, ◌<◌, ◌^◌, [], true, false, Err, length, IfOk, IfErr, OnOk};
+ghost use Rattle.std.specs.Prelude.{◌≡◌, ◌⊎◌, ◌<◌, ◌^◌, [], true, false, Err, length, IfOk, IfErr, OnOk};
 ghost use Rattle.postscript_base.specs.Index.Lent.{items_of};
 ghost use Rattle.postscript_base.specs.Tape.Outcome.{Got};
 ghost use Rattle.postscript_view.specs.Layout.{IsLaidOut};
@@ -7,8 +7,9 @@ ghost use Rattle.postscript_view.specs.Order.{fonts as the_fonts};
 ghost use Rattle.postscript_view.specs.Contents.{View};
 ghost use Rattle.postscript_view.specs.Value.{view_shown};
 ghost use Rattle.postscript_write.specs.Components.{AreKept, IsSubset};
+ghost use Rattle.postscript_write.specs.Costs.{KeepsWithin, StopsIn};
 ghost use Rattle.postscript_write.specs.Drawings.{DrawsKept, KeepsDrawings};
-ghost use Rattle.postscript_write.specs.Kept.{HasAllInPlace, HasAllKept};
+ghost use Rattle.postscript_write.specs.Kept.{HasAllBy, HasAllInPlace, HasAllKept};
 ghost use Rattle.postscript_write.specs.Making.{IsCutFont, IsFontBy, IsKeptFont};
 ghost use Rattle.postscript_write.specs.Once.{BeginsWithRos, TellsOnce};
 ghost use Rattle.postscript_write.specs.Readings.{HasLenientFont};
@@ -97,6 +98,15 @@ pub fn flat_font(alloc: Global, bytes: &[u8]) -> Result<Vec<u8>>
     font_of(alloc, &font, &sources, true)
 }
 
+/// A font with only some glyphs of another one, and the glyphs that it is made of.
+#[derive(Drop)]
+pub struct FontSubset {
+    /// The font.
+    pub font: Vec<u8>,
+    /// The glyphs of the old font that are kept, as [`kept_glyphs`] returns them.
+    pub kept: Vec<usize>,
+}
+
 /// Returns the glyphs that [`subset`] and [`subset_keeping`] keep, in ascending order.
 ///
 /// They are `.notdef`, the glyphs in `named`, and the components of each kept `seac` glyph (a glyph whose `endchar` has
@@ -122,27 +132,70 @@ pub fn kept_glyphs(alloc: Global, bytes: &[u8], named: &[usize]) -> Result<Vec<u
     // Without named glyphs the error is `NoGlyphs`.
     ensures none { named.now ≡ [] → result ≡ Err errors.NoGlyphs }
 {
+    kept_glyphs_within(alloc, bytes, named, None)
+}
+
+/// Returns the glyphs of [`kept_glyphs`], within a limit if there is one.
+///
+/// The runs of the glyphs share the limit. [`postscript_type2::Program::step_within`] describes the cost of a run. The
+/// search for the components of `seac` glyphs by their names is not counted: each of the 256 codes is looked up once at
+/// most.
+///
+/// # Errors
+///
+/// - The errors of [`kept_glyphs`].
+/// - `TooLong`: the runs of the kept glyphs cost more than the limit.
+/// - `Glyph`: there is a limit, and the charstring of a kept glyph fails. The error has such a glyph and the cause.
+pub fn kept_glyphs_within(
+    alloc: Global,
+    bytes: &[u8],
+    named: &[usize],
+    limit: Option<u64>,
+) -> Result<Vec<usize>>
+    // The list has `.notdef`, the named glyphs and all components of listed ones, ascending.
+    ensures kept { IfOk result (λ kept. AreKept named.now bytes.now kept.items) }
+    // The run of each kept glyph ends within what those before it leave of the limit, in some order.
+    ensures within { OnOk result (KeepsWithin limit named.now bytes.now) }
+    // A success means that the font set has exactly one font.
+    ensures one { OnOk result (the_fonts bytes.now 0 ≡ Got 1 0) }
+    // With named glyphs and another number of fonts the error is `SeveralFonts`.
+    ensures several { 0 < length named.now → HasOtherFonts bytes.now → result ≡ Err errors.SeveralFonts }
+    // An error is justified by the list, the font set or the font, by the limit or a glyph that fails, or it is `Memory`.
+    ensures refused { IfErr result (λ e. IsChoiceRefusedBy named.now bytes.now e ⊎ StopsIn bytes.now named.now limit e) }
+    // A success means that the font has all named glyphs.
+    ensures there { OnOk result ((font : View) → IsLaidOut bytes.now 0 font → AreThere named.now (length font.char_strings)) }
+    // Without named glyphs the error is `NoGlyphs`.
+    ensures none { named.now ≡ [] → result ≡ Err errors.NoGlyphs }
+{
     if named.len() == 0 {
         return Err(Error::NoGlyphs);
     }
     let font = only_font(alloc, bytes)?;
-    let closed = closed_over(alloc, &font, named)?;
+    let closed = closed_over(alloc, &font, named, limit)?;
     kept_of(alloc, &closed, font.char_strings.len())
 }
 
 /// Makes a subset. `retain_gids` is set if glyphs keep their numbers.
-fn subset_by(alloc: Global, bytes: &[u8], named: &[usize], retain_gids: bool) -> Result<Vec<u8>>
-    ensures written { IfOk result (λ flat. IsSubset (IsFontBy retain_gids) (choice_by retain_gids) named.now bytes.now flat.items) }
-    ensures whole { IfOk result (λ flat. IsWholeFont flat.items) }
-    ensures once { IfOk result (λ flat. TellsOnce flat.items) }
-    ensures ros { IfOk result (λ flat. BeginsWithRos flat.items) }
-    ensures selects { IfOk result (λ flat. SelectsParts flat.items) }
-    ensures short { IfOk result (λ flat. HasShortCodes flat.items) }
-    ensures small { IfOk result (λ flat. IsSmall bytes.now flat.items) }
-    ensures lenient { IfOk result (λ flat. HasLenientFont bytes.now → HasLenientFont flat.items) }
+fn subset_by(
+    alloc: Global,
+    bytes: &[u8],
+    named: &[usize],
+    retain_gids: bool,
+    limit: Option<u64>,
+) -> Result<FontSubset>
+    ensures written { IfOk result (λ subset. IsSubset (IsFontBy retain_gids) (choice_by retain_gids) named.now bytes.now subset.font.items) }
+    ensures kept { IfOk result (λ subset. AreKept named.now bytes.now subset.kept.items) }
+    ensures within { OnOk result (KeepsWithin limit named.now bytes.now) }
+    ensures whole { IfOk result (λ subset. IsWholeFont subset.font.items) }
+    ensures once { IfOk result (λ subset. TellsOnce subset.font.items) }
+    ensures ros { IfOk result (λ subset. BeginsWithRos subset.font.items) }
+    ensures selects { IfOk result (λ subset. SelectsParts subset.font.items) }
+    ensures short { IfOk result (λ subset. HasShortCodes subset.font.items) }
+    ensures small { IfOk result (λ subset. IsSmall bytes.now subset.font.items) }
+    ensures lenient { IfOk result (λ subset. HasLenientFont bytes.now → HasLenientFont subset.font.items) }
     ensures one { OnOk result (the_fonts bytes.now 0 ≡ Got 1 0) }
-    ensures refused { IfErr result (λ e. IsSubsetRefusedBy named.now (choice_by retain_gids) bytes.now e) }
     ensures several { 0 < length named.now → HasOtherFonts bytes.now → result ≡ Err errors.SeveralFonts }
+    ensures refused { IfErr result (λ e. IsSubsetRefusedBy named.now (choice_by retain_gids) bytes.now e ⊎ StopsIn bytes.now named.now limit e) }
     ensures names { IfErr result (λ e. retain_gids ≡ true → NeedsNoName e) }
     ensures there { OnOk result ((font : View) → IsLaidOut bytes.now 0 font → AreThere named.now (length font.char_strings)) }
     ensures none { named.now ≡ [] → result ≡ Err errors.NoGlyphs }
@@ -151,9 +204,11 @@ fn subset_by(alloc: Global, bytes: &[u8], named: &[usize], retain_gids: bool) ->
         return Err(Error::NoGlyphs);
     }
     let font = only_font(alloc, bytes)?;
-    let closed = closed_over(alloc, &font, named)?;
+    let closed = closed_over(alloc, &font, named, limit)?;
+    let kept = kept_of(alloc, &closed, font.char_strings.len())?;
     let sources = sources_by(alloc, &closed, font.char_strings.len(), retain_gids)?;
-    font_of(alloc, &font, &sources, retain_gids)
+    let flat = font_of(alloc, &font, &sources, retain_gids)?;
+    Ok(FontSubset { font: flat, kept })
 }
 
 /// Writes the font at the beginning of the bytes with only some glyphs, desubroutinized.
@@ -210,7 +265,10 @@ pub fn subset(alloc: Global, bytes: &[u8], named: &[usize]) -> Result<Vec<u8>>
     // Without named glyphs the error is `NoGlyphs`.
     ensures none { named.now ≡ [] → result ≡ Err errors.NoGlyphs }
 {
-    subset_by(alloc, bytes, named, false)
+    match subset_within(alloc, bytes, named, false, None) {
+        Ok(subset) => Ok(subset.font),
+        Err(error) => Err(error),
+    }
 }
 
 /// Writes the same glyphs as [`subset`], but each keeps its number.
@@ -258,5 +316,67 @@ pub fn subset_keeping(alloc: Global, bytes: &[u8], named: &[usize]) -> Result<Ve
     // Without named glyphs the error is `NoGlyphs`.
     ensures none { named.now ≡ [] → result ≡ Err errors.NoGlyphs }
 {
-    subset_by(alloc, bytes, named, true)
+    match subset_within(alloc, bytes, named, true, None) {
+        Ok(subset) => Ok(subset.font),
+        Err(error) => Err(error),
+    }
+}
+
+/// Writes the font of [`subset`], or of [`subset_keeping`] if `retain_gids` is set, within a limit if there is one. Returns
+/// the kept glyphs too.
+///
+/// The runs of the kept glyphs share the limit, as in [`kept_glyphs_within`]. Each glyph is run once more to write it.
+///
+/// # Errors
+///
+/// - The errors of [`subset`] or [`subset_keeping`].
+/// - `TooLong`: the runs of the kept glyphs cost more than the limit.
+/// - `Glyph`: there is a limit, and the charstring of a kept glyph fails. The error has such a glyph and the cause.
+pub fn subset_within(
+    alloc: Global,
+    bytes: &[u8],
+    named: &[usize],
+    retain_gids: bool,
+    limit: Option<u64>,
+) -> Result<FontSubset>
+    // Each kept glyph is drawn with the same segments and width as before.
+    ensures drawn { IfOk result (λ subset. DrawsKept (choice_by retain_gids) named.now bytes.now subset.font.items) }
+    // Each kept glyph has its old code without calls, its advance width, and its name or CID.
+    ensures same { IfOk result (λ subset. GlyphsKept (choice_by retain_gids) named.now bytes.now subset.font.items) }
+    // The new font is well formed. It has exactly the kept glyphs, ascending, or all glyph numbers if glyphs keep them.
+    ensures written { IfOk result (λ subset. IsSubset (IsFontBy retain_gids) (choice_by retain_gids) named.now bytes.now subset.font.items) }
+    // Each glyph that `kept_glyphs` returns is in the new font, at its index, or under its number if glyphs keep these.
+    ensures all { IfOk result (λ subset. HasAllBy retain_gids named.now bytes.now subset.font.items) }
+    // The list has `.notdef`, the named glyphs and all components of listed ones, ascending.
+    ensures kept { IfOk result (λ subset. AreKept named.now bytes.now subset.kept.items) }
+    // The run of each kept glyph ends within what those before it leave of the limit, in some order.
+    ensures within { OnOk result (KeepsWithin limit named.now bytes.now) }
+    // No bytes are outside the parts of the font, and a Private DICT has no operator twice.
+    ensures whole { IfOk result (λ subset. IsWholeFont subset.font.items) }
+    // No operator occurs twice in the Top DICT or in a Font DICT.
+    ensures once { IfOk result (λ subset. TellsOnce subset.font.items) }
+    // If the Top DICT has `ROS`, it is the first operator.
+    ensures ros { IfOk result (λ subset. BeginsWithRos subset.font.items) }
+    // In a CID-keyed font, FDSelect gives each glyph a Font DICT that the font has.
+    ensures selects { IfOk result (λ subset. SelectsParts subset.font.items) }
+    // No charstring of the new font has more than 65,535 bytes.
+    ensures short { IfOk result (λ subset. HasShortCodes subset.font.items) }
+    // The sizes stay below the limit of `TooLarge`.
+    ensures small { IfOk result (λ subset. IsSmall bytes.now subset.font.items) }
+    // If the lenient reading accepts the old font, it accepts the new one.
+    ensures lenient { IfOk result (λ subset. HasLenientFont bytes.now → HasLenientFont subset.font.items) }
+    // A success means that the font set has exactly one font.
+    ensures one { OnOk result (the_fonts bytes.now 0 ≡ Got 1 0) }
+    // With named glyphs and another number of fonts the error is `SeveralFonts`.
+    ensures several { 0 < length named.now → HasOtherFonts bytes.now → result ≡ Err errors.SeveralFonts }
+    // An error is justified by the list, the font or the first bad kept glyph, by the limit or a glyph that fails, or is `Memory`.
+    ensures refused { IfErr result (λ e. IsSubsetRefusedBy named.now (choice_by retain_gids) bytes.now e ⊎ StopsIn bytes.now named.now limit e) }
+    // The error is not `MissingName` if glyphs keep their numbers.
+    ensures names { IfErr result (λ e. retain_gids ≡ true → NeedsNoName e) }
+    // A success means that the font has all named glyphs.
+    ensures there { OnOk result ((font : View) → IsLaidOut bytes.now 0 font → AreThere named.now (length font.char_strings)) }
+    // Without named glyphs the error is `NoGlyphs`.
+    ensures none { named.now ≡ [] → result ≡ Err errors.NoGlyphs }
+{
+    subset_by(alloc, bytes, named, retain_gids, limit)
 }

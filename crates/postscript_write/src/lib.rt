@@ -21,5 +21,7 @@ mod strings;
 mod whole;
 
 pub use error::{Error, Result};
-pub use fonts::{flat_font, kept_glyphs, subset, subset_keeping};
+pub use fonts::{
+    FontSubset, flat_font, kept_glyphs, kept_glyphs_within, subset, subset_keeping, subset_within,
+};
 pub use indices::{index, put_index};

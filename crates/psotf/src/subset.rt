@@ -4,6 +4,7 @@ use crate::features::Features;
 use crate::layout;
 use clap::ArgMatches;
 use postscript_files::Given;
+use postscript_sfnt::FontFile;
 use postscript_subset::Subset;
 use postscript_text::names::trimmed;
 use psotf_font::along::Kept;
@@ -15,9 +16,9 @@ use psotf_output::{saving, telling};
 use std::alloc::{AllocError, Global};
 use std::io::Write;
 
-/// How often a glyph is run: it is checked, searched three times for components, measured and written, and its bytes are
-/// copied.
-pub const RUNS: u64 = 7;
+/// How often a glyph is run: it is searched twice for components, measured and written, its bytes are copied, and it is run
+/// once more if components are reported.
+pub const RUNS: u64 = 6;
 
 /// The tables that are copied into each subset.
 const SAME: [[u8; 4]; 2] = [*b"OS/2", *b"head"];
@@ -74,6 +75,7 @@ fn asked<'t>(
     words: &ArgMatches<'_>,
     copied: &'t [u32],
     given: &'t [Given],
+    limit: u64,
 ) -> postscript_files::Choice<'t> {
     postscript_files::Choice {
         chars: &choice.chars,
@@ -83,12 +85,41 @@ fn asked<'t>(
         retain_gids: words.get_flag("retain-gids"),
         copied,
         given,
+        limit: Some(limit),
     }
 }
 
+/// Returns the number of glyphs in the `maxp` table of a file.
+fn glyphs_in(file: &[u8]) -> usize {
+    let Ok(file) = FontFile::read(file, 0) else {
+        return 0;
+    };
+    match file.table(*b"maxp") {
+        Some([_, _, _, _, high, low, ..]) => usize::from(u16::from_be_bytes([*high, *low])),
+        _ => 0,
+    }
+}
+
+/// Reports the components that were added. The glyphs of the subset are within the limit.
+fn tell_components(rt: &HostRuntime, face: &Face<'_>, named: &[usize]) -> Result<(), Failure> {
+    let mut budget = Budget::new(u64::MAX, 1);
+    budget.room = u64::MAX;
+    let mut kept = Kept::new(rt.alloc());
+    kept.ask(rt.alloc(), &face.font, named, &mut budget)?;
+    kept.tell(rt)
+}
+
 /// Reports the added components, the lost features and the dropped tables.
-fn tell(rt: &HostRuntime, face: &Face<'_>, kept: &Kept, subset: &Subset) -> Result<(), Failure> {
-    kept.tell(rt)?;
+fn tell(
+    rt: &HostRuntime,
+    face: &Face<'_>,
+    words: &ArgMatches<'_>,
+    named: &[usize],
+    subset: &Subset,
+) -> Result<(), Failure> {
+    if words.get_flag("retain-gids") || glyphs_in(&subset.file) > named.len() {
+        tell_components(rt, face, named)?;
+    }
     layout::tell(rt, subset)?;
     leaving::tell(rt, &face.source.file, &subset.file)
 }
@@ -120,24 +151,18 @@ fn put_layout(
     if !words.get_flag("exact") {
         choice.put_shaped(rt.alloc(), face)?;
     }
-    let asked = asked(choice, words, &[], &[]);
+    let asked = asked(choice, words, &[], &[], budget.limit);
     choice.added = layout::closed(rt.alloc(), face, &asked, features, budget)?;
     let named = choice.named(rt.alloc(), face)?.len();
     tell_added(rt, words, named, chosen)
 }
 
-/// Checks that each glyph of the subset is within the limit. Returns the glyphs and their components.
-fn checked(
-    alloc: Global,
-    face: &Face<'_>,
-    choice: &Choice,
-    budget: &mut Budget,
-) -> Result<Kept, Failure> {
+/// Returns the limit of the runs of all kept glyphs, and spends it: at most half of the budget.
+fn limit_of(face: &Face<'_>, budget: &mut Budget) -> u64 {
     budget.room = flat_room(budget.limit, face.cff.len() as u64);
-    let named = choice.named(alloc, face)?;
-    let mut kept = Kept::new(alloc);
-    kept.ask(alloc, &face.font, &named, budget)?;
-    Ok(kept)
+    let limit = budget.room.min(budget.left / budget.weight / 2);
+    budget.spend_whole(limit);
+    limit
 }
 
 /// Returns the subset of the chosen characters and glyphs.
@@ -151,7 +176,8 @@ fn subset_of(
 ) -> Result<Subset, Failure> {
     let copied = copied(alloc, words)?;
     let given = given(alloc, face, words.get_flag("keep-names"))?;
-    let asked = asked(choice, words, &copied, &given);
+    let limit = limit_of(face, budget);
+    let asked = asked(choice, words, &copied, &given, limit);
     if keeps_layout(words) {
         layout::written(alloc, face, &asked, features, budget)
     } else {
@@ -159,8 +185,8 @@ fn subset_of(
     }
 }
 
-/// Writes the file of the chosen glyphs and their components. It fails if one of them, or the search for substitutions,
-/// costs more than the limit. Without `--quiet` it reports added glyphs and dropped tables.
+/// Writes the file of the chosen glyphs and their components. It fails if all of these together, or the search for
+/// substitutions, cost more than the limit. Without `--quiet` it reports added glyphs and dropped tables.
 pub fn write<W: Write>(
     rt: &HostRuntime,
     face: &Face<'_>,
@@ -173,10 +199,10 @@ pub fn write<W: Write>(
     if keeps_layout(words) {
         put_layout(rt, face, words, &features, &mut choice, budget)?;
     }
-    let kept = checked(rt.alloc(), face, &choice, budget)?;
     let subset = subset_of(rt.alloc(), face, words, &features, &choice, budget)?;
     if !words.get_flag("quiet") {
-        tell(rt, face, &kept, &subset)?;
+        let named = choice.named(rt.alloc(), face)?;
+        tell(rt, face, words, &named, &subset)?;
     }
     saving::put(rt, words.get_str("out"), &subset.file, out)
 }

@@ -1,4 +1,4 @@
-use Rattle.std.proofs.Common.{◌≡◌, ◌∙◌, ap, inl, rules, sym, subst, ℤ, pos, to_z, of_z, w32}
+use Rattle.std.proofs.Common.{◌≡◌, rules, sym, subst, ℤ, to_z, of_z, w32}
 use Rattle.postscript_c.specs.Texts.{lent}
 use Rattle.postscript_c.specs.WholeFiles.{TellsFile}
 use Rattle.postscript_c.proofs.exports.psf_file_subset.Goals as goal
@@ -8,6 +8,4 @@ returns c =
     let same : to_z w32 (of_z w32 c.tell_file.result) ≡ c.tell_file.result = search rules in
     let P : ℤ → Type 0 = λ status. TellsFile c.subset_of-answer.result status (lent c.args.room.now c.args.count.now)
     (lent c.tell_file.new.room c.tell_file.new.count) c.args.refusal.now c.tell_file.new.refusal in
-    let asked : to_z w32 (of_z w32 c.asked_of-asked.result) ≡ c.asked_of-asked.result = search rules in
-    let zero : c.asked_of-asked.result ≡ pos 0 = sym asked ∙ ap (λ n. to_z w32 n) c.if-asked-ne0.false in
-    inl (c.asked_of-asked.ensures.end zero, (c.subset_of-answer.result, c.subset_of-answer.ensures, subst P (sym same) c.tell_file.ensures))
+    (c.subset_of-answer.result, c.subset_of-answer.ensures, subst P (sym same) c.tell_file.ensures)

@@ -12,7 +12,7 @@ returns-then-retain_gids-clause-are c =
 
 pub returns-then-retain_gids-clause-refused : goal.returns-then-retain_gids-clause-refused
 returns-then-retain_gids-clause-refused c =
-    no-every c.every.result c.args.retain_gids c.args.named.now c.args.cff.now c.every.ensures.refused
+    no-every c.every.result c.args.limit c.args.retain_gids c.args.named.now c.args.cff.now c.every.ensures.refused
 
 pub returns-else-retain_gids-clause-are : goal.returns-else-retain_gids-clause-are
 returns-else-retain_gids-clause-are c =
@@ -21,7 +21,7 @@ returns-else-retain_gids-clause-are c =
 
 pub returns-else-retain_gids-clause-refused : goal.returns-else-retain_gids-clause-refused
 returns-else-retain_gids-clause-refused c =
-    no-kept c.kept.result c.args.retain_gids c.args.named.now c.args.cff.now c.kept.ensures.refused
+    no-kept c.kept.result c.args.limit c.args.retain_gids c.args.named.now c.args.cff.now c.kept.ensures.refused
 
 pub returns-then-retain_gids-clause-few : goal.returns-then-retain_gids-clause-few
 returns-then-retain_gids-clause-few c = if-few c.every.result true [] c.args.cff.now c.are_bytes.ensures c.every.ensures.all

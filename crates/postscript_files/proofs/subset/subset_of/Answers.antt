@@ -1,22 +1,26 @@
-use Rattle.std.proofs.Common.{◌∙◌, ap, subst, ℕ, List}
+use Rattle.std.proofs.Common.{◌∙◌, ap, sym, subst, ℕ, List}
 use Rattle.std.proofs.lemmas.Result.{err_from_is_err_and}
 use Rattle.std.specs.Prelude.{IfErr, IfOk}
 use Rattle.postscript_sfnt_write.specs.declared.mapping.Mapping.{Mapping}
+use Rattle.postscript_write.specs.Costs.{KeepsWithin}
 use Rattle.postscript_files.specs.Choices.{glyphs_of, named_of}
 use Rattle.postscript_files.specs.Listed.{IsFileOfParts, NoFileOfParts}
 use Rattle.postscript_files.specs.Made.{IsMade}
 use Rattle.postscript_files.specs.Origins.{AreOrigins}
 use Rattle.postscript_files.specs.Subsets.{IsSubsetFont}
+use Rattle.postscript_write.specs.Components.{AreKept}
+use Rattle.postscript_files.proofs.Refusing.{unopened-so}
 use Rattle.postscript_files.proofs.Subsetting.{if-subset, no-origins-so, no-written-so, unmade-so}
 use Rattle.postscript_files.proofs.subset.subset_of.Goals as goal
 
 pub returns-clause-subset : goal.returns-clause-subset
 returns-clause-subset c =
     if-subset c.written.result c.args.choice.now c.args.face.now c.in_ok-pairs.pairs.items c.in_ok-named.named.items
-    c.in_ok-origins.origins.items c.in_ok-cff.cff.items c.in_ok-made.made c.in_ok-pairs.ensures.kept
+    c.in_ok-origins.origins.items c.in_ok-cut.cut.font.items c.in_ok-made.made c.in_ok-pairs.ensures.kept
     (c.in_ok-named.ensures.named ∙ ap (named_of (glyphs_of c.args.choice.now)) c.deref.ensures.value)
-    (subst (λ (xs : List ℕ). IsSubsetFont c.args.choice.now.retain_gids xs c.args.face.now.cff.now c.in_ok-cff.cff.items)
-    c.deref-2.ensures.value c.in_ok-cff.ensures.font)
+    (subst (λ (xs : List ℕ). IsSubsetFont c.args.choice.now.retain_gids xs c.args.face.now.cff.now c.in_ok-cut.cut.font.items)
+    c.deref-2.ensures.value c.in_ok-cut.ensures.font)
+    (subst (λ (xs : List ℕ). KeepsWithin c.args.choice.now.limit xs c.args.face.now.cff.now) c.deref-2.ensures.value c.in_ok-cut.ensures.within)
     (subst (λ (xs : List ℕ). AreOrigins c.args.choice.now.retain_gids xs c.args.face.now.cff.now c.in_ok-origins.origins.items)
     c.deref-3.ensures.value c.in_ok-origins.ensures.are)
     (subst (λ (ps : List Mapping). IsMade c.args.face.now ps c.in_ok-origins.origins.items c.in_ok-made.made) c.deref-4.ensures.value
@@ -27,10 +31,10 @@ returns-clause-subset c =
 pub returns-clause-refused : goal.returns-clause-refused
 returns-clause-refused c =
     no-written-so c.written.result c.args.choice.now c.args.face.now c.in_ok-pairs.pairs.items c.in_ok-named.named.items
-    c.in_ok-origins.origins.items c.in_ok-cff.cff.items c.in_ok-made.made c.in_ok-pairs.ensures.kept
+    c.in_ok-origins.origins.items c.in_ok-cut.cut.font.items c.in_ok-made.made c.in_ok-pairs.ensures.kept
     (c.in_ok-named.ensures.named ∙ ap (named_of (glyphs_of c.args.choice.now)) c.deref.ensures.value)
-    (subst (λ (xs : List ℕ). IsSubsetFont c.args.choice.now.retain_gids xs c.args.face.now.cff.now c.in_ok-cff.cff.items)
-    c.deref-2.ensures.value c.in_ok-cff.ensures.font)
+    (subst (λ (xs : List ℕ). IsSubsetFont c.args.choice.now.retain_gids xs c.args.face.now.cff.now c.in_ok-cut.cut.font.items)
+    c.deref-2.ensures.value c.in_ok-cut.ensures.font)
     c.in_ok-origins.ensures.few
     (subst (λ (ps : List Mapping). IsMade c.args.face.now ps c.in_ok-origins.origins.items c.in_ok-made.made) c.deref-4.ensures.value
     (subst (λ (xs : List ℕ). IsMade c.args.face.now c.deref-4.result.now xs c.in_ok-made.made) c.deref-5.ensures.value c.in_ok-made.ensures.made))
@@ -43,7 +47,13 @@ returns-in_err-origins-clause-refused c =
     rw (error.1, error.2) (no-origins-so _ c.args.choice.now c.args.face.now c.in_ok-pairs.pairs.items c.in_ok-named.named.items
     c.deref-3.result.now c.in_ok-pairs.ensures.kept
     (c.in_ok-named.ensures.named ∙ ap (named_of (glyphs_of c.args.choice.now)) c.deref.ensures.value) c.deref-3.ensures.value
-    c.in_err-origins.ensures.refused)
+    (unopened-so _ c.args.choice.now.limit c.args.choice.now.retain_gids c.deref-3.result.now c.args.face.now.cff.now
+    c.in_err-origins.ensures.refused))
+
+pub origins_by-requires-clause-kept : goal.origins_by-requires-clause-kept
+origins_by-requires-clause-kept c =
+    subst (λ (xs : List ℕ). AreKept xs c.args.face.now.cff.now c.in_ok-cut.cut.kept.items)
+    (c.deref-2.ensures.value ∙ sym c.deref-3.ensures.value) c.in_ok-cut.ensures.kept
 
 pub returns-in_err-made-clause-refused : goal.returns-in_err-made-clause-refused
 returns-in_err-made-clause-refused c =

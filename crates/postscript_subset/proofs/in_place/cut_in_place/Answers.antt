@@ -16,6 +16,7 @@ returns-in_err-file-clause-why c =
       retain_gids = c.args.choice.now.retain_gids;
       copied = c.deref-3.result;
       given = c.args.choice.now.given;
+      limit = c.args.choice.now.limit;
     } in
     let closed = subst (λ (xs : List ℕ). AreClosed c.args.choice.now kinds.All c.args.face.now c.gsub_in-gsub.result.now
     c.in_ok-closed.closed.lookups.items xs) (sym c.deref.ensures.value) c.in_ok-closed.ensures.closed in
@@ -24,7 +25,7 @@ returns-in_err-file-clause-why c =
     c.in_ok-closed.closed.lookups.items c.deref.result.now c.close.new.limit c.requires.room
     (known-in-place c.args.choice.now c.args.features.now c.args.face.now by c.gsub_in-gsub.result.now c.in_ok-closed.closed.lookups.items
     c.deref.result.now c.in_ok-unmapped.unmapped.items c.requires.retain c.gsub_in-gsub.ensures closed c.in_ok-unmapped.ensures.extended
-    refl refl c.deref-2.ensures.value refl refl (c.deref-3.ensures.value ∙ c.in_ok-copied.ensures.tags) refl)
+    refl refl c.deref-2.ensures.value refl refl refl (c.deref-3.ensures.value ∙ c.in_ok-copied.ensures.tags) refl)
     c.in_err-file.ensures.refused)
 
 pub returns-clause-subset : goal.returns-clause-subset
@@ -37,6 +38,7 @@ returns-clause-subset c =
       retain_gids = c.args.choice.now.retain_gids;
       copied = c.deref-3.result;
       given = c.args.choice.now.given;
+      limit = c.args.choice.now.limit;
     } in
     let closed = subst (λ (xs : List ℕ). AreClosed c.args.choice.now kinds.All c.args.face.now c.gsub_in-gsub.result.now
     c.in_ok-closed.closed.lookups.items xs) (sym c.deref.ensures.value) c.in_ok-closed.ensures.closed in
@@ -44,5 +46,5 @@ returns-clause-subset c =
     c.deref.result.now _ c.requires.retain
     (known-in-place c.args.choice.now c.args.features.now c.args.face.now by c.gsub_in-gsub.result.now c.in_ok-closed.closed.lookups.items
     c.deref.result.now c.in_ok-unmapped.unmapped.items c.requires.retain c.gsub_in-gsub.ensures closed c.in_ok-unmapped.ensures.extended
-    refl refl c.deref-2.ensures.value refl refl (c.deref-3.ensures.value ∙ c.in_ok-copied.ensures.tags) refl)
+    refl refl c.deref-2.ensures.value refl refl refl (c.deref-3.ensures.value ∙ c.in_ok-copied.ensures.tags) refl)
     c.in_ok-file.ensures.subset c.copied_as-3.ensures c.copied_as.ensures c.copied_as-2.ensures refl c.new.ensures.items

@@ -14,6 +14,7 @@ returns-clause-subset c =
       retain_gids = c.args.choice.now.retain_gids;
       copied = c.args.choice.now.copied;
       given = c.args.choice.now.given;
+      limit = c.args.choice.now.limit;
     } in
     let closed = subst (λ (xs : List ℕ). AreClosed c.args.choice.now c.args.features.now c.args.face.now c.gsub_in-gsub.result.now
     c.deref-3.result.now xs) (sym c.deref.ensures.value)
@@ -23,7 +24,7 @@ returns-clause-subset c =
     c.deref.result.now c.write.new.limit c.requires.anew
     (known-anew c.args.choice.now c.args.features.now c.args.face.now by c.gsub_in-gsub.result.now c.deref-3.result.now
     c.deref.result.now c.in_ok-unmapped.unmapped.items c.requires.anew c.gsub_in-gsub.ensures closed c.in_ok-unmapped.ensures.extended
-    refl refl c.deref-2.ensures.value refl refl refl refl) c.write.ensures.subset
+    refl refl c.deref-2.ensures.value refl refl refl refl refl) c.write.ensures.subset
 
 pub returns-clause-why : goal.returns-clause-why
 returns-clause-why c =
@@ -35,6 +36,7 @@ returns-clause-why c =
       retain_gids = c.args.choice.now.retain_gids;
       copied = c.args.choice.now.copied;
       given = c.args.choice.now.given;
+      limit = c.args.choice.now.limit;
     } in
     let closed = subst (λ (xs : List ℕ). AreClosed c.args.choice.now c.args.features.now c.args.face.now c.gsub_in-gsub.result.now
     c.deref-3.result.now xs) (sym c.deref.ensures.value)
@@ -44,4 +46,4 @@ returns-clause-why c =
     c.deref.result.now _ c.requires.room
     (known-anew c.args.choice.now c.args.features.now c.args.face.now by c.gsub_in-gsub.result.now c.deref-3.result.now
     c.deref.result.now c.in_ok-unmapped.unmapped.items c.requires.anew c.gsub_in-gsub.ensures closed c.in_ok-unmapped.ensures.extended
-    refl refl c.deref-2.ensures.value refl refl refl refl) c.write.ensures.why
+    refl refl c.deref-2.ensures.value refl refl refl refl refl) c.write.ensures.why

@@ -15,6 +15,7 @@ returns-in_err-subset-clause-why c =
       unmapped = refl;
       lenient = refl;
       retain_gids = refl;
+      limit = refl;
       copied = refl;
       given = ap (map shown) c.deref.ensures.value ∙ c.in_ok-put_all.ensures.put
           ∙ ap (λ (xs : List (ℕ × List ℕ)). xs ++ tables_of c.args.layers) c.in_ok-given.ensures.same;

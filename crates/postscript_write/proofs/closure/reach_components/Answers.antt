@@ -1,4 +1,4 @@
-use Rattle.std.proofs.Common.{◌∙◌, ap, subst, ℕ, List, ◌++◌, length}
+use Rattle.std.proofs.Common.{◌∙◌, ap, subst, inl, ℕ, List, ◌++◌, length}
 use Rattle.postscript_write.specs.Closure.{Grow}
 use Rattle.postscript_write.specs.Steps.{IsNotChosen}
 use Rattle.postscript_write.proofs.Making.{if_err}
@@ -16,10 +16,10 @@ returns-clause-grown c =
           c.reach_all.new.glyphs.items) all grown,
     )) c.reach_all.ensures.grown
 
-pub returns-clause-untold : goal.returns-clause-untold
-returns-clause-untold c =
+pub returns-clause-stops : goal.returns-clause-stops
+returns-clause-stops c =
     let pushed = c.in_ok-push_components.ensures.pushed in
     let all = c.deref.ensures.value ∙ pushed.2 ∙ ap (λ xs. xs ++ pushed.0) c.new-components.ensures.items in
-    if_err c.reach_all.result (λ e h. untold-of c.args.font.now c.args.glyph pushed.0 e pushed.1
+    if_err c.reach_all.result (λ e h. inl (untold-of c.args.font.now c.args.glyph pushed.0 e pushed.1
     (subst (λ n. IsNotChosen pushed.0 n e) c.requires.many
-    (subst (λ (xs : List ℕ). IsNotChosen xs (length c.args.marks.now.items) e) all h))) c.reach_all.ensures.refused
+    (subst (λ (xs : List ℕ). IsNotChosen xs (length c.args.marks.now.items) e) all h)))) c.reach_all.ensures.refused

@@ -1,23 +1,14 @@
 use Rattle.std.proofs.Common.{refl}
-use Rattle.postscript_write.proofs.Drawings.{keeping-drawn}
-use Rattle.postscript_write.proofs.Making.{if_err}
-use Rattle.postscript_write.proofs.SameGlyphs.{keeping-same}
-use Rattle.postscript_write.proofs.Told.{has-in-place}
+use Rattle.postscript_write.proofs.Stopping.{not-stopped}
+use Rattle.postscript_write.specs.Refusals.{IsSubsetRefusedBy}
+use Rattle.postscript_write.specs.Sources.{keeping}
 use Rattle.postscript_write.proofs.fonts.subset_keeping.Goals as goal
 
-pub returns-clause-drawn : goal.returns-clause-drawn
-returns-clause-drawn c = keeping-drawn c.subset_by.result c.args.named.now c.args.bytes.now c.subset_by.ensures.written
-
-pub returns-clause-same : goal.returns-clause-same
-returns-clause-same c = keeping-same c.subset_by.result c.args.named.now c.args.bytes.now c.subset_by.ensures.written
-
-pub returns-clause-names : goal.returns-clause-names
-returns-clause-names c = if_err c.subset_by.result (λ e names. names refl) c.subset_by.ensures.names
-
-pub returns-clause-kept : goal.returns-clause-kept
-returns-clause-kept c =
+pub returns-in-Err-clause-refused : goal.returns-in-Err-clause-refused
+returns-in-Err-clause-refused c =
     let named = c.args.named.now in
     let bytes = c.args.bytes.now in
-    let written = c.subset_by.ensures.written in
-    has-in-place c.subset_by.result named bytes (keeping-drawn c.subset_by.result named bytes written)
-    (keeping-same c.subset_by.result named bytes written)
+    not-stopped (IsSubsetRefusedBy named keeping bytes c.in-Err.error) bytes named c.in-Err.error c.in-Err.ensures.refused
+
+pub returns-in-Err-clause-names : goal.returns-in-Err-clause-names
+returns-in-Err-clause-names c = c.in-Err.ensures.names refl

@@ -1,12 +1,12 @@
 use Rattle.postscript_files.proofs.Subsetting.{some-named}
-use Rattle.postscript_files.proofs.subset.font_keeping.Goals as goal
+use Rattle.postscript_files.proofs.subset.cut_of.Goals as goal
 
 pub returns-in-Ok-clause-font : goal.returns-in-Ok-clause-font
 returns-in-Ok-clause-font c = record {
   drawn = c.in-Ok.ensures.drawn;
   same = c.in-Ok.ensures.same;
   written = c.in-Ok.ensures.written;
-  kept = c.in-Ok.ensures.kept;
+  kept = c.in-Ok.ensures.all;
   sound = record {
     whole = c.in-Ok.ensures.whole;
     once = c.in-Ok.ensures.once;
