@@ -7,7 +7,7 @@ use Rattle.postscript_sfnt.specs.Choice.{IsChosen, encoding_at, place_at, platfo
 use Rattle.postscript_sfnt.specs.Maps.{IsMapAt, IsWhole}
 use Rattle.postscript_sfnt.specs.declared.character_map.CharacterMap.{CharacterMap}
 use Rattle.postscript_sfnt.specs.declared.character_map.CharacterMap.TheVariants.{Segments, Groups, Trimmed}
-use Rattle.postscript_sfnt_write.specs.Mappings.{AreTold, AreToldIn4, IsReadable, Tells}
+use Rattle.postscript_sfnt_write.specs.Mappings.{AreTold, AreToldIn4, HasFormat4, IsReadable, Tells}
 use Rattle.postscript_sfnt_write.specs.Records.{AllAscend}
 use Rattle.postscript_sfnt_write.specs.Sequences.{AreClosed, IsSameRecord, IsWith}
 use Rattle.postscript_sfnt_write.specs.declared.mapping.Mapping.{Mapping}
@@ -265,6 +265,17 @@ same_format {old = old} {subtable = subtable} {new = new} w i k both =
     let long = length-drop (place_at old i) old in
     ap (λ (xs : List ℕ). number_at xs 0 2) both.same.bytes
     ∙ number_within (drop (place_at old i) old) subtable 0 2 (omega (arith, within, long))
+
+pub still_format4 : {old subtable new : List ℕ} → IsWith old subtable new → HasFormat4 old → HasFormat4 new
+still_format4 w has =
+    let on = there w has.i has.listed in
+    record {
+      i = on.0;
+      listed = on.1.listed_now;
+      platform = on.1.same.platform ∙ has.platform;
+      encoding = on.1.same.encoding ∙ has.encoding;
+      format = same_format w has.i on.0 on.1 ∙ has.format;
+    }
 
 pub still_told_in_4 : {old subtable new : List ℕ} → IsWith old subtable new → (ms : List Mapping) → AreClosed old →
     number_at subtable 0 2 ≡ 14 → AreToldIn4 old ms → AreToldIn4 new ms

@@ -2,7 +2,7 @@
 ghost use Rattle.std.specs.Prelude.{◌≡◌, ◌↔◌, ◌⊎◌, ℕ, ◌+◌, ◌-◌, ◌*◌, ◌^◌, ◌<◌, ◌≤◌, List, ◌++◌, length, IsTrue, OnOk, IfOk, IfErr};
 ghost use Rattle.postscript_base.specs.Index.{number_at as the_number};
 ghost use Rattle.postscript_sfnt.specs.Choice.{place_at, records_of};
-ghost use Rattle.postscript_sfnt_write.specs.Mappings.{AreTold, AreToldIn4, IsReadable};
+ghost use Rattle.postscript_sfnt_write.specs.Mappings.{AreTold, AreToldIn4, HasFormat4, IsReadable};
 ghost use Rattle.postscript_sfnt_write.specs.Moving.{RecordFits, RecordsFit, moved_record, moved_text, with_text};
 ghost use Rattle.postscript_sfnt_write.specs.Records.{AllAscend};
 ghost use Rattle.postscript_sfnt_write.specs.Sequences.{AreClosed, HasSubtables, IsLower, IsWith, RefusesSubtable};
@@ -147,10 +147,12 @@ pub fn with_sequences(alloc: Global, cmap: &[u8], subtable: &[u8]) -> Result<Vec
     // If the old subtables read nothing past the end, the best subtable maps each character to the same glyph as before.
     ensures told { IfOk result (λ new. (mappings : List Mapping) → AreClosed cmap.now →
         AreTold cmap.now mappings → AreTold new.items mappings) }
-    // So does each subtable of format 4, if the added one is of format 14.
+    // If the old table has a subtable of format 4 for the first plane of Unicode on Windows, so has the new one.
+    ensures format4 { IfOk result (λ new. HasFormat4 cmap.now → HasFormat4 new.items) }
+    // If the old subtables read nothing past the end and the added one has format 14, each one of format 4 maps characters as before.
     ensures told_in_4 { IfOk result (λ new. (mappings : List Mapping) → AreClosed cmap.now → the_number subtable.now 0 2 ≡ 14 →
         AreToldIn4 cmap.now mappings → AreToldIn4 new.items mappings) }
-    // Segments and groups that ascend do so in the new table.
+    // If the old subtables read nothing past the end and the added one has format 14, segments and groups that ascend still do.
     ensures ascend { IfOk result (λ new. AreClosed cmap.now → the_number subtable.now 0 2 ≡ 14 →
         AllAscend cmap.now → AllAscend new.items) }
     // `Cut` and `TooLarge` come only for such tables. Other errors, except `Memory`, never come.

@@ -1,5 +1,5 @@
 use Rattle.std.proofs.Common.{arith}
-use Rattle.postscript_sfnt_write.proofs.Added.{still_ascends, still_readable, still_told, still_told_in_4}
+use Rattle.postscript_sfnt_write.proofs.Added.{still_ascends, still_format4, still_readable, still_told, still_told_in_4}
 use Rattle.postscript_sfnt_write.proofs.Moved.{written_with}
 use Rattle.postscript_sfnt_write.proofs.sequences.with_sequences.Goals as goal
 
@@ -17,6 +17,9 @@ returns-clause-read c = still_readable (returns-clause-added c)
 
 pub returns-clause-told : goal.returns-clause-told
 returns-clause-told c = still_told (returns-clause-added c)
+
+pub returns-clause-format4 : goal.returns-clause-format4
+returns-clause-format4 c = still_format4 (returns-clause-added c)
 
 pub returns-clause-told_in_4 : goal.returns-clause-told_in_4
 returns-clause-told_in_4 c = still_told_in_4 (returns-clause-added c)
