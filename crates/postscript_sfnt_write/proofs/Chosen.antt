@@ -14,22 +14,23 @@ use Rattle.postscript_sfnt_write.specs.Headers.{HasHeader12, HasHeader4, HaveHea
 use Rattle.postscript_sfnt_write.specs.Mappings.{AreTold, AreToldIn4, CharsRise, HasFormat4, HasOnlyFormat4, IsGlyphIn, IsReadable, Tells, in_segments}
 use Rattle.postscript_sfnt_write.specs.Numbers.{uint16, uint32}
 use Rattle.postscript_sfnt_write.specs.Records.{AllAscend, Ascends, HasRecords, IsEnded, IsRecord}
+use Rattle.postscript_sfnt_write.specs.Sequences.{AreClosed, IsClosed}
 use Rattle.postscript_sfnt_write.specs.declared.mapping.Group.{Group}
 use Rattle.postscript_sfnt_write.specs.declared.mapping.Mapping.{Mapping}
 use Rattle.postscript_sfnt_write.proofs.Groups.{Gives, Say, group_at, group_below, say}
 use Rattle.postscript_sfnt_write.proofs.Headed.{headed12, headed4, length-format12}
-use Rattle.postscript_sfnt_write.proofs.Mapped.{are12, header12, rises, told_glyph}
+use Rattle.postscript_sfnt_write.proofs.Mapped.{are12, closed12, header12, rises, told_glyph}
 use Rattle.postscript_sfnt_write.proofs.Segments.{all_in, in_segments_below, in_segments_rise}
-use Rattle.postscript_sfnt_write.proofs.Mapped4.{AreLow, Map4, are4, end_in, end_rises, length-rows_text, low_groups, low_with_end, map4, without_end}
+use Rattle.postscript_sfnt_write.proofs.Mapped4.{AreLow, Map4, are4, closed4, end_in, end_rises, length-rows_text, low_groups, low_with_end, map4, without_end}
 use Rattle.postscript_sfnt_write.proofs.Standing.{Stands, length-uint16, stands_dropped, stands_first, stands_second, uint16_stands, uint32_stands}
 
 -- a record of a platform, an encoding and a place
-record Encoding (bytes : List ℕ) (at platform encoding place : ℕ) : Type 0 where
-  platform_is : number_at bytes at 2 ≡ platform
-  encoding_is : number_at bytes (at + 2) 2 ≡ encoding
-  place_is : number_at bytes (at + 4) 4 ≡ place
+pub record Encoding (bytes : List ℕ) (at platform encoding place : ℕ) : Type 0 where
+  pub platform_is : number_at bytes at 2 ≡ platform
+  pub encoding_is : number_at bytes (at + 2) 2 ≡ encoding
+  pub place_is : number_at bytes (at + 4) 4 ≡ place
 
-encoding_stands : {bytes : List ℕ} (at platform encoding place : ℕ) → platform < 2 ^ 16 → encoding < 2 ^ 16 → place < 2 ^ 32 →
+pub encoding_stands : {bytes : List ℕ} (at platform encoding place : ℕ) → platform < 2 ^ 16 → encoding < 2 ^ 16 → place < 2 ^ 32 →
     Stands (encoding_text platform encoding place) bytes at → Encoding bytes at platform encoding place
 unfolding encoding_text
 encoding_stands {bytes = bytes} at platform encoding place p e o s =
@@ -43,12 +44,12 @@ encoding_stands {bytes = bytes} at platform encoding place p e o s =
       place_is = subst (λ k. number_at bytes k 4 ≡ place) four (uint32_stands place o at4);
     }
 
-length-encoding : (platform encoding place : ℕ) → length (encoding_text platform encoding place) ≡ 8
+pub length-encoding : (platform encoding place : ℕ) → length (encoding_text platform encoding place) ≡ 8
 unfolding encoding_text uint16 uint32
 length-encoding platform encoding place = refl
 
 -- a table from its beginning
-whole : (bytes text : List ℕ) → bytes ≡ text → Stands text bytes 0
+pub whole : (bytes text : List ℕ) → bytes ≡ text → Stands text bytes 0
 whole bytes text e = record { within = omega arith; behind = []; there = e ∙ sym (append-nil text) }
 
 -- two records
@@ -229,6 +230,7 @@ pub record Answer (cmap : List ℕ) (ms : List Mapping) : Type 0 where
   pub told_in_4 : AreToldIn4 cmap (in_segments ms)
   pub records : HasRecords cmap
   pub ascend : AllAscend cmap
+  pub closed : AreClosed cmap
   pub size : length cmap ≤ 64076 + length ms * 12
 
 tells4 : (table : List ℕ) (ms : List Mapping) (n : ℕ) (map : CharacterMap) → number_at table 0 2 ≡ 4 → number_at table 6 2 / 2 ≡ n →
@@ -465,6 +467,7 @@ small_answer cmap gs ms rise below is few fit text =
       records = two_records (two (stands_first small_text body s)) head.format;
       ascend = λ i map less. two_places (λ place. IsMapAt cmap place map → Ascends map) (two (stands_first small_text body s))
           (ascends4 (drop 20 cmap) (length gs) map m.format m.counted (low_rises (drop 20 cmap) gs ms rise below is m) cmap 20 refl) i less;
+      closed = two_places (λ place. IsClosed (drop place cmap)) (two (stands_first small_text body s)) (closed4 (drop 20 cmap) gs m);
       size =
           let both = ap length text.text ∙ length-append small_text body in
           let first = length-small in
@@ -519,5 +522,7 @@ large_answer cmap low gs ms rise is low_is low_fit few small less fit fits text 
           (low_rises (drop 36 cmap) low (in_segments ms) (in_segments_rise ms rise) (in_segments_below ms) low_is m) cmap 36 refl)
           (ascends12 (drop behind cmap) map h.format (rises _ _ _ (number_at (drop behind cmap) 12 4) gs ms are says) cmap behind refl)
           i less;
+      closed = four_places (λ place. IsClosed (drop place cmap)) behind records (closed4 (drop 36 cmap) low m)
+          (closed12 (drop behind cmap) gs h);
       size = omega (arith, total, few, less);
     }

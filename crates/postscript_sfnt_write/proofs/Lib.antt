@@ -12,3 +12,6 @@ pub mod Mapped4
 pub mod Headed
 pub mod Chosen
 pub mod HeaderRows
+pub mod Appended
+pub mod Added
+pub mod Moved

@@ -1,5 +1,5 @@
 -- What groups that were written say to the reader.
-use Rattle.std.proofs.Common.{◌≡◌, refl, ap, subst, ◌∙◌, ℕ, zero, suc, ◌+◌, ◌-◌, ◌*◌, ◌^◌, ◌≤◌, ◌<◌, List, [], ◌∷◌, ◌++◌, length, length-append, arith}
+use Rattle.std.proofs.Common.{◌≡◌, refl, ap, subst, ◌∙◌, inl, inr, ℕ, zero, suc, ◌+◌, ◌-◌, ◌*◌, ◌^◌, ◌≤◌, ◌<◌, List, [], ◌∷◌, ◌++◌, length, length-append, arith}
 use Rattle.std.specs.Prelude.{if◌then◌else◌, nat_lt}
 use Rattle.std.proofs.lemmas.Bool.{lt-ltb}
 use Rattle.postscript_base.specs.Index.{number_at}
@@ -7,6 +7,7 @@ use Rattle.postscript_sfnt.specs.CharacterMap.{Holds, IsFirst, IsGlyphOf, Rise, 
 use Rattle.postscript_sfnt_write.specs.Grouping.{MappingsFit, GroupFits, GroupsFit, IsGroup, format12_text, group_text, groups_text}
 use Rattle.postscript_sfnt_write.specs.Mappings.{IsGlyphIn, IsMapping}
 use Rattle.postscript_sfnt_write.specs.Numbers.{uint16, uint32}
+use Rattle.postscript_sfnt_write.specs.Sequences.{IsClosed}
 use Rattle.postscript_sfnt_write.specs.declared.mapping.Group.{Group}
 use Rattle.postscript_sfnt_write.specs.declared.mapping.Mapping.{Mapping}
 use Rattle.postscript_sfnt_write.proofs.Groups.{Gives, Say, group_at, group_below}
@@ -167,6 +168,16 @@ header12 table gs small s =
       counted = uint32_stands (length gs) (omega arith) (stands_first (uint32 (length gs)) e at12);
       groups = at16;
       room = omega (arith, within, long);
+    }
+
+pub closed12 : (table : List ℕ) (gs : List Group) → Header12 table gs → IsClosed table
+closed12 table gs h =
+    let room = h.room in
+    let counted = h.counted in
+    let is = h.format in
+    record {
+      whole = inr (inl (is, omega (arith, room, counted)));
+      lists = λ format. absurd (omega (arith, is, format));
     }
 
 -- a glyph that is small is given

@@ -7,11 +7,12 @@ use Rattle.postscript_sfnt.specs.CharacterMap.{first4, last4, delta4, offset4, g
 use Rattle.postscript_sfnt_write.specs.Grouping.{AreBelow, IsGroup, end, head4_text, row_number, row_text, rows_text}
 use Rattle.postscript_sfnt_write.specs.Mappings.{CharsRise, IsGlyphIn, IsMapping}
 use Rattle.postscript_sfnt_write.specs.Numbers.{uint16}
+use Rattle.postscript_sfnt_write.specs.Sequences.{IsClosed, ListsInside}
 use Rattle.postscript_sfnt_write.specs.declared.mapping.Group.{Group}
 use Rattle.postscript_sfnt_write.specs.declared.mapping.Mapping.{Mapping}
 use Rattle.postscript_sfnt_write.specs.declared.mapping.Row.{Row}
 use Rattle.postscript_sfnt_write.specs.declared.mapping.Row.TheVariants.{Delta, End, Offset, Start}
-use Rattle.postscript_sfnt_write.proofs.Groups.{Say, mapping_below}
+use Rattle.postscript_sfnt_write.proofs.Groups.{Say, group_at, mapping_below}
 use Rattle.postscript_sfnt_write.proofs.Mapped.{Are}
 use Rattle.postscript_sfnt_write.proofs.Standing.{Stands, length-uint16, stands_first, stands_second, stands_within, uint16_stands}
 
@@ -146,7 +147,7 @@ low_groups gs ms say low =
         let same = has.char_is in
         omega (arith, less, same)
 
-zero_offset : (table : List ℕ) (count i char : ℕ) → offset4 table count i ≡ 0 →
+pub zero_offset : (table : List ℕ) (count i char : ℕ) → offset4 table count i ≡ 0 →
     gives4 table count i char ≡ (char + delta4 table count i) % 65536
 zero_offset table count i char e =
     ap (λ b. if b then (char + delta4 table count i) % 65536 else if listed4 table
@@ -170,6 +171,20 @@ are4 table gs low m = record {
       zero_offset table (length gs) i char none
       ∙ (let sum : (char + delta4 table (length gs) i) % 65536 ≡ glyph = omega (arith, delta, less, is, small) in sum);
 }
+
+-- no glyphs are listed
+no_offsets : (table : List ℕ) (gs : List Group) → Map4 table gs → ListsInside table
+no_offsets table gs m i char held =
+    let counted = m.counted in
+    let listed = held.listed in
+    let one = group_at gs i (omega (arith, counted, listed)) in
+    inl (ap (λ k. offset4 table k i) counted ∙ row_said (16 + length gs * 6) Offset gs i one.0 one.1 m.offsets)
+
+pub closed4 : (table : List ℕ) (gs : List Group) → Map4 table gs → IsClosed table
+closed4 table gs m =
+    let room = m.room in
+    let counted = m.counted in
+    record { whole = inl (m.format, omega (arith, room, counted)); lists = λ format. no_offsets table gs m }
 
 -- the character that ends all segments
 pub left_in : (ms : List Mapping) (i : ℕ) (m : Mapping) → IsMapping ms i m → IsMapping (ms ++ end ∷ []) i m

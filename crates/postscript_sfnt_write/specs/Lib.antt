@@ -8,3 +8,5 @@ pub mod Records
 pub mod Grouping
 pub mod Metrics
 pub mod Layout
+pub mod Sequences
+pub mod Moving

@@ -3,6 +3,7 @@ ghost use Rattle.std.specs.Prelude.{◌≡◌, ℕ, ◌+◌, ◌*◌, ◌^◌, �
 ghost use Rattle.postscript_sfnt_write.specs.Mappings.{AreTold, AreToldIn4, CharsRise, FitFormat4, HasFormat4, HasOnlyFormat4, IsReadable, RefusesMap, in_segments, low as the_low};
 ghost use Rattle.postscript_sfnt_write.specs.Headers.{HaveHeaders, IsLogarithm};
 ghost use Rattle.postscript_sfnt_write.specs.Records.{AllAscend, HasRecords};
+ghost use Rattle.postscript_sfnt_write.specs.Sequences.{AreClosed};
 ghost use Rattle.postscript_sfnt_write.specs.Grouping.{MappingsFit, AreBelow, MappingFits, GroupFits, GroupsFit, IsLarge, IsSmall, encoding_text, end, format12_text, goes_on as the_goes_on, group_of as the_group_of, group_text, grouped, groups as the_groups, groups_text, head4_text, large_text, row_number, row_text, rows_text};
 ghost use Rattle.postscript_sfnt_write.specs.declared.mapping.Mapping.{Mapping};
 
@@ -239,7 +240,7 @@ fn put_format4(out: &mut Vec<u8>, groups: &[Group]) -> std::result::Result<(), A
 
 /// Appends an encoding record with the offset of its subtable.
 #[tactic(auto, unfolding(crate::specs::Grouping::encoding_text))]
-fn put_encoding(
+pub(crate) fn put_encoding(
     out: &mut Vec<u8>,
     platform: u16,
     encoding: u16,
@@ -364,6 +365,7 @@ fn of_both(alloc: Global, mappings: &[Mapping]) -> std::result::Result<Vec<u8>, 
     ensures told_in_4 { IfOk result (λ cmap. AreToldIn4 cmap.items (in_segments mappings.now)) }
     ensures records { IfOk result (λ cmap. HasRecords cmap.items) }
     ensures ascend { IfOk result (λ cmap. AllAscend cmap.items) }
+    ensures closed { IfOk result (λ cmap. AreClosed cmap.items) }
     ensures size { IfOk result (λ cmap. length cmap.items ≤ 64076 + length mappings.now * 12) }
 {
     let low = low_segments(alloc, mappings)?;
@@ -392,6 +394,7 @@ fn of_segments(
     ensures only { IfOk result (λ cmap. HasOnlyFormat4 cmap.items) }
     ensures records { IfOk result (λ cmap. HasRecords cmap.items) }
     ensures ascend { IfOk result (λ cmap. AllAscend cmap.items) }
+    ensures closed { IfOk result (λ cmap. AreClosed cmap.items) }
     ensures size { IfOk result (λ cmap. length cmap.items ≤ 64076 + length mappings.now * 12) }
 {
     let table = small(alloc, segments)?;
@@ -447,6 +450,8 @@ pub fn cmap(alloc: Global, mappings: &[Mapping]) -> Result<Vec<u8>>
     ensures records { IfOk result (λ cmap. HasRecords cmap.items) }
     // In each subtable the segments or groups ascend and do not overlap. Format 4 ends with U+FFFF.
     ensures ascend { IfOk result (λ cmap. AllAscend cmap.items) }
+    // Each subtable is whole, and lists no glyphs outside of the table.
+    ensures closed { IfOk result (λ cmap. AreClosed cmap.items) }
     // The table has at most 64,076 bytes, and 12 for each character.
     ensures size { IfOk result (λ cmap. length cmap.items ≤ 64076 + length mappings.now * 12) }
     // A success means that the characters are in strictly ascending order.

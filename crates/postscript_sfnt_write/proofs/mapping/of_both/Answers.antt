@@ -35,5 +35,8 @@ returns-clause-records c = (answer c).records
 pub returns-clause-ascend : goal.returns-clause-ascend
 returns-clause-ascend c = (answer c).ascend
 
+pub returns-clause-closed : goal.returns-clause-closed
+returns-clause-closed c = (answer c).closed
+
 pub returns-clause-size : goal.returns-clause-size
 returns-clause-size c = (answer c).size
