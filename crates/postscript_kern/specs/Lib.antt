@@ -5,3 +5,4 @@ pub mod Renumbering
 pub mod Kept
 pub mod Written
 pub mod Refusals
+pub mod Languages

@@ -4,6 +4,9 @@
 //! and with the same values (`IsKept` in specs/Kept.antt). The new table has these subtables in the old order, and no other
 //! bytes (`kern_text` in specs/Written.antt).
 //!
+//! It is also proved whether a `GPOS` table kerns text of each script and language, so that shapers that then read only `GPOS`
+//! need no `kern` table (`EachLanguageKerns` in specs/Languages.antt).
+//!
 //! What is left out:
 //!
 //! - Subtables of other formats than 0, and subtables without pairs of kept glyphs.
@@ -15,6 +18,7 @@
 
 mod error;
 mod kerning;
+mod languages;
 mod limit;
 mod numbers;
 mod pairs;
@@ -23,3 +27,4 @@ mod writing;
 
 pub use error::{Error, Result};
 pub use kerning::kept_kerning;
+pub use languages::each_language_kerns;
