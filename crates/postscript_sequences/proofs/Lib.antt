@@ -8,3 +8,4 @@ pub mod Firsts
 pub mod Kept
 pub mod Keeping
 pub mod Numbered
+pub mod Spending

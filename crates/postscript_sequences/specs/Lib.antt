@@ -8,3 +8,4 @@ pub mod Keeping
 pub mod Text
 pub mod Rows
 pub mod Keeps
+pub mod Units

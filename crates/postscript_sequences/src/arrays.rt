@@ -2,6 +2,7 @@
 ghost use Rattle.std.specs.Prelude.{◌≡◌, ℕ, ◌+◌, ◌*◌, ◌^◌, ◌<◌, ◌≤◌, MatchBool, MatchOption};
 ghost use Rattle.postscript_sequences.specs.Tables.{records_of, selector_at, default_at, other_at, ranges_of, first_at, last_at, mappings_of, char_at, glyph_at};
 ghost use Rattle.postscript_sequences.specs.Said.{IsBelow, IsPlace};
+ghost use Rattle.postscript_sequences.specs.Units.{record_units};
 ghost use Rattle.postscript_sequences.specs.Sequences.{IsMapping, IsRange, IsRecord};
 
 use crate::numbers::number;
@@ -66,6 +67,17 @@ fn mappings(table: &[u8], offset: usize) -> usize
         return 0;
     }
     number(table, offset, 4).min(table.len().saturating_sub(offset + 4) / 5)
+}
+
+/// Returns the units that a record costs at most for this number of characters.
+pub(crate) fn units(table: &[u8], i: usize, chars: usize) -> u64
+    requires small { i < 2 ^ 32 }
+    requires few { chars < 2 ^ 63 }
+    ensures { result ≡ record_units table.now chars i }
+{
+    let ranges = ranges(table, default_table(table, i));
+    let mappings = mappings(table, other_table(table, i));
+    (1 + chars + ranges + mappings) as u64
 }
 
 /// Returns the first character of a range.

@@ -1,5 +1,5 @@
 //! Numbers at an offset, and the limit of a call.
-ghost use Rattle.std.specs.Prelude.{◌≡◌, ◌+◌, ◌*◌, ◌^◌, ◌<◌, ◌≤◌, IfErr, length};
+ghost use Rattle.std.specs.Prelude.{◌≡◌, ◌+◌, ◌*◌, ◌^◌, ◌<◌, ◌≤◌, IfErr, OnErr, OnOk, length};
 ghost use Rattle.postscript_sequences.specs.Refusals.{Fails};
 ghost use Rattle.postscript_sequences.specs.Tables.{number as the_number};
 
@@ -25,6 +25,8 @@ pub(crate) fn number(table: &[u8], offset: usize, size: usize) -> usize
 /// Pays some units from the limit. If there are fewer, nothing of the limit is left.
 pub(crate) fn pay(limit: &mut u64, units: usize) -> Result<()>
     ensures spends { limit.new ≤ limit.old }
+    ensures exact { OnOk result (limit.new + units ≡ limit.old) }
+    ensures lacking { OnErr result (limit.old < units) }
     ensures why { IfErr result (λ e. Fails limit.new e) }
 {
     let units = units as u64;

@@ -1,9 +1,10 @@
 //! The sequences of some characters, by variation selectors.
-ghost use Rattle.std.specs.Prelude.{◌≡◌, ℕ, ◌+◌, ◌^◌, ◌<◌, ◌≤◌, ◌++◌, IfErr, IfOk, OnOk, OnErr, map};
+ghost use Rattle.std.specs.Prelude.{◌≡◌, ℕ, ◌+◌, ◌^◌, ◌<◌, ◌≤◌, ◌++◌, IfErr, IfOk, OnOk, OnErr, length, map};
 ghost use Rattle.postscript_sequences.specs.Parts.{AreParts, IsPart, IsPut};
 ghost use Rattle.postscript_sequences.specs.Refusals.{Fails};
 ghost use Rattle.postscript_sequences.specs.Sequences.{AreAscending};
 ghost use Rattle.postscript_sequences.specs.Tables.{records_of};
+ghost use Rattle.postscript_sequences.specs.Units.{record_units, units_of};
 ghost use Rattle.postscript_sequences.specs.declared.error.Error.TheVariants as errors;
 
 use crate::arrays::{records, selector};
@@ -42,6 +43,8 @@ fn part_of(alloc: Global, table: &[u8], i: usize, chars: &[u32], limit: &mut u64
     requires ascending { AreAscending chars.now }
     ensures are { IfOk result (λ part. IsPart table.now i chars.now part) }
     ensures spends { limit.new ≤ limit.old }
+    ensures most { OnOk result (limit.old + 1 ≤ limit.new + record_units table.now (length chars.now) i) }
+    ensures lacking { IfErr result (λ e. e ≡ errors.TooLong → limit.old + 1 < record_units table.now (length chars.now) i) }
     ensures why { IfErr result (λ e. Fails limit.new e) }
 {
     let mut part = Part {
@@ -70,6 +73,7 @@ pub(crate) fn parts_of(
     requires { AreAscending chars.now }
     ensures are { IfOk result (λ parts. AreParts table.now chars.now (records_of table.now) parts.items) }
     ensures spends { limit.new ≤ limit.old }
+    ensures lacking { IfErr result (λ e. e ≡ errors.TooLong → limit.old < units_of table.now (length chars.now)) }
     ensures why { IfErr result (λ e. Fails limit.new e) }
 {
     let mut parts = Vec::new(alloc);

@@ -2,6 +2,8 @@
 ghost use Rattle.std.specs.Prelude.{◌≡◌, ℕ, ◌+◌, ◌^◌, ◌<◌, ◌≤◌, IfErr, IfOk, OnOk};
 ghost use Rattle.postscript_sequences.specs.Refusals.{Fails};
 ghost use Rattle.postscript_sequences.specs.Said.{IsBehind, Tells};
+ghost use Rattle.postscript_sequences.specs.Tables.{default_at, mappings_of, other_at, ranges_of};
+ghost use Rattle.postscript_sequences.specs.declared.error.Error.TheVariants as errors;
 
 use crate::arrays::{default_table, glyph_of, is_in_range, mapping_from, other_table, range_from};
 use crate::error::Result;
@@ -50,6 +52,9 @@ pub(crate) fn paid(
     ensures behind { OnOk result (IsBehind table.now i cursor.new char) }
     ensures tells { IfOk result (λ sequence. Tells table.now i char sequence) }
     ensures spends { limit.new ≤ limit.old }
+    ensures exact { OnOk result (limit.old + cursor.old.range + cursor.old.mapping ≡ limit.new + 1 + cursor.new.range + cursor.new.mapping) }
+    ensures lacking { IfErr result (λ e. e ≡ errors.TooLong → limit.old + cursor.old.range + cursor.old.mapping
+        < 1 + ranges_of table.now (default_at table.now i) + mappings_of table.now (other_at table.now i)) }
     ensures why { IfErr result (λ e. Fails limit.new e) }
 {
     pay(limit, 1)?;

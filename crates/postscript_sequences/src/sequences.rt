@@ -3,10 +3,12 @@ ghost use Rattle.std.specs.Prelude.{◌≡◌, ◌↔◌, ℕ, ◌+◌, ◌<◌,
 ghost use Rattle.std.specs.List.{Contains};
 ghost use Rattle.postscript_sequences.specs.Refusals.{Fails, KeepFails};
 ghost use Rattle.postscript_sequences.specs.Keeps.{Keeps};
+ghost use Rattle.postscript_sequences.specs.Units.{units_of};
+ghost use Rattle.postscript_sequences.specs.declared.error.Error.TheVariants as errors;
 ghost use Rattle.postscript_sequences.specs.Tables.{format_of};
 ghost use Rattle.postscript_sequences.specs.Sequences.{AreAscending, AreFound, HasNone, IsGlyphOf, IsOfFormat, IsSubtable, Says, offset_at, table_of};
 
-use crate::arrays::record_of;
+use crate::arrays::{record_of, records, units};
 use crate::error::{Error, Result};
 use crate::numbers::number;
 use crate::parts::{parts_of, put_glyphs};
@@ -87,6 +89,26 @@ impl<'l> Sequences<'l> {
         said(self.table, i, &mut cursor, char as usize)
     }
 
+    /// Returns whether a limit suffices for some characters: [`Sequences::glyphs_of`] and [`Sequences::kept`] do not return
+    /// `TooLong` with it.
+    ///
+    /// A record needs a unit, and one for each of the characters and for each range and mapping of its tables.
+    #[tactic(auto, using(crate::proofs::Spending::units_next))]
+    pub fn is_enough(&self, limit: u64, chars: &[u32]) -> bool
+        // True exactly if all records together need at most as many units as the limit has.
+        ensures { IsTrue result ↔ (units_of (table_of self.now) (length chars.now) ≤ limit) }
+    {
+        let mut left = limit;
+        for i in 0..records(self.table) {
+            let units = units(self.table, i, chars.len());
+            if left < units {
+                return false;
+            }
+            left -= units;
+        }
+        true
+    }
+
     /// Returns the glyphs that sequences of some characters have, with any variation selector. A subset that has these
     /// characters needs them. Glyphs may be there several times.
     ///
@@ -103,6 +125,8 @@ impl<'l> Sequences<'l> {
         ensures exact { IfOk result (λ glyphs. (glyph : ℕ) → Contains glyphs.items glyph ↔ IsGlyphOf (table_of self.now) chars.now glyph) }
         // The limit never grows.
         ensures spends { limit.new ≤ limit.old }
+        // `TooLong` comes only if the limit is lower than the units of all records for these characters.
+        ensures lacking { IfErr result (λ e. e ≡ errors.TooLong → limit.old < units_of (table_of self.now) (length chars.now)) }
         // An error is `Memory`, or `TooLong` with nothing left of the limit.
         ensures why { IfErr result (λ e. Fails limit.new e) }
     {
@@ -139,6 +163,8 @@ impl<'l> Sequences<'l> {
         ensures exact { IfOk result (λ new. Keeps (table_of self.now) chars.now glyphs.now new.items) }
         // The limit never grows.
         ensures spends { limit.new ≤ limit.old }
+        // `TooLong` comes only if the limit is lower than the units of all records for these characters.
+        ensures lacking { IfErr result (λ e. e ≡ errors.TooLong → limit.old < units_of (table_of self.now) (length chars.now)) }
         // `TooLong` leaves nothing of the limit.
         ensures why { IfErr result (λ e. KeepFails limit.new e) }
     {
