@@ -28,7 +28,7 @@ use Rattle.postscript_files.specs.Faces.{IsBestMap, IsFaceIn, cff_tag, cmap_tag,
 use Rattle.postscript_files.specs.Listed.{AreParts, HasParts, IsFileOfParts, IsUnmade, NoFileOfParts}
 use Rattle.postscript_files.specs.Made.{AreBytes, HasNoOrigins, IsCutFile, IsHmtxOf, IsMade, IsMapOf}
 use Rattle.postscript_write.specs.Costs.{KeepsWithin}
-use Rattle.postscript_files.specs.Origins.{AreFew, AreOrigins, AreOriginsOf, IsCutRefusedBy, IsKeptGlyph, IsOrigin, KeepsToLimit, NoOriginsOf}
+use Rattle.postscript_files.specs.Origins.{AreFew, AreOrigins, AreOriginsOf, IsCutRefusedBy, IsKeptGlyph, IsOrigin, NoOriginsOf}
 use Rattle.postscript_files.specs.Subsets.{AreCounted, AreInOrder, AreTablesOf, HasSame, IsSame, IsSubsetFace, IsSubsetFile, IsSubsetFont, IsSubsetOf, KeepsNumber, NoSubsetBy, NoSubsetFrom, NoSubsetOf}
 use Rattle.postscript_files.specs.declared.choice.Choice.{Choice}
 use Rattle.postscript_files.specs.declared.error.Error.{Error}

@@ -50,10 +50,11 @@ returns-in_err-origins-clause-refused c =
     (unopened-so _ c.args.choice.now.limit c.args.choice.now.retain_gids c.deref-3.result.now c.args.face.now.cff.now
     c.in_err-origins.ensures.refused))
 
-pub origins_by-requires-clause-kept : goal.origins_by-requires-clause-kept
-origins_by-requires-clause-kept c =
-    subst (λ (xs : List ℕ). AreKept xs c.args.face.now.cff.now c.in_ok-cut.cut.kept.items)
-    (c.deref-2.ensures.value ∙ sym c.deref-3.ensures.value) c.in_ok-cut.ensures.kept
+pub origins_by-requires : goal.origins_by-requires
+origins_by-requires c = record {
+  kept = subst (λ (xs : List ℕ). AreKept xs c.args.face.now.cff.now c.in_ok-cut.cut.kept.items)
+      (c.deref-2.ensures.value ∙ sym c.deref-3.ensures.value) c.in_ok-cut.ensures.kept;
+}
 
 pub returns-in_err-made-clause-refused : goal.returns-in_err-made-clause-refused
 returns-in_err-made-clause-refused c =
