@@ -124,6 +124,33 @@ static void places(const uint8_t *file, size_t length) {
     free(segments);
 }
 
+/* A location that is computed once gives the outlines of the location; and any numbers are safe as scalars. */
+static void locations(const uint8_t *file, size_t length) {
+    static const int32_t coordinates[] = {650 * 65536, 12 * 65536};
+    size_t room = 40, many = 64, count = 0, scalar_count = 0, place = 0, size = 0;
+    psf_segment *segments = buffer(room * sizeof *segments), *same = buffer(room * sizeof *same);
+    uint32_t *scalars = buffer(many * sizeof *scalars);
+    psf_bounds bounds;
+    int32_t status = known(psf_location_scalars(file, length, 0, coordinates, 2, LIMIT, scalars, many, &scalar_count));
+    if (status == PSF_OK) holds(scalar_count <= many);
+    if (status == PSF_NO_ROOM) holds(scalar_count > many);
+    if (status == PSF_OK && psf_file_table(file, length, 0, PSF_TAG('C', 'F', 'F', '2'), &place, &size) == PSF_OK && size > 0)
+        for (size_t i = 0; i < GLYPHS; i++) {
+            int32_t found = known(psf_location_outline(file + place, size, scalars, scalar_count, i, LIMIT, segments, room, &count, &bounds));
+            holds(found == psf_variable_outline(file, length, 0, coordinates, 2, i, LIMIT, same, room, &count, &bounds));
+            if (found == PSF_OK) holds(count <= room && memcmp(segments, same, count * sizeof *same) == 0);
+        }
+    memset(scalars, 0, many * sizeof *scalars);
+    memcpy(scalars, file, length < many * sizeof *scalars ? length : many * sizeof *scalars);
+    if (place + size <= length && size > 0)
+        for (size_t i = 0; i < GLYPHS; i++)
+            known(psf_location_outline(file + place, size, scalars, i * 9, i, LIMIT, segments, room, &count, &bounds));
+    known(psf_location_outline(file, length, scalars, many, 1, LIMIT, segments, room, &count, &bounds));
+    free(scalars);
+    free(same);
+    free(segments);
+}
+
 /* A file that is written has a face with a CFF table. */
 static void files(const uint8_t *file, size_t length) {
     static const uint32_t letters[] = {'A', 'e', 0x2698}, tags[] = {PSF_TAG('n', 'a', 'm', 'e'), PSF_TAG('h', 'e', 'a', 'd')};
@@ -171,6 +198,7 @@ int LLVMFuzzerTestOneInput(const uint8_t *bytes, size_t length) {
     if (known(psf_file_table(bytes, length, 0, tags[1], &place, &size)) == PSF_OK) characters(bytes + place, size);
     table(bytes, length);
     places(bytes, length);
+    locations(bytes, length);
     files(bytes, length);
     return 0;
 }

@@ -32,8 +32,8 @@
  *
  * Units: coordinates, widths and bounds are in 1/65536 of a font unit. Glyphs, faces and offsets count from 0.
  *
- * Variable fonts: psf_variation_axis and the five calls after it take a whole OpenType file and the index of a face, instead of a
- * CFF table. Axis values are coordinates[0..named]: user coordinates in 1/65536, in the order of the axes. Missing ones are
+ * Variable fonts: psf_variation_axis and the calls after it, except psf_location_outline, take a whole OpenType file and the index of
+ * a face, instead of a CFF table. Axis values are coordinates[0..named]: user coordinates in 1/65536, in the order of the axes. Missing ones are
  * defaults, and all are clamped to their axis. A face without an fvar table has no axes. These calls also return
  * PSF_TOO_MANY_COORDINATES and PSF_MEMORY; PSF_CUT_FVAR, PSF_UNKNOWN_FVAR, PSF_CUT_AVAR or PSF_UNKNOWN_AVAR for a malformed
  * table; and PSF_CUT_FILE, PSF_UNKNOWN_FILE or PSF_NO_FACE for the file.
@@ -395,6 +395,22 @@ int32_t psf_variation_instance(const uint8_t *file, size_t length, size_t face, 
  * table those of psf_font_open and psf_glyph_outline. */
 int32_t psf_variable_outline(const uint8_t *file, size_t length, size_t face, const int32_t *coordinates, size_t named,
                              size_t glyph, uint64_t limit, psf_segment *segments, size_t room, size_t *count, psf_bounds *bounds);
+
+/* Computes the location at the given axis values once, for many calls of psf_location_outline: writes its scalars, one for each region
+ * that the variation data name, in units of 1/65536, to scalars[0..room]. They are numbers of the caller: the library keeps nothing.
+ * limit bounds the location as in psf_variable_outline.
+ * Sets *count on PSF_OK and PSF_NO_ROOM; it may be 0. Other errors: PSF_NO_TABLE if the face has no CFF2 table; from PSF_CFF2_HEADER to
+ * PSF_CFF2_DATA; PSF_TOO_LONG. */
+int32_t psf_location_scalars(const uint8_t *file, size_t length, size_t face, const int32_t *coordinates, size_t named, uint64_t limit,
+                             uint32_t *scalars, size_t room, size_t *count);
+
+/* Draws a glyph of the CFF2 table cff2[0..length], which psf_file_table finds, at the location with these scalars. With those of
+ * psf_location_scalars for the same face and limit, the outline is the one of psf_variable_outline. Any other numbers are safe too: they
+ * only change the outline. limit bounds the run as in psf_variable_outline.
+ * Sets *count and *bounds on PSF_OK and PSF_NO_ROOM. Other errors: PSF_NO_GLYPH, also if the glyph has no Font DICT; from PSF_CFF2_HEADER
+ * to PSF_CFF2_DATA, also if there are too few scalars; PSF_TOO_LONG; PSF_MEMORY; from 1 to 30. */
+int32_t psf_location_outline(const uint8_t *cff2, size_t length, const uint32_t *scalars, size_t scalar_count, size_t glyph, uint64_t limit,
+                             psf_segment *segments, size_t room, size_t *count, psf_bounds *bounds);
 
 /* Counts the glyphs of a face: the charstrings of its CFF2 table, or of its CFF table.
  * Errors: PSF_NO_TABLE if the face has neither; from PSF_CFF2_HEADER to PSF_CFF2_STORE; for a CFF table those of psf_font_open. */

@@ -441,6 +441,42 @@ static void check_places(const uint8_t *file, size_t length) {
     holds(draw(file, length, places[2], 2, 1, PSF_LIMIT, 5, &d) == PSF_OK && d.segments[2].x == 550 * 65536, "the ends of axes");
 }
 
+/* A location is computed once, and glyphs are drawn from its scalars as from its coordinates. */
+static void check_locations(const uint8_t *file, size_t length) {
+    const int32_t *place = places[0];
+    uint32_t scalars[4];
+    size_t count = 9, offset = 0, size = 0;
+    drawn d, same;
+    memset(scalars, 0xa5, sizeof scalars);
+    memset(&d, 0xa5, sizeof d);
+    holds(psf_location_scalars(file, length, 1, place, 2, PSF_LIMIT, scalars, 4, &count) == PSF_NO_FACE, "the location of no face");
+    holds(psf_location_scalars(file, length, 0, place, 3, PSF_LIMIT, scalars, 4, &count) == PSF_TOO_MANY_COORDINATES, "three axes of a location");
+    holds(psf_location_scalars(file, length, 0, place, 2, 8, scalars, 4, &count) == PSF_TOO_LONG && count == 9, "a location past the limit");
+    holds(psf_location_scalars(file, length, 0, place, 2, 9, scalars, 2, &count) == PSF_NO_ROOM && count == 3, "no room for its scalars");
+    holds(is_blank(scalars, sizeof scalars), "nothing is written then");
+    holds(psf_location_scalars(file, length, 0, place, 2, 9, scalars, 4, &count) == PSF_OK && count == 3, "a location within the limit");
+    holds(scalars[0] == 49152 && scalars[1] == 0 && scalars[2] == 32768 && scalars[3] == 0xa5a5a5a5u, "its scalars");
+    holds(psf_file_table(file, length, 0, PSF_TAG('C', 'F', 'F', '2'), &offset, &size) == PSF_OK, "the table of a location");
+    const uint8_t *cff2 = file + offset;
+    holds(psf_location_outline(cff2, size, scalars, 2, 1, PSF_LIMIT, d.segments, 5, &d.count, &d.bounds) == PSF_CFF2_DATA, "too few scalars");
+    holds(psf_location_outline(cff2, 4, scalars, 3, 1, PSF_LIMIT, d.segments, 5, &d.count, &d.bounds) == PSF_CFF2_HEADER, "no table");
+    holds(psf_location_outline(cff2, size, scalars, 3, 3, PSF_LIMIT, d.segments, 5, &d.count, &d.bounds) == PSF_NO_GLYPH, "no glyph there");
+    holds(psf_location_outline(cff2, size, scalars, 3, 1, 12, d.segments, 5, &d.count, &d.bounds) == PSF_TOO_LONG, "a run past its limit");
+    holds(is_blank(&d, sizeof d), "and nothing is told");
+    holds(psf_location_outline(cff2, size, scalars, 3, 1, PSF_LIMIT, d.segments, 3, &d.count, &d.bounds) == PSF_NO_ROOM && d.count == 4, "no room there");
+    for (size_t glyph = 0; glyph < 3; glyph++) {
+        memset(&d, 0xa5, sizeof d);
+        memset(&same, 0xa5, sizeof same);
+        /* a scalar more than there are regions is ignored */
+        holds(psf_location_outline(cff2, size, scalars, 4, glyph, PSF_LIMIT, d.segments, 5, &d.count, &d.bounds) == PSF_OK, "from scalars");
+        holds(draw(file, length, place, 2, glyph, PSF_LIMIT, 5, &same) == PSF_OK && memcmp(&d, &same, sizeof d) == 0, "the same outline");
+    }
+    /* scalars of 0 are those of the default */
+    memset(scalars, 0, sizeof scalars);
+    holds(psf_location_outline(cff2, size, scalars, 3, 1, PSF_LIMIT, d.segments, 5, &d.count, &d.bounds) == PSF_OK, "from other numbers");
+    for (int k = 0; k < 4; k++) holds(is_segment(&d.segments[k], varied[0][k]), "a segment at the default");
+}
+
 static void check_advances(const uint8_t *file, size_t length) {
     const int32_t *place = places[0];
     int64_t advance = 7;
@@ -716,6 +752,7 @@ int main(int argc, char **argv) {
     check_axes(variable, length);
     check_instances(variable, length);
     check_places(variable, length);
+    check_locations(variable, length);
     check_advances(variable, length);
     check_refused_tables(variable, length);
     length = read_hex(argv[1], file, sizeof file);

@@ -582,6 +582,15 @@ class Variable(Case):
         with self.assertRaises(IndexError):
             self.font.at()[-1]
 
+    def test_location(self):
+        """The scalars of a location are computed once, and again for another limit. The location costs nine units."""
+        place = self.font.at(wght=650, opsz=12)
+        self.assertEqual([place[1].svg_path(), place[1].svg_path()], [self.ROWS[5][2]] * 2)
+        self.font.limit = 8
+        self.refused(Status.TOO_LONG, place[0].svg_path)
+        self.font.limit = 9
+        self.assertEqual(place[0].segments, [])
+
     def test_files(self):
         for asked, advances, path, curved in self.ROWS:
             for rounded in (False, True):

@@ -462,6 +462,10 @@ for _name, _arguments in {
     "psf_variable_outline": [
         _bytes, _size, _size, POINTER(c_int32), _size, _size, c_uint64, POINTER(_Segment), _size, _sizes, POINTER(_Bounds),
     ],
+    "psf_location_scalars": [_bytes, _size, _size, POINTER(c_int32), _size, c_uint64, POINTER(c_uint32), _size, _sizes],
+    "psf_location_outline": [
+        _bytes, _size, POINTER(c_uint32), _size, _size, c_uint64, POINTER(_Segment), _size, _sizes, POINTER(_Bounds),
+    ],
     "psf_variable_glyphs": [_bytes, _size, _size, _sizes],
     "psf_variable_advance": [_bytes, _size, _size, POINTER(c_int32), _size, _size, c_uint64, POINTER(c_int64)],
     "psf_file_instance": [
@@ -1027,6 +1031,7 @@ class Place:
         }
         numbers = [round(self.coordinates[axis.tag] * 65536) for axis in font.axes]
         self._numbers = (c_int32 * len(numbers))(*numbers)
+        self._located: Optional[Tuple[int, Optional[Tuple[Any, ...]]]] = None
 
     def __repr__(self) -> str:
         return f"Place({self.coordinates})"
@@ -1036,6 +1041,26 @@ class Place:
 
     def __iter__(self) -> Iterator[VariableGlyph]:
         return map(self.glyph, range(len(self)))
+
+    def _location(self) -> Optional[Tuple[Any, ...]]:
+        """The `CFF2` table and the scalars of the location, computed once for the limit of the font. None on an error, or without the
+        table."""
+        limit = self.font.limit
+        if self._located is None or self._located[0] != limit:
+            self._located = limit, self._locate(limit)
+        return self._located[1]
+
+    def _locate(self, limit: int) -> Optional[Tuple[Any, ...]]:
+        file, face, numbers = self.font._view, self.font.face, self._numbers
+        room, count = 16, c_size_t()
+        while True:
+            scalars = (c_uint32 * room)()
+            status = _library.psf_location_scalars(*file.told, face, numbers, len(numbers), limit, scalars, room, byref(count))
+            if status == Status.OK:
+                return _table(file, face, b"CFF2"), scalars, count.value
+            if status != Status.NO_ROOM:
+                return None
+            room = count.value
 
     def glyph(self, number: int) -> VariableGlyph:
         """Returns a glyph by its number, from 0. If there is no such glyph, drawing it raises an error."""
@@ -1093,10 +1118,15 @@ class VariableGlyph:
 
     def _draw(self) -> Tuple[List[Segment], _Bounds]:
         room, count, bounds = 64, c_size_t(), _Bounds()
+        limit, location = self.place.font.limit, self.place._location()
         while True:
             segments = (_Segment * room)()
-            limit = self.place.font.limit
-            status = _library.psf_variable_outline(*self._lent(), limit, segments, room, byref(count), byref(bounds))
+            lent = limit, segments, room, byref(count), byref(bounds)
+            if location is None:
+                status = _library.psf_variable_outline(*self._lent(), *lent)
+            else:
+                table, scalars, many = location
+                status = _library.psf_location_outline(*table.told, scalars, many, self.number, *lent)
             if status == Status.OK:
                 return [_segment(s) for s in segments[: count.value]], bounds
             if status != Status.NO_ROOM:

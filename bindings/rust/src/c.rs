@@ -341,6 +341,29 @@ extern "C" {
         count: *mut usize,
         bounds: *mut Bounds,
     ) -> i32;
+    fn psf_location_scalars(
+        file: *const u8,
+        length: usize,
+        face: usize,
+        coordinates: *const i32,
+        named: usize,
+        limit: u64,
+        scalars: *mut u32,
+        room: usize,
+        count: *mut usize,
+    ) -> i32;
+    fn psf_location_outline(
+        cff2: *const u8,
+        length: usize,
+        scalars: *const u32,
+        scalar_count: usize,
+        glyph: usize,
+        limit: u64,
+        segments: *mut Segment,
+        room: usize,
+        count: *mut usize,
+        bounds: *mut Bounds,
+    ) -> i32;
     fn psf_variable_glyphs(file: *const u8, length: usize, face: usize, count: *mut usize) -> i32;
     fn psf_variable_advance(
         file: *const u8,
@@ -556,6 +579,45 @@ pub fn variable_outline(
             face,
             coordinates.as_ptr(),
             coordinates.len(),
+            glyph,
+            limit,
+            room.as_mut_ptr(),
+            room.len(),
+            count,
+            &mut bounds,
+        )
+    })?;
+    Ok(bounds)
+}
+
+/// The scalars of a location of a face.
+pub fn location_scalars(file: &[u8], face: usize, coordinates: &[i32], limit: u64) -> Result<Vec<u32>> {
+    let mut scalars = Vec::new();
+    with_room(&mut scalars, 16, 0, |room, count| unsafe {
+        psf_location_scalars(
+            file.as_ptr(),
+            file.len(),
+            face,
+            coordinates.as_ptr(),
+            coordinates.len(),
+            limit,
+            room.as_mut_ptr(),
+            room.len(),
+            count,
+        )
+    })?;
+    Ok(scalars)
+}
+
+/// The outline of a glyph of a `CFF2` table at the location with these scalars, and the bounds of its points.
+pub fn location_outline(cff2: &[u8], scalars: &[u32], glyph: usize, limit: u64, segments: &mut Vec<Segment>) -> Result<Bounds> {
+    let mut bounds = Bounds::default();
+    with_room(segments, 64, Segment::default(), |room, count| unsafe {
+        psf_location_outline(
+            cff2.as_ptr(),
+            cff2.len(),
+            scalars.as_ptr(),
+            scalars.len(),
             glyph,
             limit,
             room.as_mut_ptr(),

@@ -163,7 +163,7 @@ impl<'a> VariableFont<'a> {
     }
 
     /// Selects axis values, as user coordinates. Missing axes have their defaults. If a tag occurs several times, the last one counts.
-    /// Values are clamped to their axis.
+    /// Values are clamped to their axis. The scalars of the location are computed here, once for all glyphs.
     ///
     /// ```
     /// # let bytes = std::fs::read("examples/variable.otf")?;
@@ -182,7 +182,16 @@ impl<'a> VariableFont<'a> {
             return Err(Error::NoAxis);
         }
         let asked = |axis: &Axis| coordinates.iter().rev().find(|(tag, _)| *tag == axis.tag).map_or(axis.default, |(_, value)| *value);
-        Ok(Place { font: *self, coordinates: axes.iter().map(|axis| axis.fixed(asked(axis))).collect() })
+        let coordinates: Vec<i32> = axes.iter().map(|axis| axis.fixed(asked(axis))).collect();
+        let location = self.location(&coordinates);
+        Ok(Place { font: *self, coordinates, location })
+    }
+
+    /// The `CFF2` table and the scalars of a location. If there are none, [`Place::outline`] returns the error, or draws a `CFF ` table.
+    fn location(&self, coordinates: &[i32]) -> Option<(&'a [u8], Vec<u32>)> {
+        let cff2 = c::table(self.file, self.face, *b"CFF2").ok()?;
+        let scalars = c::location_scalars(self.file, self.face, coordinates, self.limit).ok()?;
+        Some((cff2, scalars))
     }
 
     /// Returns the glyph of a character, or `None` if the character map has none.
@@ -271,6 +280,7 @@ impl Instance {
 pub struct Place<'a> {
     font: VariableFont<'a>,
     coordinates: Vec<i32>,
+    location: Option<(&'a [u8], Vec<u32>)>,
 }
 
 impl<'a> Place<'a> {
@@ -303,7 +313,10 @@ impl<'a> Place<'a> {
     pub fn outline(&self, glyph: usize) -> Result<Outline> {
         let mut segments = Vec::new();
         let font = &self.font;
-        let bounds = c::variable_outline(font.file, font.face, &self.coordinates, glyph, font.limit, &mut segments)?;
+        let bounds = match &self.location {
+            Some((cff2, scalars)) => c::location_outline(cff2, scalars, glyph, font.limit, &mut segments)?,
+            None => c::variable_outline(font.file, font.face, &self.coordinates, glyph, font.limit, &mut segments)?,
+        };
         let advance = c::variable_advance(font.file, font.face, &self.coordinates, glyph, font.limit)?;
         Ok(Outline::at_place(&segments, advance, bounds))
     }

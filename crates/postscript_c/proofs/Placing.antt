@@ -4,12 +4,12 @@ use Rattle.postscript_c.specs.Placed.{AreAlong, coordinate_of}
 use Rattle.postscript_variation.specs.declared.axes.Axes.{Axes}
 use Rattle.postscript_variation.specs.declared.maps.Maps.{Maps}
 
-stays : {X : Type 0} (xs : List X) (x : X) (i : ℕ) → i < length xs → slice_get (xs ++ x ∷ []) i ≡ slice_get xs i
+pub stays : {X : Type 0} (xs : List X) (x : X) (i : ℕ) → i < length xs → slice_get (xs ++ x ∷ []) i ≡ slice_get xs i
 stays [] x i h = absurd (omega (arith, h))
 stays (y ∷ ys) x zero h = refl
 stays (y ∷ ys) x (suc i) h = stays ys x i (omega (arith, h))
 
-last : {X : Type 0} (xs : List X) (x : X) → slice_get (xs ++ x ∷ []) (length xs) ≡ Some x
+pub last : {X : Type 0} (xs : List X) (x : X) → slice_get (xs ++ x ∷ []) (length xs) ≡ Some x
 last [] x = refl
 last (y ∷ ys) x = last ys x
 

@@ -1,4 +1,5 @@
 //! Laws of the definitions. The functions do nothing: their clauses are the laws.
+ghost use Rattle.postscript_c.specs.Located.{KeepsLocations};
 ghost use Rattle.postscript_c.specs.SameDrawings.{DrawsInPlace};
 ghost use Rattle.postscript_c.specs.SameParts.{KeepsParts, TellsParts};
 
@@ -28,4 +29,11 @@ pub fn keeps_parts()
 pub fn draws_in_place()
     // Without an offset of 0 in its DICTs, C draws what `draw_glyph` draws, with its width.
     ensures law { DrawsInPlace }
+{}
+
+/// States that the scalars of a location stand for it: `psf_location_outline` draws from them what
+/// `psf_variable_outline` draws at the location, within the same limit.
+pub fn keeps_locations()
+    // What is drawn from the scalars of a location is what is drawn at the location, or fails so.
+    ensures law { KeepsLocations }
 {}

@@ -103,7 +103,7 @@ fn place_in(
 
 /// The location at user coordinates.
 #[tactic(auto, using(crate::proofs::Varying::none_in))]
-fn place_at(
+pub(crate) fn place_at(
     alloc: Global,
     file: &FontFile<'_>,
     font: &Font<'_>,
@@ -125,7 +125,7 @@ fn place_at(
 }
 
 /// Draws a glyph of a font at a location into an empty list, within a limit.
-fn draw_within(
+pub(crate) fn draw_within(
     alloc: Global,
     font: &Font<'_>,
     glyph: usize,
