@@ -2,10 +2,10 @@
 //!
 //! It is proved that each subtable of the new table has exactly the pairs of kept glyphs of an old one, with its coverage
 //! and with the same values (`IsKept` in specs/Kept.antt). The new table has these subtables in the old order, and no other
-//! bytes (`kern_text` in specs/Written.antt).
+//! bytes (`IsTable` in specs/Written.antt).
 //!
-//! It is also proved whether a `GPOS` table kerns text of each script and language, so that shapers that then read only `GPOS`
-//! need no `kern` table (`EachLanguageKerns` in specs/Languages.antt).
+//! The crate also finds out whether a `GPOS` table kerns text of each script and language (`EachLanguageKerns` in
+//! specs/Languages.antt). Shapers that kern by one of the two tables then need no `kern` table.
 //!
 //! What is left out:
 //!

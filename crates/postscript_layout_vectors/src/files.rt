@@ -1,6 +1,6 @@
 //! Whole files written with layout tables.
 use crate::checks::{bytes_of, holds_at};
-use postscript_file_vectors::small_file::{CFF, choice, tables_of};
+use postscript_file_vectors::small_file::{CFF, HMTX, choice, tables_of};
 use postscript_files::Face;
 use postscript_layout::closure;
 use postscript_sfnt_write::{Table, file_of};
@@ -39,16 +39,21 @@ fn put<'t, R: Abort>(rt: &R, tables: &mut Vec<Table<'t>>, tag: u32, bytes: &'t [
     tables.push(Table { tag, bytes }).expect(rt, "memory");
 }
 
-/// A file of the glyphs `.notdef`, A, grave and Agrave, with a `GSUB` and a `GPOS` table.
-fn file<R: Abort>(rt: &R, alloc: Global) -> Vec<u8> {
+/// A file of the glyphs `.notdef`, A, grave and Agrave, with a `GSUB` and a `GPOS` table, and with a `kern` table if it has
+/// bytes.
+fn file<R: Abort>(rt: &R, alloc: Global, positions: &str, pairs: &str) -> Vec<u8> {
     let given = tables_of(alloc, 0, "").expect(rt, "tables");
-    let (gpos, gsub) = (bytes_of(rt, alloc, PAIRS), bytes_of(rt, alloc, RULES));
+    let (gpos, gsub) = (bytes_of(rt, alloc, positions), bytes_of(rt, alloc, RULES));
+    let kern = bytes_of(rt, alloc, pairs);
     let mut tables = Vec::new(alloc);
     for table in &given {
         put(rt, &mut tables, table.tag, table.bytes.as_slice());
         if table.tag == CFF {
             put(rt, &mut tables, GPOS, gpos.as_slice());
             put(rt, &mut tables, GSUB, gsub.as_slice());
+        }
+        if table.tag == HMTX && !kern.is_empty() {
+            put(rt, &mut tables, KERN, kern.as_slice());
         }
     }
     file_of(alloc, tables.as_slice()).expect(rt, "a file")
@@ -65,7 +70,7 @@ const ROWS: &[(&[u32], u16, u16, &[u16], &str)] = &[
 #[test]
 fn files_with_layout_tables(rt: HostRuntime) {
     let alloc = rt.alloc();
-    let bytes = file(&rt, alloc);
+    let bytes = file(&rt, alloc, PAIRS, "");
     for (row, (tags, count, grave, made, pairs)) in ROWS.iter().enumerate() {
         let mut limit = 1000u64;
         let asked = choice(&[0x60], false, &[]);
@@ -97,11 +102,59 @@ fn files_with_layout_tables(rt: HostRuntime) {
     }
 }
 
+/// Lookup 0 of `PAIRS`, which the feature `kern` of the script latn names.
+const KERNED: &str = "00010000 000a 001e 002c 0001 6c61746e 0008 0004 0000 0000 ffff 0001 0000 \
+    0001 6b65726e 0008 0000 0001 0000 \
+    0001 0004 0002 0000 0001 0008 0001 000c 0004 0000 0001 0012 0001 0001 0002 0001 0002 ffce";
+
+/// The same with the script grek, which has no features.
+const KERNED_IN_LATIN: &str = "00010000 000a 002e 003c 0002 6772656b 001a 6c61746e 000e \
+    0004 0000 0000 ffff 0001 0000 0004 0000 0000 ffff 0000 0001 6b65726e 0008 0000 0001 0000 \
+    0001 0004 0002 0000 0001 0008 0001 000c 0004 0000 0001 0012 0001 0001 0002 0001 0002 ffce";
+
+/// A `kern` table that moves the pair of glyphs 2 and 2 by -20, and the same for glyphs 1 and 1.
+const OLD_KERN: &str = "0000 0001 0000 0014 0001 0001 0006 0000 0000 0002 0002 ffec";
+
+const NEW_KERN: &str = "0000 0001 0000 0014 0001 0001 0006 0000 0000 0001 0001 ffec";
+
+/// A `GPOS` table, features, the outcome for `kern`, and the new `kern` table.
+const KERN_ROWS: &[(&str, &[u32], Outcome, &str)] = &[
+    (KERNED, &[LIGA, KERN], Outcome::NotChosen, ""),
+    (KERNED_IN_LATIN, &[LIGA, KERN], Outcome::Kept, NEW_KERN),
+    (PAIRS, &[KERN], Outcome::Kept, NEW_KERN),
+    (KERNED_IN_LATIN, &[LIGA], Outcome::NotChosen, ""),
+];
+
+/// If `GPOS` kerns in each language, `kern` is left out.
+#[test]
+fn files_with_kern_tables(rt: HostRuntime) {
+    let alloc = rt.alloc();
+    for (row, (positions, tags, outcome, pairs)) in KERN_ROWS.iter().enumerate() {
+        let bytes = file(&rt, alloc, positions, OLD_KERN);
+        let mut limit = 1000u64;
+        let asked = choice(&[0x60], false, &[]);
+        let features = Features::These(tags);
+        let new = subset_with_layout(
+            alloc,
+            bytes.as_slice(),
+            0,
+            &asked,
+            features,
+            &mut limit,
+        ).expect(&rt, "a file");
+        let face = Face::open(new.file.as_slice(), 0).expect(&rt, "a face");
+        holds_at(&rt, new.kern == *outcome, "kern in row", row);
+        let kern = face.file.table(*b"kern").unwrap_or(&[]);
+        let wanted = bytes_of(&rt, alloc, pairs);
+        holds_at(&rt, kern == wanted.as_slice(), "pairs in row", row);
+    }
+}
+
 /// Glyphs keep their numbers, and the tables are copied. Both lookups count, so grave brings A.
 #[test]
 fn files_with_copied_layout_tables(rt: HostRuntime) {
     let alloc = rt.alloc();
-    let bytes = file(&rt, alloc);
+    let bytes = file(&rt, alloc, PAIRS, "");
     let mut limit = 1000u64;
     let asked = choice(&[0x60], true, &[]);
     let new = subset_with_layout(
@@ -136,7 +189,7 @@ fn error_of(alloc: Global, bytes: &[u8], glyph: usize, limit: &mut u64) -> Optio
 #[test]
 fn files_without_layout_tables(rt: HostRuntime) {
     let alloc = rt.alloc();
-    let bytes = file(&rt, alloc);
+    let bytes = file(&rt, alloc, PAIRS, "");
     let mut limit = 1000u64;
     let error = error_of(alloc, bytes.as_slice(), 65536, &mut limit);
     holds_at(

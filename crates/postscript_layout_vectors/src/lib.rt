@@ -11,6 +11,8 @@ mod files;
 #[cfg(test)]
 mod kern;
 #[cfg(test)]
+mod languages;
+#[cfg(test)]
 mod shaping;
 #[cfg(test)]
 mod writing;

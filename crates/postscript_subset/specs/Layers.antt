@@ -1,6 +1,7 @@
 -- Layout tables under new glyph numbers, and why one is not written.
 use Rattle.std.specs.Prelude.{◌≡◌, ◌⊎◌, ℕ, ◌<◌, ◌++◌, Bool, true, false, List, [], ◌∷◌, length, nat_lt}
 use Rattle.postscript_kern.specs.Kept.{AreKept, Subtable}
+use Rattle.postscript_kern.specs.Languages.{EachLanguageKerns}
 use Rattle.postscript_kern.specs.Pairs.{count_of}
 use Rattle.postscript_kern.specs.Refusals.{Refuses as RefusesKern}
 use Rattle.postscript_kern.specs.Written.{IsTable}
@@ -116,13 +117,23 @@ RefusesPairs faults.TooLong old origins left = RefusesKern kern_errors.TooLong o
 RefusesPairs faults.TooLarge old origins left = RefusesKern kern_errors.TooLarge old origins left
 RefusesPairs faults.ListsTooLong old origins left = ⊥
 
--- The outcome for `kern`, and the new table. It is chosen if kerning is. It is absent if the face has no such table, or no pairs of origins in it.
-abbrev pub IsKern : Outcome → (file : FontFile) → (features : Features) → (origins : List ℕ) → (left : ℕ) → (new : List ℕ) → Type 0
-IsKern Absent file features origins left new =
-    HasNoTable file kern_tag ⊎ (HaveKerning features × OfTable file kern_tag (λ kern. HasNoPairs kern origins))
-IsKern NotChosen file features origins left new = (HaveKerning features → ⊥) × OfTable file kern_tag (λ kern. Unit {0})
-IsKern Kept file features origins left new = HaveKerning features × OfTable file kern_tag (λ kern. KeepsPairs kern origins new)
-IsKern (Lost e) file features origins left new = HaveKerning features × OfTable file kern_tag (λ kern. RefusesPairs e kern origins left)
+-- there is a new `GPOS` table, and it kerns in each language
+abbrev pub IsKerned : (gpos : Outcome) → (positions : List ℕ) → Type 0
+IsKerned Kept positions = EachLanguageKerns positions
+IsKerned _ positions = ⊥
+
+-- The outcome for `kern`, and the new table. It is chosen if kerning is, and the new `GPOS` table does not kern in each language. It is absent if the face
+-- has no such table, or no pairs of origins in it. If the limit is used up, it is lost, also if it is not known whether `GPOS` kerns.
+abbrev pub IsKern : Outcome → (file : FontFile) → (features : Features) → (origins : List ℕ) → (gpos : Outcome) → (positions : List ℕ) → (left : ℕ) →
+    (new : List ℕ) → Type 0
+IsKern Absent file features origins gpos positions left new = HasNoTable file kern_tag
+    ⊎ (HaveKerning features × (IsKerned gpos positions → ⊥) × OfTable file kern_tag (λ kern. HasNoPairs kern origins))
+IsKern NotChosen file features origins gpos positions left new =
+    ((HaveKerning features → ⊥) ⊎ IsKerned gpos positions) × OfTable file kern_tag (λ kern. Unit {0})
+IsKern Kept file features origins gpos positions left new =
+    HaveKerning features × (IsKerned gpos positions → ⊥) × OfTable file kern_tag (λ kern. KeepsPairs kern origins new)
+IsKern (Lost e) file features origins gpos positions left new = HaveKerning features × ((IsKerned gpos positions → ⊥) ⊎ (e ≡ faults.TooLong))
+    × OfTable file kern_tag (λ kern. RefusesPairs e kern origins left)
 
 -- the outcome for a table that is copied
 abbrev pub IsCopiedAs : Outcome → (file : FontFile) → (tag : ℕ) → Type 0

@@ -55,7 +55,7 @@ pub record IsCutBy (by : Choice) (features : Features) (face : Face) (was lookup
   pub classes : IsGdef subset.gdef face.file origins left gdef
   pub substitutions : IsGsub subset.gsub face.file features lookups origins subset.gdef left gsub
   pub positions : IsGpos subset.gpos face.file features origins subset.gdef left gpos
-  pub pairs : IsKern subset.kern face.file features origins left kern
+  pub pairs : IsKern subset.kern face.file features origins subset.gpos gpos left kern
   pub left_out : subset.left_out.items ≡ left_in subset.gsub (have_marks origins subset.gdef) was lookups
 
 abbrev pub NoCutBy : Choice → Face → Error → Type 0
@@ -78,7 +78,7 @@ pub record IsCutFace (choice : Choice) (features : Features) (face : Face) (left
   pub classes : IsGdef subset.gdef face.file origins left gdef
   pub substitutions : IsGsub subset.gsub face.file features is.made.lookups origins subset.gdef left gsub
   pub positions : IsGpos subset.gpos face.file features origins subset.gdef left gpos
-  pub pairs : IsKern subset.kern face.file features origins left kern
+  pub pairs : IsKern subset.kern face.file features origins subset.gpos gpos left kern
   pub stays : TextStaysIn choice face is.made.count is.made.gsub is.made.are.chosen origins
   pub left_out : subset.left_out.items ≡ left_in subset.gsub (have_marks origins subset.gdef) is.made.gsub is.made.lookups
 

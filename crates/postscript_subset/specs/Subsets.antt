@@ -88,7 +88,7 @@ pub record IsCutWithLayout (choice : Choice) (features : Features) (bytes : List
   pub classes : IsGdef subset.gdef cut.old.file origins left gdef
   pub substitutions : IsGsub subset.gsub cut.old.file features is.made.lookups origins subset.gdef left gsub
   pub positions : IsGpos subset.gpos cut.old.file features origins subset.gdef left gpos
-  pub pairs : IsKern subset.kern cut.old.file features origins left kern
+  pub pairs : IsKern subset.kern cut.old.file features origins subset.gpos gpos left kern
   pub there : (i : ℕ) (table : ℕ × List ℕ) → slice_get (all_tables subset.gdef subset.gsub subset.gpos subset.kern gdef gsub gpos kern) i ≡ Some table →
       (new : Face) → IsFaceIn subset.file.items 0 new → HasCopy new.file table.0 table.1
   pub stays : TextStaysIn choice cut.old is.made.count is.made.gsub is.made.are.chosen origins

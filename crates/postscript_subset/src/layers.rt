@@ -1,19 +1,19 @@
 //! Layout tables under new glyph numbers.
-ghost use Rattle.std.specs.Prelude.{◌≡◌, ◌≤◌, ℕ, [], List, IfOk, IfErr};
-ghost use Rattle.postscript_kern.specs.Refusals.{Refuses as RefusesKern};
+ghost use Rattle.std.specs.Prelude.{◌≡◌, ◌↔◌, ◌≤◌, ℕ, [], List, IfOk, IfErr, IsTrue};
+ghost use Rattle.postscript_kern.specs.Refusals.{IsUsedUp, Refuses as RefusesKern};
 ghost use Rattle.postscript_layout.specs.Numbers.{word};
 ghost use Rattle.postscript_files.specs.declared.error.Error.TheVariants as causes;
 ghost use Rattle.postscript_layout_write.specs.Refusals.{Fails, Refuses};
 ghost use Rattle.postscript_layout_write.specs.Substituting.{KeepsRules};
-ghost use Rattle.postscript_subset.specs.Layers.{HasChosen, IsGdef, IsGpos, IsGsub, IsKern, KeepsGlyphs, KeepsPlaces, OfWhole, RefusesGlyphs, RefusesPairs, are_few, have_marks};
-ghost use Rattle.postscript_subset.specs.Layering.{AreLayers, IsLayer};
+ghost use Rattle.postscript_subset.specs.Layers.{HasChosen, IsGdef, IsGpos, IsGsub, IsKern, IsKerned, KeepsGlyphs, KeepsPlaces, OfWhole, RefusesGlyphs, RefusesPairs, are_few, have_marks};
+ghost use Rattle.postscript_subset.specs.Layering.{AreLayers, ArePairs, IsLayer};
 ghost use Rattle.postscript_subset.specs.declared.error.Error.TheVariants as errors;
 ghost use Rattle.postscript_subset.specs.declared.layers.Outcome.TheVariants as outcomes;
 
 use crate::error::{Error, Result};
 use crate::features::Features;
 use postscript_base::index::number::number_at;
-use postscript_kern::{Error as KernFault, kept_kerning};
+use postscript_kern::{Error as KernFault, each_language_kerns, kept_kerning};
 use postscript_layout_write::{
     Error as Fault, flagged_positions, flagged_substitutions, glyph_classes, glyph_definitions,
     positions, substitutions, with_features,
@@ -28,7 +28,8 @@ pub enum Outcome {
     /// table.
     Absent,
     /// The face has a `GPOS` table, but none of `kern`, `mark`, `mkmk` and `curs` is among the features. Or it has a `kern`
-    /// table, but `kern` is not among the features, or glyphs keep their numbers.
+    /// table, but `kern` is not among the features, the new `GPOS` table kerns in each language, or glyphs keep their
+    /// numbers.
     NotChosen,
     /// The new file has the table.
     Kept,
@@ -299,15 +300,45 @@ fn kern_fault(fault: KernFault) -> Result<Fault>
     }
 }
 
-/// Returns the `kern` table with the pairs of the origins, if `kern` is among the features.
+/// Returns whether there is a new `GPOS` table, and it kerns in each language.
+fn is_kerned(gpos: &Layer, limit: &mut u64) -> postscript_kern::Result<bool>
+    ensures exact { IfOk result (λ kerned. IsTrue kerned ↔ IsKerned gpos.now.outcome gpos.now.table.items) }
+    ensures spends { limit.new ≤ limit.old }
+    ensures why { IfErr result (λ e. IsUsedUp limit.new e) }
+{
+    match gpos.outcome {
+        Outcome::Kept => each_language_kerns(gpos.table.as_slice(), limit),
+        _ => Ok(false),
+    }
+}
+
+/// Returns a `kern` table with the pairs of the origins.
+fn pairs_of(alloc: Global, kern: &[u8], origins: &[u16], limit: &mut u64) -> Result<Layer>
+    ensures pairs { IfOk result (λ pairs. ArePairs pairs.outcome kern.now origins.now limit.new pairs.table.items) }
+    ensures spends { limit.new ≤ limit.old }
+    ensures memory { IfErr result (λ e. e ≡ errors.File causes.Memory) }
+{
+    match kept_kerning(alloc, kern, origins, limit) {
+        Ok(Some(table)) => Ok(Layer {
+            outcome: Outcome::Kept,
+            table,
+        }),
+        Ok(None) => Ok(without(alloc, Outcome::Absent)),
+        Err(fault) => Ok(without(alloc, Outcome::Lost(kern_fault(fault)?))),
+    }
+}
+
+/// Returns the `kern` table with the pairs of the origins, if `kern` is among the features and the new `GPOS` table does not
+/// kern in each language.
 fn kern_of(
     alloc: Global,
     file: &FontFile<'_>,
     features: &Features<'_>,
     origins: &[u16],
+    gpos: &Layer,
     limit: &mut u64,
 ) -> Result<Layer>
-    ensures kern { IfOk result (λ kern. IsKern kern.outcome file.now features.now origins.now limit.new kern.table.items) }
+    ensures kern { IfOk result (λ kern. IsKern kern.outcome file.now features.now origins.now gpos.now.outcome gpos.now.table.items limit.new kern.table.items) }
     ensures spends { limit.new ≤ limit.old }
     ensures memory { IfErr result (λ e. e ≡ errors.File causes.Memory) }
 {
@@ -317,13 +348,10 @@ fn kern_of(
     if !features.has_kerning() {
         return Ok(without(alloc, Outcome::NotChosen));
     }
-    match kept_kerning(alloc, kern, origins, limit) {
-        Ok(Some(table)) => Ok(Layer {
-            outcome: Outcome::Kept,
-            table,
-        }),
-        Ok(None) => Ok(without(alloc, Outcome::Absent)),
-        Err(fault) => Ok(without(alloc, Outcome::Lost(kern_fault(fault)?))),
+    match is_kerned(gpos, limit) {
+        Ok(true) => Ok(without(alloc, Outcome::NotChosen)),
+        Ok(false) => pairs_of(alloc, kern, origins, limit),
+        Err(_) => Ok(without(alloc, Outcome::Lost(Fault::TooLong))),
     }
 }
 
@@ -343,7 +371,7 @@ pub(crate) fn layers_of(
     let gdef = gdef_of(alloc, file, origins, limit)?;
     let gsub = gsub_of(alloc, file, features, lookups, origins, gdef.outcome, limit)?;
     let gpos = gpos_of(alloc, file, features, origins, gdef.outcome, limit)?;
-    let kern = kern_of(alloc, file, features, origins, limit)?;
+    let kern = kern_of(alloc, file, features, origins, &gpos, limit)?;
     Ok(Layers {
         gdef,
         gsub,

@@ -243,10 +243,14 @@ fn cut(
 /// - `GSUB`, with the chosen features and lookups, if the face has this table;
 /// - `GPOS`, with the chosen features and all its positions, if the face has this table and `kern`, `mark`, `mkmk` or `curs` is
 ///   among the features;
-/// - `kern`, with the pairs of the new glyphs, if `kern` is among the features and the face has such pairs.
+/// - `kern`, with the pairs of the new glyphs, if `kern` is among the features, the face has such pairs, and the new `GPOS`
+///   table does not kern in each language.
 ///
 /// If `choice.retain_gids` is set, glyphs keep their numbers. All lookups of `GSUB` are then chosen, and `GDEF`, `GSUB` and `GPOS`
 /// are copied as far as the face has them. `kern` is copied only if `choice.copied` has it.
+///
+/// `GPOS` kerns in each language if it has a script `DFLT`, `dflt` or `latn`, and all language systems of all scripts have a
+/// feature `kern`, as `postscript_kern::each_language_kerns` finds out.
 ///
 /// If `choice.given` or `choice.copied` has one of these tables too, the error is `SameTag`.
 ///
