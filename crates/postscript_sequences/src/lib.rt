@@ -25,7 +25,7 @@
 //! - The Default UVS table counts before the Non-Default UVS table.
 //! - Characters have 24 bits.
 //!
-//! No clause says how small the new table is, which limit suffices, or when `TooLarge` comes. Ranges of the new table have
+//! No clause says how small the new table is, or when `TooLarge` comes. Ranges of the new table have
 //! one character each.
 #![tactic(auto)]
 
