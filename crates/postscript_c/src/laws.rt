@@ -31,9 +31,10 @@ pub fn draws_in_place()
     ensures law { DrawsInPlace }
 {}
 
-/// States that the scalars of a location stand for it: `psf_location_outline` draws from them what
-/// `psf_variable_outline` draws at the location, within the same limit.
+/// States that `psf_location_outline` draws from the scalars of a location what `psf_variable_outline` draws there.
+///
+/// This is true for the `CFF2` table of the face, within the same limit.
 pub fn keeps_locations()
-    // What is drawn from the scalars of a location is what is drawn at the location, or fails so.
+    // From the scalars of a location, a glyph has the outline or the error of the location.
     ensures law { KeepsLocations }
 {}
