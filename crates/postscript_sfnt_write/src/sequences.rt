@@ -134,25 +134,28 @@ fn written(
 /// `subtable` is a subtable of format 14. It ends the new table. Its encoding record, of platform 0 and encoding 5, is the
 /// first one that keeps ascending records in order. So it comes before all records of this platform and encoding.
 ///
+/// The old subtables must be closed: they read no bytes past the end (`AreClosed`). The subtables of [`cmap`](crate::cmap) are.
+/// Others may give other glyphs in the new table, since more bytes follow them.
+///
 /// # Errors
 ///
 /// - `Cut`: the records are truncated, or a subtable begins within the records or less than two bytes before the end.
 /// - `TooLarge`: the table has 65,535 records, or the new table would have 2^32 bytes or more.
 /// - `Memory`: out of memory.
 pub fn with_sequences(alloc: Global, cmap: &[u8], subtable: &[u8]) -> Result<Vec<u8>>
-    // The new table has one more record, and the subtable at its end. All other records, and their subtables, are the old ones.
+    // There is one more record, with the subtable at the end. The others are the old ones.
     ensures added { IfOk result (λ new. IsWith cmap.now subtable.now new.items) }
     // If a reader finds a whole subtable in the old table, it finds one in the new table.
     ensures read { IfOk result (λ new. IsReadable cmap.now → IsReadable new.items) }
-    // If the old subtables read nothing past the end, the best subtable maps each character to the same glyph as before.
+    // If the old subtables are closed, the best one maps each character as before.
     ensures told { IfOk result (λ new. (mappings : List Mapping) → AreClosed cmap.now →
         AreTold cmap.now mappings → AreTold new.items mappings) }
-    // If the old table has a subtable of format 4 for the first plane of Unicode on Windows, so has the new one.
+    // If the old table has a subtable of format 4 for Windows, so has the new one.
     ensures format4 { IfOk result (λ new. HasFormat4 cmap.now → HasFormat4 new.items) }
-    // If the old subtables read nothing past the end and the added one has format 14, each one of format 4 maps characters as before.
+    // If they are closed and the added one has format 14, format 4 subtables map as before.
     ensures told_in_4 { IfOk result (λ new. (mappings : List Mapping) → AreClosed cmap.now → the_number subtable.now 0 2 ≡ 14 →
         AreToldIn4 cmap.now mappings → AreToldIn4 new.items mappings) }
-    // If the old subtables read nothing past the end and the added one has format 14, segments and groups that ascend still do.
+    // If they are closed and the added one has format 14, segments and groups still ascend.
     ensures ascend { IfOk result (λ new. AreClosed cmap.now → the_number subtable.now 0 2 ≡ 14 →
         AllAscend cmap.now → AllAscend new.items) }
     // `Cut` and `TooLarge` come only for such tables. Other errors, except `Memory`, never come.
