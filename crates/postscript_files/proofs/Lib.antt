@@ -18,3 +18,4 @@ pub mod Few
 pub mod Subsetting
 pub mod Refusing
 pub mod Readings
+pub mod Varied

@@ -12,3 +12,4 @@ pub mod Others
 pub mod Made
 pub mod Listed
 pub mod Readings
+pub mod Sequences

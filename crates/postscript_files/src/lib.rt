@@ -40,6 +40,7 @@ pub mod laws;
 mod lookup;
 mod metrics;
 mod numbers;
+mod sequences;
 mod subset;
 mod tables;
 

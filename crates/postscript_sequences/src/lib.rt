@@ -14,6 +14,8 @@
 //! - the table of `kept` says of each sequence of these characters what the old one says, under new glyph numbers, and has
 //!   no other sequences (`Keeps` in specs/Keeps.antt). A sequence is dropped if its glyph is not kept, and a record if it
 //!   has no sequences left;
+//! - `is_enough` is true exactly if a limit has the units of all records (`units_of` in specs/Units.antt). With such a limit
+//!   `glyphs_of` and `kept` do not return `TooLong`;
 //! - each call is safe and ends, on all bytes. `glyphs_of` and `kept` keep to a limit, and allocate nothing by the counts
 //!   that a table claims.
 //!
@@ -25,8 +27,12 @@
 //! - The Default UVS table counts before the Non-Default UVS table.
 //! - Characters have 24 bits.
 //!
+<<<<<<< HEAD
 //! No clause says how small the new table is, or when `TooLarge` comes. Ranges of the new table have
 //! one character each.
+=======
+//! No clause says how small the new table is, or when `TooLarge` comes. Ranges of the new table have one character each.
+>>>>>>> 42b7b7a493754f54f69020ce38ec8fd19d10b24b
 #![tactic(auto)]
 
 mod arrays;

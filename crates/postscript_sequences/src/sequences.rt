@@ -125,7 +125,7 @@ impl<'l> Sequences<'l> {
         ensures exact { IfOk result (λ glyphs. (glyph : ℕ) → Contains glyphs.items glyph ↔ IsGlyphOf (table_of self.now) chars.now glyph) }
         // The limit never grows.
         ensures spends { limit.new ≤ limit.old }
-        // `TooLong` comes only if the limit is lower than the units of all records for these characters.
+        // `TooLong` comes only if the limit is lower than `units_of` for these characters.
         ensures lacking { IfErr result (λ e. e ≡ errors.TooLong → limit.old < units_of (table_of self.now) (length chars.now)) }
         // An error is `Memory`, or `TooLong` with nothing left of the limit.
         ensures why { IfErr result (λ e. Fails limit.new e) }
@@ -163,7 +163,7 @@ impl<'l> Sequences<'l> {
         ensures exact { IfOk result (λ new. Keeps (table_of self.now) chars.now glyphs.now new.items) }
         // The limit never grows.
         ensures spends { limit.new ≤ limit.old }
-        // `TooLong` comes only if the limit is lower than the units of all records for these characters.
+        // `TooLong` comes only if the limit is lower than `units_of` for these characters.
         ensures lacking { IfErr result (λ e. e ≡ errors.TooLong → limit.old < units_of (table_of self.now) (length chars.now)) }
         // `TooLong` leaves nothing of the limit.
         ensures why { IfErr result (λ e. KeepFails limit.new e) }

@@ -69,6 +69,14 @@ fn glyphs(rt: HostRuntime) {
     assert_eq!(rt; limit, 0);
 }
 
+/// For two characters the records have 4 and 6 units: one each, two for the characters, one mapping, and a range and two mappings.
+#[test]
+fn enough(rt: HostRuntime) {
+    let sequences = Sequences::find(CMAP).expect(&rt, "found");
+    assert_eq!(rt; sequences.is_enough(10, &[0x4e00, 0x4e02]), true);
+    assert_eq!(rt; sequences.is_enough(9, &[0x4e00, 0x4e02]), false);
+}
+
 #[test]
 fn kept_sequences(rt: HostRuntime) {
     let sequences = Sequences::find(CMAP).expect(&rt, "found");
