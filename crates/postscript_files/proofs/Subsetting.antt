@@ -15,7 +15,7 @@ use Rattle.postscript_sfnt.specs.declared.character_map.CharacterMap.{CharacterM
 use Rattle.postscript_sfnt.specs.declared.character_map.CharacterMap.TheVariants.{Segments, Groups, Trimmed}
 use Rattle.postscript_sfnt.specs.declared.file.FontFile.{FontFile}
 use Rattle.postscript_sfnt_write.specs.Files.{Opens}
-use Rattle.postscript_sfnt_write.specs.Mappings.{IsGlyphIn}
+use Rattle.postscript_sfnt_write.specs.Mappings.{IsGlyphIn, in_segments}
 use Rattle.postscript_sfnt_write.specs.Metrics.{KeepsBut}
 use Rattle.postscript_sfnt_write.specs.declared.file.Table.{Table}
 use Rattle.postscript_sfnt_write.specs.declared.mapping.Mapping.{Mapping}
@@ -30,6 +30,7 @@ use Rattle.postscript_files.specs.Made.{AreBytes, HasNoOrigins, IsCutFile, IsHmt
 use Rattle.postscript_write.specs.Costs.{KeepsWithin}
 use Rattle.postscript_files.specs.Origins.{AreFew, AreOrigins, AreOriginsOf, IsCutRefusedBy, IsKeptGlyph, IsOrigin, NoOriginsOf}
 use Rattle.postscript_files.specs.Subsets.{AreCounted, AreInOrder, AreTablesOf, HasSame, IsSame, IsSubsetFace, IsSubsetFile, IsSubsetFont, IsSubsetOf, KeepsNumber, NoSubsetBy, NoSubsetFrom, NoSubsetOf}
+use Rattle.postscript_files.specs.Sequences.{source_of}
 use Rattle.postscript_files.specs.declared.choice.Choice.{Choice}
 use Rattle.postscript_files.specs.declared.error.Error.{Error}
 use Rattle.postscript_files.specs.declared.error.Error.TheVariants.{Cut, File, Font, Memory, MissingCharacter, MissingTable, NoAdvances, NoMap, Overlap, SameTag, TooLarge}
@@ -52,7 +53,7 @@ pub record Known (choice : Choice) (old new : Face) : Type 0 where
   pub kept : AreKeptPairs choice old.map pairs
   pub font : IsSubsetFont choice.retain_gids (named_of (glyphs_of choice) pairs) old.cff.now new.cff.now
   pub are : AreOrigins choice.retain_gids (named_of (glyphs_of choice) pairs) old.cff.now origins
-  pub cmap : IsMapOf pairs origins new.cmap.now
+  pub cmap : IsMapOf (source_of choice.retain_gids old.cmap.now) pairs origins new.cmap.now
   pub hhea : IsWord new.hhea.now 34 (length origins)
   pub hmtx : IsHmtxOf old origins new.hmtx.now
   pub maxp : IsGlyphs new.maxp.now (length origins)
@@ -95,8 +96,8 @@ glyphs-there choice old new w glyph chosen =
 
 -- what the new map says of a character
 char-in : (choice : Choice) (old new : Face) (w : Known choice old new) (char i : ℕ) → Maps new.map char i →
-    IsGlyphIn w.cmap.mappings char i
-char-in choice old new w char i maps = w.cmap.told w.map.0 new.map w.map.1 w.map.2 char i maps
+    IsGlyphIn w.cmap.is.mappings char i
+char-in choice old new w char i maps = w.cmap.like.told w.cmap.is.mappings w.cmap.is.told w.map.0 new.map w.map.1 w.map.2 char i maps
 
 char-kept : (choice : Choice) (old new : Face) (w : Known choice old new) (char glyph : ℕ) → IsKept choice old.map char glyph →
     (i : ℕ) × (0 < i) × Maps new.map char i × HasSame choice old new glyph i
@@ -104,14 +105,14 @@ char-kept choice old new w char glyph kept =
     let at = w.kept.all char glyph kept in
     let some = some-glyph new.map char in
     let told = char-in choice old new w char some.0 some.1 in
-    let here = mapping-there w.pairs w.cmap.mappings w.cmap.numbers w.cmap.are at.0 at.1 at.2 in
-    let is : some.0 ≡ get_or w.cmap.numbers at.1.glyph 0 = told.given at.0 _ here at.3 in
+    let here = mapping-there w.pairs w.cmap.is.mappings w.cmap.is.numbers w.cmap.is.are at.0 at.1 at.2 in
+    let is : some.0 ≡ get_or w.cmap.is.numbers at.1.glyph 0 = told.given at.0 _ here at.3 in
     let asked : Contains (named_of (glyphs_of choice) w.pairs) glyph =
     subst (λ g. Contains (named_of (glyphs_of choice) w.pairs) g) at.4 (glyph-named (glyphs_of choice) w.pairs at.0 at.1 at.2) in
-    let number : some.0 ≡ get_or w.cmap.numbers glyph 0 = is ∙ ap (λ g. get_or w.cmap.numbers g 0) at.4 in
+    let number : some.0 ≡ get_or w.cmap.is.numbers glyph 0 = is ∙ ap (λ g. get_or w.cmap.is.numbers g 0) at.4 in
     let origin : IsOrigin w.origins some.0 glyph =
     subst (λ n. IsOrigin w.origins n glyph) (sym number)
-    (numbered w.origins w.cmap.numbers glyph w.cmap.numbered (origin-there choice old new w glyph asked)) in (
+    (numbered w.origins w.cmap.is.numbers glyph w.cmap.is.numbered (origin-there choice old new w glyph asked)) in (
       some.0,
       above-zero choice.retain_gids (named_of (glyphs_of choice) w.pairs) old.cff.now w.origins some.0 glyph w.are origin kept.has.some,
       some.1,
@@ -122,19 +123,19 @@ char-only : (choice : Choice) (old new : Face) (w : Known choice old new) (char 
     (glyph : ℕ) × IsKept choice old.map char glyph
 char-only choice old new w char i some maps =
     let told = char-in choice old new w char i maps in
-    elim (find-char w.cmap.mappings char) [
+    elim (find-char w.cmap.is.mappings char) [
       | inl h ↦
-          let from = mapping-from w.pairs w.cmap.mappings w.cmap.numbers w.cmap.are h.0 h.1 h.2 in
+          let from = mapping-from w.pairs w.cmap.is.mappings w.cmap.is.numbers w.cmap.is.are h.0 h.1 h.2 in
           (from.0.glyph, subst (λ c. IsKept choice old.map c from.0.glyph) (from.2 ∙ h.3) (w.kept.each h.0 from.0 from.1))
       | inr none ↦ absurd (let e = told.lost none in omega (arith, e, some))
     ]
 
 -- the mappings of the table are those of its best map
-are-mappings : (choice : Choice) (old new : Face) (w : Known choice old new) → AreMappingsOf new.map w.cmap.mappings
+are-mappings : (choice : Choice) (old new : Face) (w : Known choice old new) → AreMappingsOf new.map w.cmap.is.mappings
 are-mappings choice old new w = record {
-  rise = renumbered-rise w.pairs w.cmap.mappings w.cmap.numbers w.cmap.are w.kept.rise;
+  rise = renumbered-rise w.pairs w.cmap.is.mappings w.cmap.is.numbers w.cmap.is.are w.kept.rise;
   each = λ k m here.
-      let from = mapping-from w.pairs w.cmap.mappings w.cmap.numbers w.cmap.are k m here in
+      let from = mapping-from w.pairs w.cmap.is.mappings w.cmap.is.numbers w.cmap.is.are k m here in
       let kept : IsKept choice old.map m.char from.0.glyph =
       subst (λ c. IsKept choice old.map c from.0.glyph) from.2 (w.kept.each k from.0 from.1) in
       let new-one = char-kept choice old new w m.char from.0.glyph kept in
@@ -146,7 +147,7 @@ are-mappings choice old new w = record {
       };
   all = λ char glyph has.
       let told = char-in choice old new w char glyph has.maps in
-      elim (find-char w.cmap.mappings char) [
+      elim (find-char w.cmap.is.mappings char) [
         | inl h ↦ (h.0, h.1, h.2, h.3, sym (told.given h.0 h.1 h.2 h.3))
         | inr none ↦ absurd (let e = told.lost none in let some = has.some in omega (arith, e, some))
       ];
@@ -182,13 +183,13 @@ char-number : (choice : Choice) (old new : Face) (w : Known choice old new) (cha
 char-number choice old new w char glyph i kept maps =
     let at = w.kept.all char glyph kept in
     let told = char-in choice old new w char i maps in
-    let here = mapping-there w.pairs w.cmap.mappings w.cmap.numbers w.cmap.are at.0 at.1 at.2 in
-    let is : i ≡ get_or w.cmap.numbers at.1.glyph 0 = told.given at.0 _ here at.3 in
+    let here = mapping-there w.pairs w.cmap.is.mappings w.cmap.is.numbers w.cmap.is.are at.0 at.1 at.2 in
+    let is : i ≡ get_or w.cmap.is.numbers at.1.glyph 0 = told.given at.0 _ here at.3 in
     let asked : Contains (named_of (glyphs_of choice) w.pairs) glyph =
     subst (λ g. Contains (named_of (glyphs_of choice) w.pairs) g) at.4 (glyph-named (glyphs_of choice) w.pairs at.0 at.1 at.2) in
-    let number : i ≡ get_or w.cmap.numbers glyph 0 = is ∙ ap (λ g. get_or w.cmap.numbers g 0) at.4 in
+    let number : i ≡ get_or w.cmap.is.numbers glyph 0 = is ∙ ap (λ g. get_or w.cmap.is.numbers g 0) at.4 in
     subst (λ n. IsOrigin w.origins n glyph) (sym number)
-    (numbered w.origins w.cmap.numbers glyph w.cmap.numbered (origin-there choice old new w glyph asked))
+    (numbered w.origins w.cmap.is.numbers glyph w.cmap.is.numbered (origin-there choice old new w glyph asked))
 
 in-order : (choice : Choice) (old new : Face) (w : Known choice old new) (origins : List ℕ) → AreOriginsOf choice old origins →
     AreInOrder choice old new origins
@@ -203,7 +204,7 @@ in-order choice old new w origins h =
 -- a new face whose tables these are
 pub known : (choice : Choice) (old new : Face) (pairs : List Mapping) (origins font : List ℕ) (made : Made) →
     AreKeptPairs choice old.map pairs → IsSubsetFont choice.retain_gids (named_of (glyphs_of choice) pairs) old.cff.now font →
-    AreOrigins choice.retain_gids (named_of (glyphs_of choice) pairs) old.cff.now origins → IsMade old pairs origins made →
+    AreOrigins choice.retain_gids (named_of (glyphs_of choice) pairs) old.cff.now origins → IsMade choice.retain_gids old pairs origins made →
     HasParts choice old.file font made new.file → (file : List ℕ) → IsFaceIn file 0 new → Known choice old new
 known choice old new pairs origins font made kept is are m has file read = record {
   pairs = pairs;
@@ -212,7 +213,7 @@ known choice old new pairs origins font made kept is are m has file read = recor
   font = subst (λ (xs : List ℕ). IsSubsetFont choice.retain_gids (named_of (glyphs_of choice) pairs) old.cff.now xs)
       (one-table new.file cff_tag font new.cff.now has.cff read.cff) is;
   are = are;
-  cmap = subst (λ (xs : List ℕ). IsMapOf pairs origins xs) (one-table new.file cmap_tag made.cmap.items new.cmap.now has.cmap read.cmap) m.cmap;
+  cmap = subst (λ (xs : List ℕ). IsMapOf (source_of choice.retain_gids old.cmap.now) pairs origins xs) (one-table new.file cmap_tag made.cmap.items new.cmap.now has.cmap read.cmap) m.cmap;
   hhea = subst (λ (xs : List ℕ). IsWord xs 34 (length origins))
       (one-table new.file hhea_tag made.hhea.items new.hhea.now has.hhea read.hhea) m.hhea;
   hmtx = subst (λ (xs : List ℕ). IsHmtxOf old origins xs) (one-table new.file hmtx_tag made.hmtx.items new.hmtx.now has.hmtx read.hmtx) m.hmtx;
@@ -224,7 +225,7 @@ known choice old new pairs origins font made kept is are m has file read = recor
 
 pub subset-face : (choice : Choice) (old new : Face) (pairs : List Mapping) (origins font : List ℕ) (made : Made) →
     AreKeptPairs choice old.map pairs → IsSubsetFont choice.retain_gids (named_of (glyphs_of choice) pairs) old.cff.now font →
-    AreOrigins choice.retain_gids (named_of (glyphs_of choice) pairs) old.cff.now origins → IsMade old pairs origins made →
+    AreOrigins choice.retain_gids (named_of (glyphs_of choice) pairs) old.cff.now origins → IsMade choice.retain_gids old pairs origins made →
     HasParts choice old.file font made new.file → (file : List ℕ) → IsFaceIn file 0 new → IsSubsetFace choice old new
 unfolding known
 subset-face choice old new pairs origins font made kept is are m has file read =
@@ -241,14 +242,23 @@ subset-face choice old new pairs origins font made kept is are m has file read =
       ordered = λ all h. in-order choice old new w all h;
       counted = (length origins, counted-so choice old new w);
       cmap = record {
-        headers = w.cmap.headers;
-        format4 = w.cmap.format4;
-        mappings = w.cmap.mappings;
+        plain = w.cmap.plain;
+        added = w.cmap.like.added;
+        headers = w.cmap.is.headers;
+        format4 = w.cmap.like.format4 w.cmap.is.format4;
+        mappings = w.cmap.is.mappings;
         are = are-mappings choice old new w;
-        told_in_4 = w.cmap.told_in_4;
-        only = w.cmap.only;
-        records = w.cmap.records;
-        ascend = w.cmap.ascend;
+        told_in_4 = w.cmap.like.told_in_4 (in_segments w.cmap.is.mappings) w.cmap.is.told_in_4;
+        only = w.cmap.is.only;
+        records = w.cmap.is.records;
+        ascend = w.cmap.like.ascend w.cmap.is.ascend;
+      };
+      sequences = record {
+        origins = origins;
+        are = (pairs, kept, are);
+        pairs = pairs;
+        kept = kept;
+        sequences = w.cmap.sequences;
       };
       hhea = subst (λ (xs : List ℕ). KeepsBut 34 old.hhea.now xs)
           (one-table new.file hhea_tag made.hhea.items new.hhea.now has.hhea read.hhea) m.hhea_kept;
@@ -326,11 +336,11 @@ some-origin retain named cff flat origins is are =
 
 -- the file is opened
 opened : (choice : Choice) (old : Face) (pairs : List Mapping) (origins font : List ℕ) (made : Made) (file : List ℕ) → 0 < length origins →
-    IsMade old pairs origins made → IsFileOfParts choice old.file font made file → (new : Face) × IsFaceIn file 0 new
+    IsMade choice.retain_gids old pairs origins made → IsFileOfParts choice old.file font made file → (new : Face) × IsFaceIn file 0 new
 opened choice old pairs origins font made file some m it =
     let face = a-face file it.opens.0 it.opens.1 in
     let has = it.is face.0 face.1 in
-    let readable = m.cmap.readable in
+    let readable = m.cmap.like.read m.cmap.is.readable in
     let map = some-map made.cmap.items (place_at made.cmap.items readable.i)
     (bytes-after made.cmap.items (place_at made.cmap.items readable.i) m.cmap_bytes) readable.whole in
     let many : length m.hmtx.metrics ≡ length origins = many-metrics old origins made.hmtx.items m.hmtx in
@@ -370,7 +380,7 @@ pub if-subset : (r : Result (Vec ℕ Global) Error) (choice : Choice) (old : Fac
     (made : Made) → AreKeptPairs choice old.map pairs → named ≡ named_of (glyphs_of choice) pairs →
     IsSubsetFont choice.retain_gids named old.cff.now font → KeepsWithin choice.limit named old.cff.now →
     AreOrigins choice.retain_gids named old.cff.now origins →
-    IsMade old pairs origins made → IfOk r (λ file. IsFileOfParts choice old.file font made file.items) →
+    IsMade choice.retain_gids old pairs origins made → IfOk r (λ file. IsFileOfParts choice old.file font made file.items) →
     IfOk r (λ file. IsCutFile choice old file.items)
 if-subset (Ok file) choice old pairs named origins font made kept same is within are m it =
     let font-is : IsSubsetFont choice.retain_gids (named_of (glyphs_of choice) pairs) old.cff.now font =
@@ -495,7 +505,7 @@ no-made-so e choice old h = unmade-so e choice old h
 -- the tables of a subset that was made
 tables-of : (choice : Choice) (old : Face) (pairs : List Mapping) (origins font : List ℕ) (made : Made) (tables : List Table) →
     AreKeptPairs choice old.map pairs → IsSubsetFont choice.retain_gids (named_of (glyphs_of choice) pairs) old.cff.now font →
-    AreFew origins → IsMade old pairs origins made → AreParts choice old.file font made tables →
+    AreFew origins → IsMade choice.retain_gids old pairs origins made → AreParts choice old.file font made tables →
     ((tag : ℕ) → tagged tables tag ≤ 1) → AreTablesOf choice old tables
 tables-of choice old pairs origins font made tables kept is few m parts once = record {
   named = named_of (glyphs_of choice) pairs;
@@ -504,7 +514,11 @@ tables-of choice old pairs origins font made tables kept is few m parts once = r
   cmap = (
     made.cmap.items,
     parts.cmap,
-    let size = m.cmap_size in let most = few-pairs choice old.map pairs kept in omega (arith, size, most),
+    (
+      m.cmap.plain,
+      let size = m.cmap.is.size in let most = few-pairs choice old.map pairs kept in omega (arith, size, most),
+      m.cmap.like.added,
+    ),
   );
   hhea = (made.hhea.items, parts.hhea, m.hhea_kept.size);
   hmtx = (
@@ -523,7 +537,7 @@ tables-of choice old pairs origins font made tables kept is few m parts once = r
 
 unwritten-so : (e : Error) (choice : Choice) (old : Face) (pairs : List Mapping) (origins font : List ℕ) (made : Made) →
     AreKeptPairs choice old.map pairs → IsSubsetFont choice.retain_gids (named_of (glyphs_of choice) pairs) old.cff.now font →
-    AreFew origins → IsMade old pairs origins made → NoFileOfParts choice old.file font made e → NoSubsetFrom choice old e
+    AreFew origins → IsMade choice.retain_gids old pairs origins made → NoFileOfParts choice old.file font made e → NoSubsetFrom choice old e
 unwritten-so Memory choice old pairs origins font made kept is few m h = tt
 unwritten-so TooLarge choice old pairs origins font made kept is few m h =
     (h.0, tables-of choice old pairs origins font made h.0 kept is few m h.1 h.2, h.3)
@@ -539,7 +553,7 @@ unwritten-so (MissingCharacter char) choice old pairs origins font made kept is 
 
 pub no-written-so : (r : Result (Vec ℕ Global) Error) (choice : Choice) (old : Face) (pairs : List Mapping) (named origins font : List ℕ)
     (made : Made) → AreKeptPairs choice old.map pairs → named ≡ named_of (glyphs_of choice) pairs →
-    IsSubsetFont choice.retain_gids named old.cff.now font → AreFew origins → IsMade old pairs origins made →
+    IsSubsetFont choice.retain_gids named old.cff.now font → AreFew origins → IsMade choice.retain_gids old pairs origins made →
     IfErr r (λ e. NoFileOfParts choice old.file font made e) → IfErr r (λ e. NoSubsetFrom choice old e)
 no-written-so (Ok file) choice old pairs named origins font made kept same is few m h = tt
 no-written-so (Err e) choice old pairs named origins font made kept same is few m h =

@@ -1,23 +1,28 @@
 -- The variation sequences of `cmap` tables.
-use Rattle.std.proofs.Common.{◌≡◌, refl, sym, ap, subst, ◌∙◌, inl, inr, ℕ, zero, suc, ◌+◌, ◌-◌, ◌*◌, ◌/◌, ◌<◌, ◌≤◌, Bool, true, false, List, [], ◌∷◌, ◌++◌, length, get_or, drop, min, length-append, length-drop, arith}
-use Rattle.std.specs.Prelude.{◌⊎◌, ◌↔◌, Option, None, Some, map, nat_lt, if◌then◌else◌}
+use Rattle.std.proofs.Common.{◌≡◌, sym, ap, subst, ◌∙◌, inl, inr, ℕ, zero, suc, ◌+◌, ◌*◌, ◌<◌, ◌≤◌, List, [], length, get_or, drop, arith}
+use Rattle.std.specs.Prelude.{◌↔◌, IfOk, Result, Ok, Err, Vec, if◌then◌else◌}
 use Rattle.std.specs.List.{Contains}
 use Rattle.std.proofs.lemmas.Bool.{cases_lt, le-ltb, lt-ltb}
 use Rattle.std.proofs.lemmas.List.{get_or-map, length-map}
 use Rattle.std.proofs.lemmas.Option.{slice_get-get_or}
 use Rattle.postscript_base.specs.Index.{number_at}
-use Rattle.postscript_sequences.specs.Keeps.{IsMappedTo, Keeps}
-use Rattle.postscript_sequences.specs.Numbers.{new_number}
+use Rattle.postscript_sequences.specs.Keeps.{Keeps}
 use Rattle.postscript_sequences.specs.Sequences.{AreAscending, IsDefault, IsGlyphOf, IsMapped, IsSubtable, offset_at}
 use Rattle.postscript_sequences.specs.Tables.{number, records_of}
 use Rattle.postscript_sequences.specs.Units.{units_of}
 use Rattle.postscript_sfnt.specs.Choice.{encoding_at, place_at, platform_at}
 use Rattle.postscript_sfnt.specs.Choice.{records_of as encodings_of}
-use Rattle.postscript_sfnt_write.specs.Mappings.{AreTold, AreToldIn4, CharsRise, HasFormat4, IsMapping, IsReadable}
+use Rattle.postscript_sfnt_write.specs.Mappings.{AreTold, AreToldIn4, CharsRise, HasFormat4, IsReadable}
 use Rattle.postscript_sfnt_write.specs.Records.{AllAscend, HasFourRecords, HasRecords, HasTwoRecords}
 use Rattle.postscript_sfnt_write.specs.Sequences.{AreClosed, IsWith}
 use Rattle.postscript_sfnt_write.specs.declared.mapping.Mapping.{Mapping}
 use Rattle.postscript_files.specs.Sequences.{HasDefault, HasKept, HasMapped, HasNoSequences, IsAdded, IsKept, IsMapLike, IsSequenceGlyph, IsSequencesOf, IsTooLong, KeepsSequences, char_of, chars_of, most_units}
+use Rattle.std.specs.declared.alloc.Global.{Global}
+use Rattle.postscript_files.specs.Choices.{AreKeptPairs}
+use Rattle.postscript_files.specs.Subsets.{AreSequenceGlyphs}
+use Rattle.postscript_files.specs.declared.choice.Choice.{Choice}
+use Rattle.postscript_files.specs.declared.error.Error.{Error}
+use Rattle.postscript_files.specs.declared.face.Face.{Face}
 
 abbrev none : Mapping
 none = record { char = 0; glyph = 0 }
@@ -318,3 +323,15 @@ like_with plain given subtable cmap same closed format w read told format4 told_
       format4 = format4;
       ascend = λ is. ascend well format is;
     })
+
+-- the glyphs of the sequences of kept characters
+pub listed-if : (r : Result (Vec ℕ Global) Error) (choice : Choice) (face : Face) (pairs given : List Mapping) → given ≡ pairs →
+    AreKeptPairs choice face.map pairs →
+    IfOk r (λ glyphs. (glyph : ℕ) → Contains glyphs.items glyph ↔ IsSequenceGlyph face.cmap.now (chars_of given) glyph) →
+    IfOk r (λ glyphs. AreSequenceGlyphs choice face glyphs.items)
+listed-if (Ok glyphs) choice face pairs given same kept exact = (
+  pairs,
+  kept,
+  subst (λ (ps : List Mapping). (glyph : ℕ) → Contains glyphs.items glyph ↔ IsSequenceGlyph face.cmap.now (chars_of ps) glyph) same exact,
+)
+listed-if (Err e) choice face pairs given same kept exact = tt

@@ -9,6 +9,7 @@ use Rattle.postscript_sfnt_write.specs.Headers.{HaveHeaders}
 use Rattle.postscript_sfnt_write.specs.Mappings.{AreTold, AreToldIn4, FitFormat4, HasFormat4, HasOnlyFormat4, IsReadable, in_segments}
 use Rattle.postscript_sfnt_write.specs.Metrics.{CanBeRead, KeepsBut, TellsAdvances, TellsBearings}
 use Rattle.postscript_sfnt_write.specs.Records.{AllAscend, HasRecords}
+use Rattle.postscript_sfnt_write.specs.Sequences.{AreClosed}
 use Rattle.postscript_sfnt_write.specs.declared.mapping.Mapping.{Mapping}
 use Rattle.postscript_sfnt_write.specs.declared.metrics.Metric.{Metric}
 use Rattle.postscript_view.specs.declared.font.FontView.{FontView}
@@ -21,6 +22,7 @@ use Rattle.postscript_files.specs.Faces.{IsFaceIn, post_tag}
 use Rattle.postscript_files.specs.Measures.{metric_in}
 use Rattle.postscript_files.specs.Origins.{IsCutRefusedBy, IsOrigin, KeepsToLimit}
 use Rattle.postscript_files.specs.Renumbered.{AreNumbersOf, AreRenumbered, AreSmall}
+use Rattle.postscript_files.specs.Sequences.{IsMapLike, KeepsSequences, chars_of, source_of}
 use Rattle.postscript_files.specs.Subsets.{IsSubsetFace}
 use Rattle.postscript_files.specs.declared.choice.Choice.{Choice}
 use Rattle.postscript_files.specs.declared.error.Error.{Error}
@@ -38,8 +40,8 @@ KeptAreTheSame = (named cff flat kept : List ℕ) → AreKept named cff kept →
 abbrev pub AreBytes : List ℕ → Type 0
 AreBytes bytes = (i : ℕ) → slice_index_or bytes i 0 < 256
 
--- a `cmap` table of characters, with the new numbers of their glyphs
-pub record IsMapOf (pairs : List Mapping) (origins cmap : List ℕ) : Type 0 where
+-- a `cmap` table of characters, with the new numbers of their glyphs, and without variation sequences
+pub record IsPlainMap (pairs : List Mapping) (origins cmap : List ℕ) : Type 0 where
   pub mappings : List Mapping
   pub numbers : List ℕ
   pub numbered : AreNumbersOf origins numbers
@@ -52,6 +54,15 @@ pub record IsMapOf (pairs : List Mapping) (origins cmap : List ℕ) : Type 0 whe
   pub only : FitFormat4 mappings → HasOnlyFormat4 cmap
   pub records : HasRecords cmap
   pub ascend : AllAscend cmap
+  pub closed : AreClosed cmap
+  pub size : length cmap ≤ 64076 + length pairs * 12
+
+-- the same with the variation sequences of these characters in the old table
+pub record IsMapOf (old : List ℕ) (pairs : List Mapping) (origins cmap : List ℕ) : Type 0 where
+  pub plain : List ℕ
+  pub is : IsPlainMap pairs origins plain
+  pub like : IsMapLike plain cmap
+  pub sequences : KeepsSequences old (chars_of pairs) origins cmap
 
 -- a `post` table without names, with the other values of the old one, or zeros
 pub record IsPostOf (file : FontFile) (post : List ℕ) : Type 0 where
@@ -69,11 +80,10 @@ pub record IsHmtxOf (face : Face) (origins hmtx : List ℕ) : Type 0 where
   pub bearings : TellsBearings hmtx metrics
 
 -- the tables that are made for characters and for the origins of the new glyphs
-pub record IsMade (face : Face) (pairs : List Mapping) (origins : List ℕ) (made : Made) : Type 0 where
+pub record IsMade (retain : Bool) (face : Face) (pairs : List Mapping) (origins : List ℕ) (made : Made) : Type 0 where
   pub small : AreSmall origins
-  pub cmap : IsMapOf pairs origins made.cmap.items
+  pub cmap : IsMapOf (source_of retain face.cmap.now) pairs origins made.cmap.items
   pub cmap_bytes : AreBytes made.cmap.items
-  pub cmap_size : length made.cmap.items ≤ 64076 + length pairs * 12
   pub hhea : IsWord made.hhea.items 34 (length origins)
   pub hhea_kept : KeepsBut 34 face.hhea.now made.hhea.items
   pub hmtx : IsHmtxOf face origins made.hmtx.items

@@ -1,5 +1,5 @@
 -- The variation sequences of a subset (ISO/IEC 14496-22, 5.2.1, "Format 14").
-use Rattle.std.specs.Prelude.{◌≡◌, ◌↔◌, ◌⊎◌, ℕ, ◌<◌, ◌≤◌, List, [], Some, length, drop, map}
+use Rattle.std.specs.Prelude.{◌≡◌, ◌↔◌, ◌⊎◌, ℕ, ◌<◌, ◌≤◌, Bool, true, false, List, [], Some, length, drop, map}
 use Rattle.std.specs.List.{Contains}
 use Rattle.postscript_base.specs.Index.{number_at}
 use Rattle.postscript_sequences.specs.Keeps.{Keeps}
@@ -80,6 +80,11 @@ pub record IsMapLike (plain cmap : List ℕ) : Type 0 where
   pub told_in_4 : (mappings : List Mapping) → AreToldIn4 plain mappings → AreToldIn4 cmap mappings
   pub format4 : HasFormat4 plain → HasFormat4 cmap
   pub ascend : AllAscend plain → AllAscend cmap
+
+-- the table whose sequences a subset keeps: none if glyphs keep their numbers
+abbrev pub source_of : (retain : Bool) → (cmap : List ℕ) → List ℕ
+source_of true cmap = []
+source_of false cmap = cmap
 
 -- the characters of mappings
 abbrev pub char_of : Mapping → ℕ

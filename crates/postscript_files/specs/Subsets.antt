@@ -1,5 +1,5 @@
 -- A file with only some glyphs of a face (ISO/IEC 14496-22, 4.5 and 5.2).
-use Rattle.std.specs.Prelude.{◌≡◌, ◌⊎◌, ℕ, ℤ, ◌+◌, ◌*◌, ◌^◌, ◌<◌, ◌≤◌, ◌==◌, List, [], ◌∷◌, Bool, true, false, Some, length, map, take, drop, replicate, slice_get, if◌then◌else◌}
+use Rattle.std.specs.Prelude.{◌≡◌, ◌⊎◌, ◌↔◌, ℕ, ℤ, ◌+◌, ◌*◌, ◌^◌, ◌<◌, ◌≤◌, ◌==◌, List, [], ◌∷◌, Bool, true, false, Some, length, map, take, drop, replicate, slice_get, if◌then◌else◌}
 use Rattle.std.specs.List.{Contains}
 use Rattle.postscript_base.specs.Index.{number_at}
 use Rattle.postscript_sfnt.specs.Lent.{HasNoTable, IsTableOf, advance_in, tables_of, tag_of}
@@ -28,6 +28,7 @@ use Rattle.postscript_files.specs.Copies.{AreTooLarge, HasCopy, IsListed, tagged
 use Rattle.postscript_files.specs.Faces.{IsFaceIn, IsNeeded, NoFaceIn, cff_tag, cmap_tag, hhea_tag, hmtx_tag, maxp_tag, post_tag}
 use Rattle.postscript_files.specs.Measures.{bearing_in}
 use Rattle.postscript_files.specs.Origins.{AreOriginsOf, IsCutRefusedBy, IsKeptGlyph, IsOrigin, KeepsToLimit}
+use Rattle.postscript_files.specs.Sequences.{IsSequenceGlyph, KeepsSequences, MayHaveAdded, chars_of, source_of}
 use Rattle.postscript_files.specs.Sound.{IsSoundFont}
 use Rattle.postscript_files.specs.declared.choice.Choice.{Choice}
 use Rattle.postscript_files.specs.declared.choice.Given.{Given}
@@ -113,16 +114,32 @@ IsExpected choice old tag = IsNeeded tag ⊎ ((tag ≡ post_tag) ⊎ (IsCopied o
 -- In `cmap` each subtable has its length, the language 0 and, in format 4, its search fields. One of them has format 4, for the first plane of
 -- Unicode on Windows. Those of format 4 map the characters of the best map below U+FFFF, to the same glyphs, or none if these characters
 -- form more than 8,000 segments. Each has format 4 if this has room for all characters of the best map. The encoding records are in order,
--- and so are the segments and groups.
+-- and so are the segments and groups. A subtable of variation sequences may be added to such a table.
 pub record IsCmap (new : Face) : Type 0 where
-  pub headers : HaveHeaders new.cmap.now
+  pub plain : List ℕ
+  pub added : MayHaveAdded plain new.cmap.now
+  pub headers : HaveHeaders plain
   pub format4 : HasFormat4 new.cmap.now
   pub mappings : List Mapping
   pub are : AreMappingsOf new.map mappings
   pub told_in_4 : AreToldIn4 new.cmap.now (in_segments mappings)
-  pub only : FitFormat4 mappings → HasOnlyFormat4 new.cmap.now
-  pub records : HasRecords new.cmap.now
+  pub only : FitFormat4 mappings → HasOnlyFormat4 plain
+  pub records : HasRecords plain
   pub ascend : AllAscend new.cmap.now
+
+-- The `cmap` table has the variation sequences of the kept characters, under new numbers, as far as their glyphs are kept. It has none if glyphs
+-- keep their numbers.
+pub record HasSequences (choice : Choice) (old new : Face) : Type 0 where
+  pub origins : List ℕ
+  pub are : AreOriginsOf choice old origins
+  pub pairs : List Mapping
+  pub kept : AreKeptPairs choice old.map pairs
+  pub sequences : KeepsSequences (source_of choice.retain_gids old.cmap.now) (chars_of pairs) origins new.cmap.now
+
+-- the glyphs of the variation sequences of kept characters
+abbrev pub AreSequenceGlyphs : Choice → Face → (glyphs : List ℕ) → Type 0
+AreSequenceGlyphs choice face glyphs = (pairs : List Mapping) × AreKeptPairs choice face.map pairs
+    × ((glyph : ℕ) → Contains glyphs glyph ↔ IsSequenceGlyph face.cmap.now (chars_of pairs) glyph)
 
 -- a face is a subset of another one
 pub record IsSubsetFace (choice : Choice) (old new : Face) : Type 0 where
@@ -134,6 +151,7 @@ pub record IsSubsetFace (choice : Choice) (old new : Face) : Type 0 where
   pub ordered : (origins : List ℕ) → AreOriginsOf choice old origins → AreInOrder choice old new origins
   pub counted : (count : ℕ) × AreCounted new count
   pub cmap : IsCmap new
+  pub sequences : HasSequences choice old new
   pub hhea : KeepsBut 34 old.hhea.now new.hhea.now
   pub maxp : KeepsBut 4 old.maxp.now new.maxp.now
   pub post : (post : List ℕ) × IsPost old new post
@@ -191,7 +209,7 @@ pub record AreTablesOf (choice : Choice) (old : Face) (tables : List Table) : Ty
   pub named : List ℕ
   pub are : AreNamed choice old named
   pub cff : HasTable tables cff_tag (λ cff. IsSubsetFont choice.retain_gids named old.cff.now cff)
-  pub cmap : HasTable tables cmap_tag (λ cmap. length cmap < 2 ^ 24)
+  pub cmap : HasTable tables cmap_tag (λ cmap. (plain : List ℕ) × (length plain < 2 ^ 24) × MayHaveAdded plain cmap)
   pub hhea : HasTable tables hhea_tag (λ hhea. length hhea ≡ length old.hhea.now)
   pub hmtx : HasTable tables hmtx_tag (λ hmtx. length hmtx < 2 ^ 18)
   pub maxp : HasTable tables maxp_tag (λ maxp. length maxp ≡ length old.maxp.now)

@@ -1,11 +1,13 @@
 //! The glyphs of a subset, under their old numbers.
 ghost use Rattle.std.specs.Prelude.{◌≡◌, IfOk, IfErr};
 ghost use Rattle.postscript_files.specs.Origins.{AreAllNamed, AreFew, AreOriginsOf, HasGlyphs, IsUnopened, NoOriginsOf};
+ghost use Rattle.postscript_files.specs.Subsets.{AreSequenceGlyphs};
 ghost use Rattle.postscript_files.specs.declared.error.Error.TheVariants as errors;
 
 use crate::choice::{Choice, kept_pairs, named};
 use crate::error::{Error, Result};
 use crate::face::Face;
+use crate::sequences::sequence_glyphs;
 use crate::subset::origins_of;
 use postscript_view::FontView;
 use std::alloc::Global;
@@ -43,6 +45,25 @@ impl Face<'_> {
     {
         let pairs = kept_pairs(alloc, &self.map, choice)?;
         named(alloc, choice, &pairs)
+    }
+
+    /// Returns the glyphs of the variation sequences of all kept characters (`cmap` format 14), with any selector. A glyph can
+    /// be in the list more than once. There are none if the sequences cost more than 20,000,000 units: for each selector
+    /// one, and one for each kept character and for each range and mapping of the selector.
+    ///
+    /// A subset keeps a sequence only if its glyph is kept, so add these glyphs to `choice.unmapped`.
+    ///
+    /// # Errors
+    ///
+    /// - `Memory`: out of memory.
+    pub fn sequence_glyphs(&self, alloc: Global, choice: &Choice<'_>) -> Result<Vec<usize>>
+        // A glyph is in the list exactly if the sequence of a kept character has it, unless the limit is exceeded.
+        ensures glyphs { IfOk result (λ glyphs. AreSequenceGlyphs choice.now self.now glyphs.items) }
+        // The only error is `Memory`.
+        ensures memory { IfErr result (λ e. e ≡ errors.Memory) }
+    {
+        let pairs = kept_pairs(alloc, &self.map, choice)?;
+        sequence_glyphs(alloc, self.cmap, &pairs)
     }
 
     /// Returns the origins of the glyphs of a subset: glyph `i` of the new face is the old glyph at index `i`.

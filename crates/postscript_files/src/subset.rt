@@ -3,6 +3,7 @@ ghost use Rattle.std.specs.Prelude.{◌≡◌, ℕ, ◌+◌, ◌*◌, ◌<◌, �
 ghost use Rattle.std.specs.List.{range_with_len};
 ghost use Rattle.postscript_sfnt.specs.Lent.{HasNoTable, IsTableOf};
 ghost use Rattle.postscript_sfnt.specs.Metrics.{IsGlyphs, IsWord};
+ghost use Rattle.postscript_sfnt_write.specs.Mappings.{CharsRise};
 ghost use Rattle.postscript_sfnt_write.specs.Metrics.{KeepsBut};
 ghost use Rattle.postscript_write.specs.Components.{AreKept};
 ghost use Rattle.postscript_write.specs.Costs.{KeepsWithin, StopsIn};
@@ -10,9 +11,10 @@ ghost use Rattle.postscript_write.specs.Refusals.{IsChoiceRefusedBy};
 ghost use Rattle.postscript_write.specs.declared.error.Error.{Error as Refusal};
 ghost use Rattle.postscript_files.specs.Copies.{IsListed};
 ghost use Rattle.postscript_files.specs.Listed.{Adds, AreCopiedTo, AreGivenTo, AreMade, CountsCopied, CountsGiven, IsFileOfParts, IsUnmade, NoFileOfParts, Puts};
-ghost use Rattle.postscript_files.specs.Made.{AreBytes, HasNoOrigins, IsCutFile, IsHmtxOf, IsMade, IsMapOf, IsPostOf};
+ghost use Rattle.postscript_files.specs.Made.{AreBytes, HasNoOrigins, IsCutFile, IsHmtxOf, IsMade, IsMapOf, IsPlainMap, IsPostOf};
 ghost use Rattle.postscript_files.specs.Origins.{AreFew, AreOrigins, IsCutRefusedBy, IsUnopened};
 ghost use Rattle.postscript_files.specs.Renumbered.{AreSmall};
+ghost use Rattle.postscript_files.specs.Sequences.{source_of as the_source};
 ghost use Rattle.postscript_files.specs.Subsets.{IsCopied, IsGivenTag, IsSubsetFile, IsSubsetFont, IsSubsetOf, NoSubsetBy, NoSubsetFrom, NoSubsetOf};
 ghost use Rattle.postscript_files.specs.declared.error.Error.TheVariants as errors;
 
@@ -21,6 +23,7 @@ use crate::error::{Error, Result};
 use crate::face::Face;
 use crate::metrics::metrics;
 use crate::numbers::{numbers_of, renumbered};
+use crate::sequences::with_kept;
 use crate::tables::{file_with, table_of};
 use postscript_sfnt::FontFile;
 use postscript_sfnt_write::{
@@ -144,24 +147,34 @@ fn are_bytes(_bytes: &[u8])
     ensures { AreBytes _bytes.now }
 {}
 
-/// Writes the `cmap` table of characters, with the new numbers of their glyphs.
-fn map_of(alloc: Global, pairs: &[Mapping], origins: &[usize]) -> Result<Vec<u8>>
+/// Writes the `cmap` table of characters, with the new numbers of their glyphs, and without variation sequences.
+fn plain_map_of(alloc: Global, pairs: &[Mapping], origins: &[usize]) -> Result<Vec<u8>>
     requires few { AreFew origins.now }
-    ensures map { IfOk result (λ cmap. IsMapOf pairs.now origins.now cmap.items) }
-    ensures bytes { IfOk result (λ cmap. AreBytes cmap.items) }
-    ensures size { IfOk result (λ cmap. length cmap.items ≤ 64076 + length pairs.now * 12) }
+    ensures map { IfOk result (λ cmap. IsPlainMap pairs.now origins.now cmap.items) }
     ensures memory { IfErr result (λ e. e ≡ errors.Memory) }
 {
     let numbers = numbers_of(alloc, origins)?;
     let all = renumbered(alloc, pairs, &numbers)?;
     match cmap(alloc, &all) {
-        Ok(cmap) => {
-            are_bytes(cmap.as_slice());
-            Ok(cmap)
-        }
+        Ok(cmap) => Ok(cmap),
         // The characters are in ascending order, and there are at most 1,114,112.
         Err(_) => Err(Error::Memory),
     }
+}
+
+/// Writes the `cmap` table of characters, with the new numbers of their glyphs, and with the variation sequences of these
+/// characters in the old table.
+fn map_of(alloc: Global, old: &[u8], pairs: &[Mapping], origins: &[usize]) -> Result<Vec<u8>>
+    requires rise { CharsRise pairs.now }
+    requires few { AreFew origins.now }
+    ensures map { IfOk result (λ cmap. IsMapOf old.now pairs.now origins.now cmap.items) }
+    ensures bytes { IfOk result (λ cmap. AreBytes cmap.items) }
+    ensures memory { IfErr result (λ e. e ≡ errors.Memory) }
+{
+    let plain = plain_map_of(alloc, pairs, origins)?;
+    let cmap = with_kept(alloc, old, pairs, origins, plain)?;
+    are_bytes(cmap.as_slice());
+    Ok(cmap)
 }
 
 /// Writes the `hmtx` table, with the metrics of the origins.
@@ -220,14 +233,28 @@ fn post_of(alloc: Global, file: &FontFile<'_>) -> Result<Vec<u8>>
     }
 }
 
-/// Makes the tables for characters and origins.
-fn made_of(alloc: Global, face: &Face<'_>, pairs: &[Mapping], origins: &[usize]) -> Result<Made>
+/// Returns the `cmap` table whose variation sequences a subset keeps: none if glyphs keep their numbers.
+fn source_of<'l>(face: &Face<'l>, retain_gids: bool) -> &'l [u8]
+    ensures { result.now ≡ the_source retain_gids face.now.cmap.now }
+{
+    if retain_gids { &[] } else { face.cmap }
+}
+
+/// Makes the tables for characters and origins. `retain_gids` is set if glyphs keep their numbers.
+fn made_of(
+    alloc: Global,
+    face: &Face<'_>,
+    pairs: &[Mapping],
+    origins: &[usize],
+    retain_gids: bool,
+) -> Result<Made>
     requires room { 36 ≤ length face.now.hhea.now }
+    requires rise { CharsRise pairs.now }
     requires few { AreFew origins.now }
-    ensures made { IfOk result (λ made. IsMade face.now pairs.now origins.now made) }
+    ensures made { IfOk result (λ made. IsMade retain_gids face.now pairs.now origins.now made) }
     ensures refused { IfErr result (λ e. IsUnmade face.now e) }
 {
-    let cmap = map_of(alloc, pairs, origins)?;
+    let cmap = map_of(alloc, source_of(face, retain_gids), pairs, origins)?;
     let hmtx = hmtx_of(alloc, face, origins)?;
     let count = origins.len() as u16;
     Ok(Made {
@@ -343,7 +370,7 @@ fn subset_of(alloc: Global, face: &Face<'_>, choice: &Choice<'_>) -> Result<Vec<
     let cut = cut_of(alloc, face.cff, &named, choice.retain_gids, choice.limit)?;
     let FontSubset { font, kept } = cut;
     let origins = origins_by(alloc, face.cff, &named, kept, choice.retain_gids)?;
-    let made = made_of(alloc, face, &pairs, &origins)?;
+    let made = made_of(alloc, face, &pairs, &origins, choice.retain_gids)?;
     written(alloc, face, choice, &font, &made)
 }
 
@@ -352,6 +379,9 @@ fn subset_of(alloc: Global, face: &Face<'_>, choice: &Choice<'_>) -> Result<Vec<
 /// A character is kept if it is in `choice.chars` or if its glyph is in `choice.glyphs`, and if the face has a glyph for it.
 /// The glyphs of the new file are `.notdef`, the glyphs of all kept characters, the glyphs in `choice.glyphs` and in
 /// `choice.unmapped`, and the components of `seac` glyphs among them. Each is drawn, named and measured as before. The glyphs are in their old order.
+///
+/// The variation sequences of kept characters are kept too, if their glyphs are. There are none if glyphs keep their
+/// numbers, or if they cost more than 20,000,000 units ([`Face::sequence_glyphs`]).
 ///
 /// The new file has the tables `CFF `, `cmap`, `hhea`, `hmtx`, `maxp` and `post` (without glyph names), copies of the tables
 /// in `choice.copied`, and the tables in `choice.given`. There are no other tables, and so no kerning and no ligatures

@@ -27,12 +27,7 @@
 //! - The Default UVS table counts before the Non-Default UVS table.
 //! - Characters have 24 bits.
 //!
-<<<<<<< HEAD
-//! No clause says how small the new table is, or when `TooLarge` comes. Ranges of the new table have
-//! one character each.
-=======
 //! No clause says how small the new table is, or when `TooLarge` comes. Ranges of the new table have one character each.
->>>>>>> 42b7b7a493754f54f69020ce38ec8fd19d10b24b
 #![tactic(auto)]
 
 mod arrays;

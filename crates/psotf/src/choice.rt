@@ -25,6 +25,8 @@ pub struct Choice {
     pub chars: Vec<u32>,
     /// The glyphs that are chosen by number.
     pub glyphs: Vec<usize>,
+    /// The glyphs of variation sequences of the characters.
+    pub varied: Vec<usize>,
     /// The glyphs that substitutions can make of the chosen ones.
     pub added: Vec<usize>,
 }
@@ -175,6 +177,7 @@ impl Choice {
     pub fn named(&self, alloc: Global, face: &Face<'_>) -> Result<Vec<usize>, AllocError> {
         let mut glyphs = Vec::from_slice(alloc, &[0])?;
         glyphs.extend_from_slice(&self.glyphs)?;
+        glyphs.extend_from_slice(&self.varied)?;
         glyphs.extend_from_slice(&self.added)?;
         self.put_mapped(alloc, face, &mut glyphs)?;
         glyphs.sort()?;
@@ -194,6 +197,7 @@ impl Choice {
         let mut choice = Choice {
             chars: Vec::new(alloc),
             glyphs: Vec::new(alloc),
+            varied: Vec::new(alloc),
             added: Vec::new(alloc),
         };
         choice.put(alloc, face, words)?;

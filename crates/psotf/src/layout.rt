@@ -18,6 +18,25 @@ fn opened<'l>(face: &Face<'l>) -> Result<postscript_files::Face<'l>, Failure> {
     }
 }
 
+/// Returns the glyphs below a number.
+fn below(alloc: Global, glyphs: &[usize], count: usize) -> Result<Vec<usize>, AllocError> {
+    let mut found = Vec::new(alloc);
+    for glyph in glyphs {
+        if *glyph < count {
+            found.push(*glyph)?;
+        }
+    }
+    Ok(found)
+}
+
+/// Returns the glyphs of variation sequences of the chosen characters, as far as the font has them.
+pub fn varied(alloc: Global, face: &Face<'_>, choice: &Choice<'_>) -> Result<Vec<usize>, Failure> {
+    match opened(face)?.sequence_glyphs(alloc, choice) {
+        Ok(glyphs) => Ok(below(alloc, &glyphs, face.font.char_strings.len())?),
+        Err(error) => Err(by_files(error)),
+    }
+}
+
 /// Returns the chosen glyphs, and the glyphs that substitutions can make of them. It fails if the search costs more than
 /// the share of one glyph.
 pub fn closed(

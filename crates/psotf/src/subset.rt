@@ -80,7 +80,7 @@ fn asked<'t>(
     postscript_files::Choice {
         chars: &choice.chars,
         glyphs: &choice.glyphs,
-        unmapped: &[],
+        unmapped: &choice.varied,
         lenient: true,
         retain_gids: words.get_flag("retain-gids"),
         copied,
@@ -138,23 +138,46 @@ fn tell_added(
     telling::tell(rt, format_args!("glyphs added for shaping: {added}"))
 }
 
-/// Adds the characters that a shaper may use, and the glyphs that substitutions can make of the chosen ones.
+/// Adds the characters that a shaper may use in addition, unless the subset is exact or has no layout tables.
+fn put_shaped(
+    alloc: Global,
+    face: &Face<'_>,
+    words: &ArgMatches<'_>,
+    choice: &mut Choice,
+) -> Result<(), AllocError> {
+    if keeps_layout(words) && !words.get_flag("exact") {
+        choice.put_shaped(alloc, face)?;
+    }
+    Ok(())
+}
+
+/// Adds the glyphs of variation sequences of the characters. If glyphs keep their numbers, these sequences are lost.
+fn put_sequences(
+    alloc: Global,
+    face: &Face<'_>,
+    words: &ArgMatches<'_>,
+    choice: &mut Choice,
+) -> Result<(), Failure> {
+    if words.get_flag("retain-gids") {
+        return Ok(());
+    }
+    let asked = asked(choice, words, &[], &[], 0);
+    choice.varied = layout::varied(alloc, face, &asked)?;
+    Ok(())
+}
+
+/// Adds the glyphs that substitutions can make of the chosen ones.
 fn put_layout(
-    rt: &HostRuntime,
+    alloc: Global,
     face: &Face<'_>,
     words: &ArgMatches<'_>,
     features: &Features,
     choice: &mut Choice,
     budget: &mut Budget,
 ) -> Result<(), Failure> {
-    let chosen = choice.named(rt.alloc(), face)?.len();
-    if !words.get_flag("exact") {
-        choice.put_shaped(rt.alloc(), face)?;
-    }
     let asked = asked(choice, words, &[], &[], budget.limit);
-    choice.added = layout::closed(rt.alloc(), face, &asked, features, budget)?;
-    let named = choice.named(rt.alloc(), face)?.len();
-    tell_added(rt, words, named, chosen)
+    choice.added = layout::closed(alloc, face, &asked, features, budget)?;
+    Ok(())
 }
 
 /// Returns the limit of the runs of all kept glyphs, and spends it: at most half of the budget.
@@ -196,12 +219,16 @@ pub fn write<W: Write>(
 ) -> Result<(), Failure> {
     let mut choice = Choice::read(rt.alloc(), face, words)?;
     let features = Features::read(rt.alloc(), words)?;
+    let chosen = choice.named(rt.alloc(), face)?.len();
+    put_shaped(rt.alloc(), face, words, &mut choice)?;
+    put_sequences(rt.alloc(), face, words, &mut choice)?;
     if keeps_layout(words) {
-        put_layout(rt, face, words, &features, &mut choice, budget)?;
+        put_layout(rt.alloc(), face, words, &features, &mut choice, budget)?;
     }
+    let named = choice.named(rt.alloc(), face)?;
+    tell_added(rt, words, named.len(), chosen)?;
     let subset = subset_of(rt.alloc(), face, words, &features, &choice, budget)?;
     if !words.get_flag("quiet") {
-        let named = choice.named(rt.alloc(), face)?;
         tell(rt, face, words, &named, &subset)?;
     }
     saving::put(rt, words.get_str("out"), &subset.file, out)

@@ -1,4 +1,4 @@
-use Rattle.std.proofs.Common.{◌≤◌, length, arith}
+use Rattle.std.proofs.Common.{arith}
 use Rattle.postscript_files.proofs.Varied.{like_with}
 use Rattle.postscript_files.proofs.sequences.added.Goals as goal
 

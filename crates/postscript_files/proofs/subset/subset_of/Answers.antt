@@ -6,7 +6,8 @@ use Rattle.postscript_write.specs.Costs.{KeepsWithin}
 use Rattle.postscript_files.specs.Choices.{glyphs_of, named_of}
 use Rattle.postscript_files.specs.Listed.{IsFileOfParts, NoFileOfParts}
 use Rattle.postscript_files.specs.Made.{IsMade}
-use Rattle.postscript_files.specs.Origins.{AreOrigins}
+use Rattle.postscript_sfnt_write.specs.Mappings.{CharsRise}
+use Rattle.postscript_files.specs.Origins.{AreFew, AreOrigins}
 use Rattle.postscript_files.specs.Subsets.{IsSubsetFont}
 use Rattle.postscript_write.specs.Components.{AreKept}
 use Rattle.postscript_files.proofs.Refusing.{unopened-so}
@@ -23,8 +24,8 @@ returns-clause-subset c =
     (subst (λ (xs : List ℕ). KeepsWithin c.args.choice.now.limit xs c.args.face.now.cff.now) c.deref-2.ensures.value c.in_ok-cut.ensures.within)
     (subst (λ (xs : List ℕ). AreOrigins c.args.choice.now.retain_gids xs c.args.face.now.cff.now c.in_ok-origins.origins.items)
     c.deref-3.ensures.value c.in_ok-origins.ensures.are)
-    (subst (λ (ps : List Mapping). IsMade c.args.face.now ps c.in_ok-origins.origins.items c.in_ok-made.made) c.deref-4.ensures.value
-    (subst (λ (xs : List ℕ). IsMade c.args.face.now c.deref-4.result.now xs c.in_ok-made.made) c.deref-5.ensures.value c.in_ok-made.ensures.made))
+    (subst (λ (ps : List Mapping). IsMade c.args.choice.now.retain_gids c.args.face.now ps c.in_ok-origins.origins.items c.in_ok-made.made) c.deref-4.ensures.value
+    (subst (λ (xs : List ℕ). IsMade c.args.choice.now.retain_gids c.args.face.now c.deref-4.result.now xs c.in_ok-made.made) c.deref-5.ensures.value c.in_ok-made.ensures.made))
     (subst (λ (xs : List ℕ). IfOk c.written.result (λ file. IsFileOfParts c.args.choice.now c.args.face.now.file xs c.in_ok-made.made file.items))
     c.deref-6.ensures.value c.written.ensures.file)
 
@@ -36,8 +37,8 @@ returns-clause-refused c =
     (subst (λ (xs : List ℕ). IsSubsetFont c.args.choice.now.retain_gids xs c.args.face.now.cff.now c.in_ok-cut.cut.font.items)
     c.deref-2.ensures.value c.in_ok-cut.ensures.font)
     c.in_ok-origins.ensures.few
-    (subst (λ (ps : List Mapping). IsMade c.args.face.now ps c.in_ok-origins.origins.items c.in_ok-made.made) c.deref-4.ensures.value
-    (subst (λ (xs : List ℕ). IsMade c.args.face.now c.deref-4.result.now xs c.in_ok-made.made) c.deref-5.ensures.value c.in_ok-made.ensures.made))
+    (subst (λ (ps : List Mapping). IsMade c.args.choice.now.retain_gids c.args.face.now ps c.in_ok-origins.origins.items c.in_ok-made.made) c.deref-4.ensures.value
+    (subst (λ (xs : List ℕ). IsMade c.args.choice.now.retain_gids c.args.face.now c.deref-4.result.now xs c.in_ok-made.made) c.deref-5.ensures.value c.in_ok-made.ensures.made))
     (subst (λ (xs : List ℕ). IfErr c.written.result (λ e. NoFileOfParts c.args.choice.now c.args.face.now.file xs c.in_ok-made.made e))
     c.deref-6.ensures.value c.written.ensures.refused)
 
@@ -60,3 +61,9 @@ pub returns-in_err-made-clause-refused : goal.returns-in_err-made-clause-refused
 returns-in_err-made-clause-refused c =
     let error = err_from_is_err_and c.from_residual-in_err-made.result c.from_residual-in_err-made.ensures.1 in
     rw (error.1, error.2) (unmade-so _ c.args.choice.now c.args.face.now c.in_err-made.ensures.refused)
+
+pub made_of-requires-clause-rise : goal.made_of-requires-clause-rise
+made_of-requires-clause-rise c = subst CharsRise (sym c.deref-4.ensures.value) c.in_ok-pairs.ensures.kept.rise
+
+pub made_of-requires-clause-few : goal.made_of-requires-clause-few
+made_of-requires-clause-few c = subst AreFew (sym c.deref-5.ensures.value) c.in_ok-origins.ensures.few
