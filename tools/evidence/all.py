@@ -51,6 +51,7 @@ SCRIPTS = [
     ("axes", "tools/evidence/axes.py 1 200", "postscript_variation"),
     ("variable", "tools/evidence/variable.py 62 40 3000 pango1.0-tests", "postscript_variable_drawing"),
     ("changed_variable", "tools/evidence/changed_variable.py 20261127 1000000 pango1.0-tests", "postscript_variable_drawing"),
+    ("changed_layout", "/usr/bin/python3 tools/evidence/changed_layout.py --jobs 4 FONTS", f"{C} bindings/python"),
     ("instance", "tools/evidence/instance.py 20261127 2 pango1.0-tests", "postscript_instance"),
     ("static_fonts", "tools/evidence/static_fonts.py 20261127 16 --round pango1.0-tests", "psotf"),
     ("hostile_files", "tools/evidence/hostile_files.py", "psotf"),
