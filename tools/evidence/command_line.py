@@ -41,6 +41,7 @@ sys.path.insert(0, str(pathlib.Path(__file__).resolve().parents[1]))
 import fontTools.varLib.cff
 from fontTools.pens.recordingPen import RecordingPen
 from fontTools.ttLib import TTFont, newTable
+from fontTools.ttLib.tables._c_m_a_p import CmapSubtable
 from fontTools.ttLib.tables._f_v_a_r import NamedInstance
 from fontTools.varLib.featureVars import addFeatureVariations
 
@@ -142,6 +143,31 @@ def _(folder):
     assert said == "psotf: glyphs added for shaping: 9\npsotf: tables dropped: FFTM\n", said
     _, said = subset(folder, "--drop-layout")
     assert said == "psotf: tables dropped: FFTM GDEF GPOS GSUB; kerning and ligatures are lost\n", said
+
+
+def sequences(path):
+    """Returns the variation sequences of a font, by selector."""
+    tables = [table for table in TTFont(path)["cmap"].tables if table.format == 14]
+    return {selector: sorted(pairs, key=str) for table in tables for selector, pairs in table.uvsDict.items()}
+
+
+@case("subset: variation sequences of the characters stay, with their glyphs")
+def _(folder):
+    font, path = TTFont(FONT), folder / "varied.otf"
+    table = CmapSubtable.newSubtable(14)
+    table.platformID, table.platEncID, table.language, table.cmap = 0, 5, 0, {}
+    table.uvsDict = {0xFE00: [(0x48, None), (0x65, "e.sc"), (0x78, None)], 0xE0100: [(0x6C, "l.sc"), (0x41, "a.sc")]}
+    font["cmap"].tables.append(table)
+    font.save(path)
+    kept = {0xFE00: [(0x48, None), (0x65, "e.sc")], 0xE0100: [(0x6C, "l.sc")]}
+    for options in (["--drop-layout"], ["--layout-features", "kern"], []):
+        out, _ = subset(folder, *options, font=path)
+        assert sequences(out) == kept, sequences(out)
+        text = ["--unicodes=48,FE00,65,FE00,6C,E0100,6F", "--features=-liga,-kern"]
+        shaped = [subprocess.run(["hb-shape", file, *text, "--no-positions", "--no-clusters"], capture_output=True, text=True).stdout for file in (path, out)]
+        assert shaped[0] == shaped[1] == "[H|e.sc|l.sc|o]\n", shaped
+    out, _ = subset(folder, "--retain-gids", font=path)
+    assert sequences(out) == {}, sequences(out)
 
 
 @case("subset: without layout nothing is lost")
