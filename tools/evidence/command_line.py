@@ -148,7 +148,7 @@ def _(folder):
 def sequences(path):
     """Returns the variation sequences of a font, by selector."""
     tables = [table for table in TTFont(path)["cmap"].tables if table.format == 14]
-    return {selector: sorted(pairs, key=str) for table in tables for selector, pairs in table.uvsDict.items()}
+    return {selector: sorted(pairs, key=lambda pair: pair[0]) for table in tables for selector, pairs in table.uvsDict.items()}
 
 
 @case("subset: variation sequences of the characters stay, with their glyphs")
@@ -490,15 +490,16 @@ def _(folder):
     assert glyph["segments"] == [["M", 1, 1], *(["L", i, i] for i in range(2, 5_002)), ["Z"]], glyph["segments"][-3:]
 
 
-@case("report, flat, subset: a glyph past what is kept in memory is named, with the option")
+@case("report, flat, subset: what costs more than is kept in memory is named, with the option")
 def _(folder):
     path, out = folder / "many.otf", folder / "many.out"
     path.write_bytes(file_of(plain_font([END, *[call(0, 1) + END] * 20], [(ONE * 2 + STEMS) * 40 * 50]), 21)[0])
     said = run("report", path, "--limit", "50000", "-o", out, status=1)[1]
     assert "glyph 1: it costs more than 5000 units, a tenth of --limit (report keeps all operations of a glyph in memory)" in said, said
-    for command in (["flat"], ["subset", "--gids", "0-20"]):
-        said = run(command[0], path, *command[1:], "--limit", "50000", "-o", out, status=1)[1]
-        assert re.search(r"glyph 9: the glyphs up to it cost more than 5\d{4} units, which follow from --limit", said), said
+    said = run("flat", path, "--limit", "50000", "-o", out, status=1)[1]
+    assert re.search(r"glyph 9: the glyphs up to it cost more than 5\d{4} units, which follow from --limit", said), said
+    said = run("subset", path, "--gids", "0-20", "--limit", "50000", "-o", out, status=1)[1]
+    assert said.endswith(": the kept glyphs cost more than the limit, which follows from --limit and the size of the table\n"), said
 
 
 @case("instance: a font that is not variable is named")
