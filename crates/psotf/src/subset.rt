@@ -100,12 +100,15 @@ fn glyphs_in(file: &[u8]) -> usize {
     }
 }
 
-/// Reports the components that were added. The glyphs of the subset are within the limit.
+/// The limit of a glyph when components are searched to report them.
+const SEARCH: u64 = 1_000_000;
+
+/// Reports the components that were added, as far as a search within a limit finds them.
 fn tell_components(rt: &HostRuntime, face: &Face<'_>, named: &[usize]) -> Result<(), Failure> {
-    let mut budget = Budget::new(u64::MAX, 1);
+    let mut budget = Budget::new(SEARCH, 1);
     budget.room = u64::MAX;
     let mut kept = Kept::new(rt.alloc());
-    kept.ask(rt.alloc(), &face.font, named, &mut budget)?;
+    let _ = kept.ask(rt.alloc(), &face.font, named, &mut budget);
     kept.tell(rt)
 }
 
