@@ -207,7 +207,6 @@ impl<'l> Charstring<'l> {
         // The length of the code is the result of `inlined_len`.
         ensures measured { IfOk result (λ flat. length flat.items ≡ the_inlined_len (run_from self.entry).trace) }
     {
-        let len = self.inlined_len(alloc)?;
-        inlined_code(alloc, len, &mut Machine::over(alloc, self))
+        inlined_code(alloc, &mut Machine::over(alloc, self))
     }
 }

@@ -86,11 +86,14 @@ impl Inlined {
         Ok(())
     }
 
-    /// The code, without numbers after its last operator.
+    /// The code, without numbers after its last operator, in no more memory than it needs.
     fn finish(mut self) -> Vec<u8>
-        ensures { result.items ≡ written self [] }
+        requires { self.whole ≤ length self.code.items }
+        ensures text { result.items ≡ written self [] }
+        ensures small { length result.items ≤ usize.MAX }
     {
         self.code.truncate(self.whole);
+        self.code.shrink_to_fit();
         self.code
     }
 }
@@ -145,14 +148,15 @@ pub(crate) fn inlined_measured(machine: &mut Machine<'_>) -> Result<usize>
     }
 }
 
-/// The inlined code of all that a machine has left to run. Memory for `len` bytes is allocated at once.
-pub(crate) fn inlined_code(alloc: Global, len: usize, machine: &mut Machine<'_>) -> Result<Vec<u8>>
+/// The inlined code of all that a machine has left to run. Memory for most glyphs is allocated at once.
+pub(crate) fn inlined_code(alloc: Global, machine: &mut Machine<'_>) -> Result<Vec<u8>>
     requires { IsNested machine.old }
     ensures faultless { OnOk result (fault_of (still_of machine.old).end ≡ None) }
     ensures text { IfOk result (λ inlined. inlined.items ≡ inlined_text (still_of machine.old).trace) }
+    ensures small { IfOk result (λ inlined. length inlined.items ≤ usize.MAX) }
     ensures refused { IfErr result (λ e. (e ≡ errors.Memory) ⊎ (fault_of (still_of machine.old).end ≡ Some (refusal_of e))) }
 {
-    let code = Vec::with_capacity(alloc, len)?;
+    let code = Vec::with_capacity(alloc, 512)?;
     let mut inlined = Inlined { code, whole: 0 };
     loop {
         let event = machine.advance::<()>()?;
