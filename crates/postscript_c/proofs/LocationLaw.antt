@@ -1,19 +1,18 @@
 -- From the scalars of a location, a glyph is drawn as at the location.
-use Rattle.std.proofs.Common.{◌≡◌, refl, ap, sym, subst, ◌∙◌, ℕ, zero, suc, ◌+◌, ◌*◌, ◌<◌, ◌⊎◌, inl, inr, ℤ, List, [], ◌∷◌, ◌++◌, length, take, drop, Option, None, Some, Result, slice_get, Vec, arith}
+use Rattle.std.proofs.Common.{◌≡◌, refl, ap, sym, subst, ◌∙◌, ℕ, zero, suc, ◌+◌, ◌*◌, ◌<◌, ◌⊎◌, inl, inr, ℤ, List, [], ◌∷◌, ◌++◌, length, take, drop, Option, None, Some, slice_get, Vec, arith}
 use Rattle.std.proofs.Math.Seq.{drop-append_seam, take-append_seam}
 use Rattle.std.proofs.lemmas.List.{append_assoc}
 use Rattle.std.proofs.lemmas.Option.{none-some, same_Some, slice_get_within}
 use Rattle.std.specs.Option.{option_map}
 use Rattle.std.specs.declared.alloc.Global.{Global}
 use Rattle.postscript_c.specs.Costs.{Costs, nothing, one_more}
-use Rattle.postscript_c.specs.Located.{AreLent, AreScalarsAt, IsDrawnFrom, IsForData, IsLent, KeepsLocations, all_scalars}
+use Rattle.postscript_c.specs.Located.{AreLent, IsLent, KeepsLocations, all_scalars}
 use Rattle.postscript_c.specs.Varied.{HasFont, IsPlaceAt, IsPlaceIn, cff2}
 use Rattle.postscript_cff2.proofs.Uniqueness.{one_view}
 use Rattle.postscript_cff2.specs.Layout.{IsLaidOut, View}
 use Rattle.postscript_cff2.specs.Shown.{view_shown}
-use Rattle.postscript_cff2.specs.declared.font.Font.{Font}
 use Rattle.postscript_sfnt.specs.Directory.{IsFirstOf, IsTable, table_at}
-use Rattle.postscript_variable_font.specs.Places.{AreScalarsOf, AreTables}
+use Rattle.postscript_variable_font.specs.Places.{AreTables}
 use Rattle.postscript_variable_font.specs.declared.place.Place.{Place}
 use Rattle.postscript_variation.specs.Lent.{IsDataIn, IsStoreAt, axes_of, delta_count, regions_of, scalar_at, store_place, table_count}
 use Rattle.postscript_variation.specs.declared.store.Data.{Data}

@@ -47,7 +47,6 @@ use Rattle.postscript_view.proofs.LayoutLaws.{reads_layout, whole_offset}
 use Rattle.postscript_view.proofs.Selecting.{one_named}
 use Rattle.postscript_view.proofs.Wider.{map_is}
 use Rattle.postscript_view.specs.Contents as contents
-use Rattle.postscript_view.specs.Contents.{View}
 use Rattle.postscript_view.specs.Glyphs.{HasPartNumber, IsPartNumber}
 use Rattle.postscript_view.specs.Layout.{AreParts, ArePartsOf, HasLocals, IsLaidOut, IsPart, NamesIndex, OfFont, OfFontDictionaries}
 use Rattle.postscript_view.specs.Order.{aside, header_size, map_from}

@@ -1,5 +1,5 @@
 -- Known hints and reals (Technical Note 5176, section 15 and Table 5; OpenType 1.9, "CFF2", "blend").
-use Rattle.std.proofs.Common.{◌≡◌, refl, [], ◌∷◌, List, ℕ, pos, true, false, Option, None}
+use Rattle.std.proofs.Common.{◌≡◌, refl, [], ◌∷◌, pos, true, false, None}
 use Rattle.std.specs.Prelude.{negsuc}
 use Rattle.postscript_instance.specs.Hints.{all_bits, bits_of, blend, blended, chosen, is_hint_operator}
 use Rattle.postscript_instance.specs.Nearest.{nearest}

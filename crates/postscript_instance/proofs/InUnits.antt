@@ -15,10 +15,10 @@ use Rattle.postscript_variable.specs.Sayings.{Phrase}
 use Rattle.postscript_variable.specs.Told.{Says}
 use Rattle.postscript_instance.specs.declared.error.Error.{Error}
 use Rattle.postscript_instance.specs.declared.error.Error.TheVariants as errors
-use Rattle.postscript_instance.specs.Axes.{steps_of, behind_steps, is_hint, AreSteps, IsNear, LeadsTooFar}
+use Rattle.postscript_instance.specs.Axes.{steps_of, behind_steps, AreSteps, IsNear, LeadsTooFar}
 use Rattle.postscript_instance.specs.Axes as axes
 use Rattle.postscript_instance.specs.Far as outs
-use Rattle.postscript_instance.specs.Far.{AreWays, AreEdges, IsWithin, LeadsOut, NotRounded}
+use Rattle.postscript_instance.specs.Far.{IsWithin, LeadsOut, NotRounded}
 use Rattle.postscript_instance.specs.Cuts as cuts
 use Rattle.postscript_instance.specs.Private.{rounded_edges, in_units, all_in_units, AreNear, AreHeldOrCut, IsFar, IsUnwritten, IsWritten}
 use Rattle.postscript_instance.specs.Cuts.{is_cut, first_operator, first_count, AreCut}

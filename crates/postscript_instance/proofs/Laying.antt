@@ -26,7 +26,7 @@ use Rattle.postscript_write.proofs.Room.{index_most, single_fits, they_fit}
 use Rattle.postscript_write.proofs.Standing.{length-number_text, stands_first, stands_second, stands_slice}
 use Rattle.postscript_write.proofs.TablesStand.{tables_there, tables_length}
 use Rattle.postscript_instance.specs.Encoded.{AreLow, HasRoom, IsKeyedBytes, IsNamedBytes, font_dicts, keyed_places, keyed_text, named_places, named_text, ros_text}
-use Rattle.postscript_instance.specs.Whole.{IsDict, HasHead, adobe, header, identity, integers, keyed_operations, matrix_operation, named_operations}
+use Rattle.postscript_instance.specs.Whole.{IsDict, HasHead, adobe, identity, integers, keyed_operations, matrix_operation, named_operations}
 use Rattle.postscript_instance.specs.Whole as whole
 use Rattle.postscript_instance.specs.declared.layout.Places.{Places}
 use Rattle.postscript_instance.specs.declared.naming.Identifiers.{Identifiers}

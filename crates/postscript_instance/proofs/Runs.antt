@@ -11,9 +11,9 @@ use Rattle.postscript_type2.specs.Program.Phrases.{IsPhrase}
 use Rattle.postscript_type2.specs.Program.Effects.{Clears, Ends, mask_len}
 use Rattle.postscript_type2.specs.Program.States.{State, start, pushed}
 use Rattle.postscript_type2.specs.Program.Meaning as rules
-use Rattle.postscript_type2.specs.Program.Meaning.{Means, IsRunOf, Moves, Closes}
+use Rattle.postscript_type2.specs.Program.Meaning.{Means, Moves}
 use Rattle.postscript_type2.specs.Program.OperatorRules as does
-use Rattle.postscript_type2.specs.Program.OperatorRules.{Does, TakesMost, TakesAtEnd, IsSettled, StemsAfter, in_pairs}
+use Rattle.postscript_type2.specs.Program.OperatorRules.{Does, TakesMost, IsSettled, StemsAfter, in_pairs}
 use Rattle.postscript_type2.specs.Program.Routines.{Lists}
 use Rattle.postscript_type2.specs.Program.Runs as runs
 use Rattle.postscript_type2.specs.Program.Runs.{Finished, by}

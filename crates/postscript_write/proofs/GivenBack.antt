@@ -1,5 +1,5 @@
 -- What is written of glyphs besides their codes is what was to be written.
-use Rattle.std.proofs.Common.{◌≡◌, sym, ap, subst, ◌∙◌, inl, ℕ, ◌+◌, ◌<◌, ◌^◌, List, [], append-nil, length, length-append, get_or, Option, Some, None, Bool, true, false, Vec, arith}
+use Rattle.std.proofs.Common.{◌≡◌, sym, ap, subst, ◌∙◌, ℕ, ◌+◌, ◌<◌, ◌^◌, List, [], append-nil, length, get_or, Option, Some, None, Bool, true, false, Vec, arith}
 use Rattle.std.specs.Option.{is_some}
 use Rattle.std.specs.declared.alloc.Global.{Global}
 use Rattle.std.proofs.lemmas.List.{length-map}

@@ -1,11 +1,11 @@
 -- Runs of glyphs within a limit.
-use Rattle.std.proofs.Common.{add-one, ◌≡◌, ◌≢◌, refl, sym, ap, subst, ◌∙◌, inl, inr, ℕ, zero, suc, ◌+◌, ◌-◌, ◌<◌, ◌≤◌, List, [], ◌∷◌, ◌++◌, length, get_or, Option, Some, None, arith}
+use Rattle.std.proofs.Common.{add-one, ◌≡◌, refl, sym, ap, subst, ◌∙◌, inl, inr, ℕ, ◌+◌, ◌-◌, ◌<◌, ◌≤◌, List, [], ◌∷◌, ◌++◌, length, get_or, Option, Some, None, arith}
 use Rattle.std.specs.Prelude.{◌⊎◌, ◌↔◌, IfErr, OnOk, Result, Ok, Err, take, drop}
 use Rattle.std.specs.List.{Contains}
 use Rattle.std.proofs.Math.Seq.{take-suc}
 use Rattle.std.proofs.lemmas.List.{append-nil, get_or-take, length-take, take-append-drop, take-append-le, take_all}
 use Rattle.std.proofs.lemmas.List.Elements.{Contains-append_left, Contains-get_or}
-use Rattle.postscript_type2.specs.Program.Limit.{LimitIsCost, Spends, cost}
+use Rattle.postscript_type2.specs.Program.Limit.{LimitIsCost, cost}
 use Rattle.postscript_type2.specs.Program.Runs.{Phrase, Run, fault_of}
 use Rattle.postscript_view.specs.Advances.{HasRun}
 use Rattle.postscript_view.specs.Fitting.{GlyphCosts, GlyphLeaves, all_paid, ends, is_refused, no_glyph, not_there, refusal_paid}
@@ -14,7 +14,7 @@ use Rattle.postscript_view.specs.declared.font.FontView.{FontView}
 use Rattle.postscript_view.specs.declared.private_dict.PrivateDict.{PrivateDict}
 use Rattle.postscript_view.proofs.Limiting.{used-up}
 use Rattle.postscript_write.specs.Components.{IsOpened, IsReached, IsUntold}
-use Rattle.postscript_write.specs.Costs.{AreDistinct, FailsWith, KeepsWithin, Stops, StopsIn, GlyphsCost, ReachedCostTheLimit, ReachedShareLimit, ShareLimit, none_cost, none_share, one_more_costs, one_more_shares}
+use Rattle.postscript_write.specs.Costs.{AreDistinct, FailsWith, KeepsWithin, Stops, StopsIn, GlyphsCost, ShareLimit, none_cost, none_share, one_more_costs, one_more_shares}
 use Rattle.postscript_write.specs.Refusals.{NeedsNoName}
 use Rattle.postscript_write.specs.Stepping.{AllShare, IsPaid, Leaves, Share, StopsAt, StopsRun}
 use Rattle.postscript_write.specs.Steps.{IsNotClosed}

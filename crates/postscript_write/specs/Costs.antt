@@ -3,16 +3,14 @@ use Rattle.std.specs.Prelude.{◌≡◌, ◌≢◌, ◌↔◌, ℕ, ◌+◌, ◌
 use Rattle.std.specs.List.{AllPairs, Contains}
 use Rattle.postscript_base.specs.RefusalOf.{refusal_of}
 use Rattle.postscript_base.specs.declared.error.Error as causes
-use Rattle.postscript_base.specs.declared.error.Error.TheVariants.{Memory}
-use Rattle.postscript_type2.specs.Program.Limit.{Spends}
-use Rattle.postscript_type2.specs.Program.Runs.{Phrase, Run, fault_of}
+use Rattle.postscript_type2.specs.Program.Runs.{Run, fault_of}
 use Rattle.postscript_view.specs.Advances.{HasRun}
 use Rattle.postscript_view.specs.Fitting.{GlyphCosts, GlyphLeaves}
 use Rattle.postscript_view.specs.declared.font.FontView.{FontView}
 use Rattle.postscript_view.specs.declared.private_dict.PrivateDict.{PrivateDict}
 use Rattle.postscript_write.specs.Components.{IsOpened, IsReached}
 use Rattle.postscript_write.specs.declared.error.Error.{Error}
-use Rattle.postscript_write.specs.declared.error.Error.TheVariants.{Refused, Glyph, TooLong}
+use Rattle.postscript_write.specs.declared.error.Error.TheVariants.{Glyph, TooLong}
 
 -- no glyph is listed twice
 abbrev pub AreDistinct : List ℕ → Type 0

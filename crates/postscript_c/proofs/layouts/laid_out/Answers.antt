@@ -1,4 +1,3 @@
-use Rattle.std.proofs.Common.{◌≡◌}
 use Rattle.postscript_c.proofs.layouts.laid_out.Goals as goal
 
 pub returns : goal.returns

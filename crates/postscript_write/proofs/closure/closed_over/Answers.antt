@@ -1,5 +1,4 @@
-use Rattle.std.proofs.Common.{sym, subst, inl, inr, ◌∷◌, []}
-use Rattle.std.specs.Prelude.{◌⊎◌}
+use Rattle.std.proofs.Common.{sym, subst, inr, []}
 use Rattle.std.proofs.lemmas.List.Elements.{Contains-push}
 use Rattle.std.proofs.lemmas.Result.{err_from_is_err_and}
 use Rattle.postscript_write.specs.Costs.{AreDistinct}

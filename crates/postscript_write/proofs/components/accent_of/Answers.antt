@@ -1,4 +1,4 @@
-use Rattle.std.proofs.Common.{◌∙◌, subst, sym, Some, Option, ℕ}
+use Rattle.std.proofs.Common.{subst, sym, Some, Option, ℕ}
 use Rattle.std.specs.Prelude.{IfErr, OnOk}
 use Rattle.postscript_drawing.specs.Accents.{run_by}
 use Rattle.postscript_write.proofs.Accented.{has-run, said-if}

@@ -1,4 +1,4 @@
-use Rattle.std.proofs.Common.{◌∙◌, refl, ap, subst, ℕ, [], Ok}
+use Rattle.std.proofs.Common.{◌∙◌, refl, ap, subst, ℕ, Ok}
 use Rattle.postscript_type2.specs.Program.Limit.{Spends, nothing}
 use Rattle.postscript_view.proofs.Limiting.{on-operation, on-end, on-pause}
 use Rattle.postscript_write.proofs.components.run_within.Goals as goal

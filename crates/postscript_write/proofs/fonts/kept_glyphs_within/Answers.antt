@@ -1,4 +1,4 @@
-use Rattle.std.proofs.Common.{◌∙◌, ap, subst, inl, inr, List, length, ℕ}
+use Rattle.std.proofs.Common.{◌∙◌, ap, subst, inl, List, length, ℕ}
 use Rattle.std.proofs.lemmas.Result.{err_from_is_err_and}
 use Rattle.postscript_view.specs.Contents.{View}
 use Rattle.postscript_view.specs.Value.{view_shown}
