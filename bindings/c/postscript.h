@@ -321,7 +321,9 @@ int32_t psf_font_flat(const uint8_t *cff, size_t length, uint64_t limit, uint8_t
  * subset[0..room].
  * If keeps is 0, glyphs get new numbers in ascending order, and a custom encoding is replaced by the standard one. Otherwise
  * glyphs keep their numbers, and all others are empty.
- * Outputs and errors are those of psf_font_flat, and PSF_NO_GLYPHS, PSF_NO_GLYPH, and PSF_NO_NAME if keeps is 0. */
+ * Only the runs of the kept glyphs share the limit; if they exceed it, the call returns PSF_TOO_LONG.
+ * Outputs and errors are those of psf_font_flat, and PSF_NO_GLYPHS, PSF_NO_GLYPH, and PSF_NO_NAME if keeps is 0. A glyph that
+ * fails need not be the first one. */
 int32_t psf_font_subset(const uint8_t *cff, size_t length, const size_t *glyphs, size_t named, uint32_t keeps,
                         uint64_t limit, uint8_t *subset, size_t room, size_t *count, psf_refusal *refusal);
 
@@ -341,9 +343,8 @@ int32_t psf_file_flat(const uint8_t *file, size_t length, size_t face, uint64_t 
  * are lost: psf_file_subset_layout keeps them.
  * If lenient is 0, a character without a glyph is an error; otherwise it is left out. If keeps is 0, glyphs get new numbers in
  * ascending order; otherwise they keep their numbers, and all others are empty.
- * Only the runs of the kept glyphs share the limit; if they exceed it, the call returns PSF_TOO_LONG.
- * Outputs and errors are those of psf_file_flat, and PSF_NO_MAP, PSF_NO_ADVANCES, PSF_NO_CHARACTER, PSF_CUT_TABLE, PSF_SAME_TAG,
- * and those of psf_font_subset. A glyph that fails need not be the first one. */
+ * Limit and errors are those of psf_font_subset. Outputs are those of psf_file_flat, and so are further errors, with PSF_NO_MAP,
+ * PSF_NO_ADVANCES, PSF_NO_CHARACTER, PSF_CUT_TABLE and PSF_SAME_TAG. */
 int32_t psf_file_subset(const uint8_t *file, size_t length, size_t face, const uint32_t *characters, size_t asked,
                         const size_t *glyphs, size_t named, const uint32_t *copied, size_t tables, uint32_t lenient,
                         uint32_t keeps, uint64_t limit, uint8_t *subset, size_t room, size_t *count, psf_refusal *refusal);

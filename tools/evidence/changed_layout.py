@@ -14,11 +14,12 @@ two numbers change places, or the table is truncated. Half of the changes are in
 their numbers. The limit is 20,000,000 units by default, as for `psotf`.
 
 The calls are made in N processes (by default one), through the Python module in bindings/python. It loads the shared library in
-bindings/c/build, which make builds, or the one in the environment variable POSTSCRIPT_LIBRARY. The script prints the number of calls by
-their status, and for each table the number of new files by the outcome for it. It prints the longest processor time of a call, the peak memory of a
-process with and without the fonts, and the seed. The exit status is 1 if a call takes more than two seconds of processor time, or if a
-process ends by a signal; a call is ended after 20 seconds. The script then prints the case. The second command writes the changed font of a
-case to FILE.
+bindings/c/build, which make builds, or the one in the environment variable POSTSCRIPT_LIBRARY.
+
+The script prints the number of calls by their status, and for each table the number of new files by the outcome for it. It prints the
+longest processor time of a call, the peak memory of a process with and without the fonts, and the seed. The exit status is 1 if a call takes
+more than two seconds of processor time, or if a process ends by a signal; a call is ended after 20 seconds. The script then prints the case.
+The second command writes the changed font of a case to FILE.
 
 Needs make and Debian's python3-fonttools.
 """
@@ -108,7 +109,7 @@ def bases_of(postscript, words, draw):
 
 
 def position(draw, length, step=1):
-    """Returns an offset in a table, in half of all cases near its begin."""
+    """Returns an offset in a table, in half of all cases near its start."""
     return draw.randrange(0, min(length, FRONT) if draw.random() < 0.5 else length, step)
 
 
@@ -177,11 +178,9 @@ class Caller:
         return status, time.process_time() - began
 
     def outcomes(self):
-        """Yields each layout table with its outcome in the last call; for `kern`, whether the new file has it."""
-        for name in ("gsub", "gpos", "gdef"):
-            yield name.upper(), getattr(self.layout, name)
-        head = ctypes.string_at(self.room, 12 + 16 * 64)
-        yield "kern", int(b"kern" in (head[at : at + 4] for at in range(12, 12 + 16 * int.from_bytes(head[4:6], "big"), 16)))
+        """Yields each layout table with its outcome in the last call."""
+        for table in TABLES:
+            yield table, getattr(self.layout, table.lower().decode())
 
 
 def memory():
@@ -255,9 +254,9 @@ def told(postscript, bases, chosen, reports):
         print(f"case {number}: {seconds:.2f} s, {case_of(bases, chosen.seed, number).base.path}")
     print(f"fonts: {len(bases)}; changed tables: {sum(statuses.values())}")
     print("calls: " + listed(statuses, lambda status: named(postscript, status)))
-    for table in ("GSUB", "GPOS", "GDEF", "kern"):
+    for table in TABLES:
         own = collections.Counter({key[1]: count for key, count in outcomes.items() if key[0] == table})
-        print(f"{table}: " + listed(own, lambda outcome: outcome_named(postscript, outcome)))
+        print(f"{table.decode()}: " + listed(own, lambda outcome: outcome_named(postscript, outcome)))
     if well:
         print(f"longest call: {max(report[3] for report in well):.2f} s")
         print(f"peak of memory: {max(report[4] for report in well):.0f} MB, {max(report[4] - report[5] for report in well):.0f} MB more than before the calls")

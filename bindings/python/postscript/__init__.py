@@ -736,7 +736,7 @@ class Font:
     def subset(self, glyphs: Iterable[int], keep_numbers: bool = False) -> bytes:
         """Returns a `CFF ` table with `.notdef`, these glyphs, and the components of `seac` glyphs among them, without subroutines.
         Glyphs get new numbers in ascending order. With `keep_numbers` they keep their numbers, and all others are empty. Raises
-        `WriteError`, as `flat` does."""
+        `WriteError`, as `flat` does, but only these glyphs share the limit."""
         cff, limit, numbers = self._view, self._limit_of_all, list(glyphs)
         named = (c_size_t * len(numbers))(*numbers)
         return _font_of(

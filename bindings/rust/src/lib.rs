@@ -396,7 +396,7 @@ impl<'a> Font<'a> {
     /// # Errors
     ///
     /// [`Error::NoGlyphs`] for an empty list, [`Error::NoGlyph`] with the missing glyph, [`Error::NoName`], and those of
-    /// [`Font::flat`].
+    /// [`Font::flat`]. Only the kept glyphs share the limit.
     pub fn subset(&self, glyphs: &[usize]) -> core::result::Result<Vec<u8>, WriteError> {
         c::font_subset(self.cff, glyphs, false, self.limit_of_all()).map_err(WriteError::of)
     }

@@ -8,8 +8,7 @@ use Rattle.postscript_c.specs.Files.{file_code}
 use Rattle.postscript_c.specs.Placed.{IsUnplaced, unplaced_code, value_along}
 use Rattle.postscript_c.specs.Texts.{HandsOver, Lent}
 use Rattle.postscript_c.specs.VariedTold.{table_code}
-use Rattle.postscript_c.specs.WholeFiles.{IsSet}
-use Rattle.postscript_c.specs.Written.{refusal}
+use Rattle.postscript_c.specs.Written.{IsSet, refusal}
 use Rattle.postscript_c.specs.declared.statics.NoStatic.{NoStatic}
 use Rattle.postscript_c.specs.declared.statics.NoStatic.TheVariants.{NoFace, NoPlace, Unwritten}
 use Rattle.postscript_c.specs.declared.written.PsfRefusal.{PsfRefusal}

@@ -1,10 +1,10 @@
 -- The result of a call that writes a font file.
-use Rattle.std.specs.Prelude.{◌≡◌, ◌≢◌, ◌⊎◌, ℕ, ℤ, pos, List, [], Bool, true, false, Result, Ok, Err, Some, IfOk, IfErr, Vec}
+use Rattle.std.specs.Prelude.{◌≡◌, ◌≢◌, ◌⊎◌, ℕ, ℤ, pos, List, [], Result, Ok, Err, Some, IfOk, IfErr, Vec}
 use Rattle.std.specs.declared.alloc.Global.{Global}
 use Rattle.postscript_c.specs.Files.{file_code}
 use Rattle.postscript_c.specs.Fitting.{FirstFits, TellsFits}
 use Rattle.postscript_c.specs.Texts.{HandsOver, Lent}
-use Rattle.postscript_c.specs.Written.{refusal, refusal_of, written_code}
+use Rattle.postscript_c.specs.Written.{IsSet, refusal, refusal_of, written_code}
 use Rattle.postscript_c.specs.declared.written.PsfRefusal.{PsfRefusal}
 use Rattle.postscript_files.specs.Faces.{cff_tag}
 use Rattle.postscript_files.specs.Flats.{IsFlatOf, NoFlatOf}
@@ -83,11 +83,6 @@ TellsFileWithin bytes face limit status IsAnswer old new was told =
 pub record IsFlatFile (bytes : List ℕ) (face : ℕ) (answer : Result (Vec ℕ Global) Error) : Type 0 where
   pub flat : IfOk answer (λ file. IsFlatOf bytes face file.items)
   pub refused : IfErr answer (λ e. NoFlatOf bytes face e)
-
--- the number is not 0 exactly if the value is `true`
-abbrev pub IsSet : (number : ℕ) → Bool → Type 0
-IsSet number true = number ≢ 0
-IsSet number false = number ≡ 0
 
 -- the choice of characters and glyphs that a caller makes
 pub record IsChoice (chars glyphs copied : List ℕ) (lenient keeps limit : ℕ) (choice : Choice) : Type 0 where

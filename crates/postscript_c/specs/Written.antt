@@ -1,5 +1,5 @@
 -- Written fonts, for C.
-use Rattle.std.specs.Prelude.{◌≡◌, ◌≢◌, ◌⊎◌, ℕ, ◌<◌, ℤ, pos, List, [], length, Result, Ok, Err, IfOk, IfErr, OnOk, Vec}
+use Rattle.std.specs.Prelude.{◌≡◌, ◌≢◌, ◌⊎◌, ℕ, ◌<◌, ℤ, pos, List, [], length, Bool, true, false, Some, Result, Ok, Err, IfOk, IfErr, OnOk, Vec}
 use Rattle.std.specs.declared.alloc.Global.{Global}
 use Rattle.postscript_base.specs.Error.{code}
 use Rattle.postscript_c.specs.Fitting.{FirstFits, TellsFits}
@@ -10,16 +10,17 @@ use Rattle.postscript_base.specs.Tape.Outcome.{Got}
 use Rattle.postscript_view.specs.Layout.{IsLaidOut}
 use Rattle.postscript_view.specs.Order.{fonts}
 use Rattle.postscript_write.specs.Components.{IsSubset as IsSubsetFont}
+use Rattle.postscript_write.specs.Costs.{KeepsWithin, StopsIn}
 use Rattle.postscript_write.specs.Drawings.{DrawsKept, KeepsDrawings}
-use Rattle.postscript_write.specs.Glyphs.{Sources}
-use Rattle.postscript_write.specs.Making.{IsKeptFont, Making}
+use Rattle.postscript_write.specs.Kept.{HasAllBy}
+use Rattle.postscript_write.specs.Making.{IsFontBy, IsKeptFont}
 use Rattle.postscript_write.specs.Once.{BeginsWithRos, TellsOnce}
 use Rattle.postscript_write.specs.Readings.{HasLenientFont}
 use Rattle.postscript_write.specs.Refusals.{HasOtherFonts, IsRefusedBy, IsSubsetRefusedBy, NeedsNoName}
 use Rattle.postscript_write.specs.SameGlyphs.{GlyphsKept, KeepsGlyphs}
 use Rattle.postscript_write.specs.Selected.{SelectsParts}
 use Rattle.postscript_write.specs.Sizes.{HasShortCodes, IsSmall}
-use Rattle.postscript_write.specs.Sources.{AreThere, IsWritten, every}
+use Rattle.postscript_write.specs.Sources.{AreThere, IsWritten, choice_by, every}
 use Rattle.postscript_write.specs.Whole.{IsWholeFont}
 use Rattle.postscript_write.specs.declared.error.Error.{Error}
 use Rattle.postscript_write.specs.declared.error.Error.TheVariants.{Refused, Glyph, SeveralFonts, MissingGlyph, MissingPart, MissingName, LongGlyph, NoGlyphs, TooLarge, TooLong}
@@ -91,16 +92,29 @@ pub record IsFlat (bytes : List ℕ) (answer : Result (Vec ℕ Global) Error) : 
   pub names : IfErr answer NeedsNoName
   pub several : HasOtherFonts bytes → answer ≡ Err SeveralFonts
 
--- The font with the named glyphs and their components, or why there is none. If it is written, the old font has the named glyphs, and each
--- glyph in the list of `kept_glyphs` has its number by `numbers`. Naming no glyph is an error.
-pub record IsSubset (is_made : Making) (numbers : (named bytes flat : List ℕ) → Type 0) (sources : (closed : List ℕ) (glyphs : ℕ) →
-    Sources) (bytes named : List ℕ) (answer : Result (Vec ℕ Global) Error) : Type 0 where
-  pub written : IfOk answer (λ flat. IsSubsetFont is_made sources named bytes flat.items)
-  pub drawn : IfOk answer (λ flat. DrawsKept sources named bytes flat.items)
-  pub same : IfOk answer (λ flat. GlyphsKept sources named bytes flat.items)
-  pub kept : IfOk answer (λ flat. numbers named bytes flat.items)
+-- the number is not 0 exactly if the value is `true`
+abbrev pub IsSet : (number : ℕ) → Bool → Type 0
+IsSet number true = number ≢ 0
+IsSet number false = number ≡ 0
+
+-- The font with the named glyphs and their components, or why there is none. Glyphs keep their numbers if `keeps` is not 0. If it is written, the
+-- old font has the named glyphs, each glyph in the list of `kept_glyphs` is in the new one, and the runs of these glyphs share the limit.
+-- Naming no glyph is an error.
+pub record IsSubset (keeps limit : ℕ) (bytes named : List ℕ) (answer : Result (Vec ℕ Global) Error) : Type 0 where
+  pub retain : Bool
+  pub retains : IsSet keeps retain
+  pub written : IfOk answer (λ flat. IsSubsetFont (IsFontBy retain) (choice_by retain) named bytes flat.items)
+  pub drawn : IfOk answer (λ flat. DrawsKept (choice_by retain) named bytes flat.items)
+  pub same : IfOk answer (λ flat. GlyphsKept (choice_by retain) named bytes flat.items)
+  pub kept : IfOk answer (λ flat. HasAllBy retain named bytes flat.items)
   pub sound : IfOk answer (λ flat. IsSound bytes flat.items)
-  pub refused : IfErr answer (λ e. IsSubsetRefusedBy named sources bytes e)
+  pub within : OnOk answer (KeepsWithin (Some limit) named bytes)
+  pub refused : IfErr answer (λ e. IsSubsetRefusedBy named (choice_by retain) bytes e ⊎ StopsIn bytes named (Some limit) e)
   pub several : 0 < length named → HasOtherFonts bytes → answer ≡ Err SeveralFonts
   pub there : OnOk answer ((font : View) → IsLaidOut bytes 0 font → AreThere named (length font.char_strings))
   pub some : named ≡ [] → answer ≡ Err NoGlyphs
+
+-- the result of a call that writes a subset
+abbrev pub TellsSubset : (keeps limit : ℕ) (bytes named : List ℕ) (status : ℤ) (old new : Lent ℕ) (was told : PsfRefusal) → Type 0
+TellsSubset keeps limit bytes named status old new was told =
+    (answer : Result (Vec ℕ Global) Error) × IsSubset keeps limit bytes named answer × TellsWritten answer status old new was told

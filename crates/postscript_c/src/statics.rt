@@ -3,7 +3,7 @@ ghost use Rattle.std.specs.Prelude.{◌≡◌, ◌⊎◌, ◌<◌, length, pos, 
 ghost use Rattle.postscript_c.specs.Placed.{IsUnplaced, axes_in};
 ghost use Rattle.postscript_c.specs.Statics.{AreSettings, AreSettingsAlong, AreSettingsIn, AreSettingsOf, IsStaticOf, IsWrittenAt, TellsStatic, TellsStaticOf, file_written_code, glyph_cause as the_glyph_cause, glyph_code, made_code, no_static_code, no_static_refusal as the_no_static_refusal, place_code, setting_of, static_code, static_refusal as the_static_refusal, tag_of as the_tag_of, variations_code};
 ghost use Rattle.postscript_c.specs.Texts.{lent};
-ghost use Rattle.postscript_c.specs.WholeFiles.{IsSet};
+ghost use Rattle.postscript_c.specs.Written.{IsSet};
 ghost use Rattle.postscript_c.specs.declared.place.Unplaced.TheVariants as unplaced;
 ghost use Rattle.postscript_sfnt.specs.Lent.{IsFaceOf};
 ghost use Rattle.postscript_variation.specs.LentAxes.{axis_count};

@@ -1,17 +1,14 @@
 //! New fonts.
-ghost use Rattle.std.specs.Prelude.{◌≡◌, ◌≢◌, true, false, pos};
+ghost use Rattle.std.specs.Prelude.{◌≡◌, pos};
 ghost use Rattle.postscript_c.specs.Texts.{lent};
 ghost use Rattle.postscript_c.specs.Written.{IsFlat, IsSubset, TellsWritten, refusal as no_refusal, refusal_of as the_refusal, written_code};
-ghost use Rattle.postscript_write.specs.Kept.{HasAllInPlace, HasAllKept};
-ghost use Rattle.postscript_write.specs.Making.{IsCutFont, IsKeptFont};
-ghost use Rattle.postscript_write.specs.Sources.{chosen, keeping};
 
 use crate::status::{
     NO_GLYPH, NO_GLYPHS, NO_NAME, NO_PART, REFUSED_GLYPH, SEVERAL_FONTS, TOO_LARGE, TOO_LONG,
 };
 use crate::texts::hand_over;
 use crate::told::status;
-use postscript_write::{Error, Result, flat_font, subset, subset_keeping};
+use postscript_write::{Error, Result, flat_font, subset_within};
 use std::alloc::Global;
 
 /// The details of an error of writing a font, in addition to the status.
@@ -97,19 +94,18 @@ pub(crate) fn flat(alloc: Global, bytes: &[u8]) -> Result<Vec<u8>>
     flat_font(alloc, bytes)
 }
 
-/// The subset with these glyphs, under their old numbers or new ones.
+/// The subset with these glyphs, under their old numbers or new ones. The runs of its glyphs share the limit.
 pub(crate) fn subset_of(
     alloc: Global,
     bytes: &[u8],
     glyphs: &[usize],
     keeps: u32,
+    limit: u64,
 ) -> Result<Vec<u8>>
-    ensures anew { keeps ≡ 0 → IsSubset IsCutFont HasAllKept chosen bytes.now glyphs.now result }
-    ensures kept { keeps ≢ 0 → IsSubset IsKeptFont HasAllInPlace keeping bytes.now glyphs.now result }
+    ensures { IsSubset keeps limit bytes.now glyphs.now result }
 {
-    if keeps == 0 {
-        subset(alloc, bytes, glyphs)
-    } else {
-        subset_keeping(alloc, bytes, glyphs)
+    match subset_within(alloc, bytes, glyphs, keeps != 0, Some(limit)) {
+        Ok(subset) => Ok(subset.font),
+        Err(error) => Err(error),
     }
 }
