@@ -1,6 +1,6 @@
 # What can be made here. Each target is a command of `rt` or a script of tools/.
 #
-#     make check      the versions, the gate (an hour or two where nothing is kept), and the tests of the bindings
+#     make check      the versions, the page, the gate (an hour or two where nothing is kept), and the tests of the bindings
 #     make dist       the archive, the Debian packages, the wheel and the crate, in dist/
 #     make install    what the archive holds, under PREFIX=/usr/local, with DESTDIR= before it
 #     make edits      the wrong bodies of each crate that changed since they were tried
@@ -13,6 +13,7 @@ dist:
 
 check:
 	tools/gate/version.sh
+	tools/gate/page.py --check
 	rt ci
 	tools/bindings/bindings.sh
 

@@ -85,7 +85,7 @@ function lines() {
 }
 
 // The stems as bands, marked if they are active at the step.
-function bands([left, bottom, right, top]) {
+function bands({ left, bottom, right, top }) {
   const { walk, steps, step } = shown;
   const row = steps[step - 1];
   if (walk.why !== null || row === undefined) return [];
@@ -103,10 +103,13 @@ function bands([left, bottom, right, top]) {
 function boxOf(glyph) {
   const [left, bottom, right, top] = glyph.bounds.length === 0 ? [0, 0, 0, 0] : glyph.bounds;
   const pad = font.units_per_em / 10;
-  return [Math.min(0, left) - pad, Math.min(-2 * pad, bottom - pad), Math.max(glyph.advance, right, 1) + pad, Math.max(7 * pad, top + pad)];
+  return {
+    left: Math.min(0, left) - pad, bottom: Math.min(-2 * pad, bottom - pad),
+    right: Math.max(glyph.advance, right, 1) + pad, top: Math.max(7 * pad, top + pad),
+  };
 }
 
-function viewOf([left, bottom, right, top]) {
+function viewOf({ left, bottom, right, top }) {
   const width = (right - left) / shown.zoom, height = (top - bottom) / shown.zoom;
   const x = (left + right - width) / 2 + shown.x, y = (bottom + top + height) / 2 + shown.y;
   return { viewBox: `${x} ${-y} ${width} ${height}`, size: Math.max(width, height) / 130 };
@@ -121,7 +124,7 @@ function drawnSegments() {
 
 function big() {
   const { glyph } = shown;
-  const box = boxOf(glyph), [left, bottom, right, top] = box;
+  const box = boxOf(glyph), { left, bottom, right, top } = box;
   const { viewBox, size } = viewOf(box);
   const svg = draw("svg", { id: "big", viewBox, role: "img", "aria-label": `glyph ${glyph.gid} ${glyph.label}, large` });
   const up = draw("g", { transform: "scale(1 -1)" });
