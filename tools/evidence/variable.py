@@ -40,7 +40,7 @@ import building
 from variable_fonts import files_in, mixed, variable
 
 USES = ("postscript_sfnt postscript_base postscript_compact1 postscript_type2 postscript_view postscript_outline postscript_drawing"
-        " postscript_variation postscript_cff2 postscript_variable postscript_variable_font postscript_variable_drawing anyhow")
+        " postscript_variation postscript_cff2 postscript_variable postscript_variable_font anyhow")
 NEAR, LEAST = 4096, 64
 NO_HINTING, NO_AUTOHINT = 2, 0x8000
 

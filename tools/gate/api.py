@@ -36,7 +36,6 @@ CRATES = (
     "postscript_cff2",
     "postscript_variable",
     "postscript_variable_font",
-    "postscript_variable_drawing",
     "postscript_instance",
     "postscript_instance_file",
     "postscript_write",

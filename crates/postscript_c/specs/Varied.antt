@@ -15,7 +15,7 @@ use Rattle.postscript_drawing.specs.declared.error.Error.TheVariants.{TooLong}
 use Rattle.postscript_outline.specs.declared.segment.Segment.{Segment}
 use Rattle.postscript_sfnt.specs.Lent.{HasNoTable, IsTableOf}
 use Rattle.postscript_sfnt.specs.declared.file.FontFile.{FontFile}
-use Rattle.postscript_variable_drawing.specs.Glyphs.{DrawsGlyph, IsGlyphUndrawn, SpendsOnGlyph, SufficesFor}
+use Rattle.postscript_variable_font.specs.GlyphDrawings.{DrawsGlyph, IsGlyphUndrawn, SpendsOnGlyph, SufficesFor}
 use Rattle.postscript_variable_font.specs.Places.{AreTables, LacksData}
 use Rattle.postscript_variable_font.specs.declared.place.Place.{Place}
 use Rattle.postscript_variation.specs.Lent.{table_count}

@@ -14,8 +14,7 @@ use crate::told::undrawn_status;
 use postscript_cff2::{Error as TableError, Font};
 use postscript_drawing::Error as DrawingError;
 use postscript_sfnt::FontFile;
-use postscript_variable_drawing::draw_glyph;
-use postscript_variable_font::{Error as PlaceError, Place};
+use postscript_variable_font::{Error as PlaceError, Place, draw_glyph};
 use postscript_variation::Store;
 use std::alloc::Global;
 

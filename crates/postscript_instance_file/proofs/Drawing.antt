@@ -16,8 +16,8 @@ use Rattle.postscript_outline.specs.declared.segment.Segment.{Segment}
 use Rattle.postscript_variable.proofs.Limit.{spent}
 use Rattle.postscript_variable.specs.Charstrings.{run_from}
 use Rattle.postscript_variable.specs.Limit.{Spends, cost}
-use Rattle.postscript_variable_drawing.specs.Drawn.{Gives}
-use Rattle.postscript_variable_drawing.specs.Glyphs.{DrawsGlyph, GivesGlyphFirst, IsGlyphUndrawn, SpendsOnGlyph, SufficesFor}
+use Rattle.postscript_variable_font.specs.Drawn.{Gives}
+use Rattle.postscript_variable_font.specs.GlyphDrawings.{DrawsGlyph, GivesGlyphFirst, IsGlyphUndrawn, SpendsOnGlyph, SufficesFor}
 
 -- what is left after all costs
 spent-all : (limit : ℕ) (costs : List ℕ) (left : ℕ) → Spends limit costs left [] → left ≡ limit - cost costs

@@ -21,8 +21,8 @@ use Rattle.postscript_outline.specs.declared.segment.Segment.{Segment}
 use Rattle.postscript_variable.specs.Charstrings.{run_from}
 use Rattle.postscript_variable.specs.Limit.{cost}
 use Rattle.postscript_variable.specs.declared.charstring.Charstring.{Charstring}
-use Rattle.postscript_variable_drawing.specs.Drawn.{origin}
-use Rattle.postscript_variable_drawing.specs.Glyphs.{IsGlyphUndrawn}
+use Rattle.postscript_variable_font.specs.Drawn.{origin}
+use Rattle.postscript_variable_font.specs.GlyphDrawings.{IsGlyphUndrawn}
 use Rattle.postscript_variable_font.specs.Glyphs.{IsCharstringOf}
 use Rattle.postscript_variable_font.specs.declared.place.Place.{Place}
 

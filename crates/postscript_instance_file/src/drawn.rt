@@ -17,7 +17,7 @@ use postscript_instance::{AdvancesAt, Error as Unwritten};
 use postscript_outline::{Bounds, Outline, Point, Segment};
 use postscript_sfnt_write::Metric;
 use postscript_type2::Operand;
-use postscript_variable_drawing::draw_glyph;
+use postscript_variable_font::draw_glyph;
 use std::alloc::Global;
 
 /// The part of the limit that a glyph may cost here, since all its operations are kept in memory while it is written.

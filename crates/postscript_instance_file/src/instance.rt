@@ -273,7 +273,7 @@ fn styled(
 /// Writes the static font of a location. Each point is rounded to whole units if `is_rounded` is set.
 ///
 /// A glyph may cost `limit` units, and all glyphs together `*left` units, which is reduced by the cost. A unit is one of
-/// `draw_glyph` of `postscript_variable_drawing`. Each glyph is run [`RUNS`] times, and the cost is counted once. A glyph
+/// `draw_glyph` of `postscript_variable_font`. Each glyph is run [`RUNS`] times, and the cost is counted once. A glyph
 /// may cost a fortieth of `limit`, since all its operations are kept in memory, and draw one segment for each 50 units.
 ///
 /// # Errors

@@ -3,3 +3,6 @@ pub mod Places
 pub mod Glyphs
 pub mod OneRun
 pub mod Nearness
+pub mod Fitting
+pub mod Drawn
+pub mod GlyphDrawings

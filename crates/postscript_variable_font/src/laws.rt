@@ -1,4 +1,5 @@
 //! Laws of the definitions. The functions do nothing: their clauses are the laws.
+ghost use Rattle.postscript_variable_font.specs.Fitting.{RunsFit};
 ghost use Rattle.postscript_variable_font.specs.Nearness.{BlendsAreNear, ExactSumsAre};
 ghost use Rattle.postscript_variable_font.specs.OneRun.{HasOneRun};
 
@@ -17,4 +18,10 @@ pub fn blends_are_near()
     ensures near { BlendsAreNear }
     // There is an exact sum for any deltas with the scalars of a location.
     ensures exact { ExactSumsAre }
+{}
+
+/// States that each operation of a run has a number of operands that its operator takes.
+pub fn runs_fit()
+    // Each operation of a run has a number of operands that its operator takes.
+    ensures { RunsFit }
 {}

@@ -1,4 +1,4 @@
-//! Tests of the crates of variable fonts, against outside vectors and rows by hand: a file for each crate.
+//! Tests of the crates of variable fonts, against outside vectors and rows by hand.
 #![tactic(auto)]
 
 #[cfg(test)]

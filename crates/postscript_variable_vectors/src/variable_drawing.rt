@@ -4,8 +4,7 @@ use crate::small::TABLE;
 use postscript_cff2::Font;
 use postscript_drawing::Error;
 use postscript_outline::{Point, Segment};
-use postscript_variable_drawing::draw_glyph;
-use postscript_variable_font::Place;
+use postscript_variable_font::{Place, draw_glyph};
 
 /// A point in whole units.
 fn point(x: i16, y: i16) -> Point {

@@ -7,7 +7,7 @@ use crate::held::{full_by, held_within};
 use postscript_drawing::Error as Undrawn;
 use postscript_outline::Outline;
 use postscript_sfnt::CharacterMap;
-use postscript_variable_drawing::draw_glyph;
+use postscript_variable_font::draw_glyph;
 use psotf_font::characters::{Mapped, of_glyph};
 use psotf_output::failure::{Failure, Refusal};
 use psotf_output::limit::{Budget, SEGMENT};

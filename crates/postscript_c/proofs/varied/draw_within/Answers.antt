@@ -3,7 +3,7 @@ use Rattle.postscript_c.specs.Segments.{meant}
 use Rattle.postscript_c.proofs.Sketching.{all-given}
 use Rattle.postscript_c.proofs.varied.draw_within.Goals as goal
 use Rattle.postscript_outline.specs.declared.segment.Segment.{Segment}
-use Rattle.postscript_variable_drawing.specs.Glyphs.{DrawsGlyph}
+use Rattle.postscript_variable_font.specs.GlyphDrawings.{DrawsGlyph}
 
 pub returns-in-Ok : goal.returns-in-Ok
 returns-in-Ok c =

@@ -1,7 +1,7 @@
 use Rattle.std.proofs.Common.{◌≡◌}
 use Rattle.postscript_drawing.proofs.DrawsLaws.{SoFar}
 use Rattle.postscript_drawing.proofs.ProgramLaws.{pen_at, strokes_of}
-use Rattle.postscript_variable_drawing.proofs.drawing.draw_program.Given as goal
+use Rattle.postscript_variable_font.proofs.drawing.draw_program.Given as goal
 use Rattle.postscript_variable.specs.Limit.{Spends}
 
 -- some is drawn, and what the program still answers is left

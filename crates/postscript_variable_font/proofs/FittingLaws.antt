@@ -13,7 +13,7 @@ use Rattle.postscript_variable.specs.State.{Font, State, Effect, Clears, Refuses
 use Rattle.postscript_variable.specs.Meaning.{End, Means}
 use Rattle.postscript_variable.specs.Meaning as rules
 use Rattle.postscript_variable.proofs.MeaningLaws.{run-means}
-use Rattle.postscript_variable_drawing.specs.Fitting.{RunsFit}
+use Rattle.postscript_variable_font.specs.Fitting.{RunsFit}
 
 -- the greatest number that passes is itself the greatest up to it
 greatest-fits : (test : ℕ → Bool) (n m : ℕ) → greatest test n ≡ Some m → (m ≤ n) × (greatest test m ≡ Some m)

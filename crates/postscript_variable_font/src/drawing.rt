@@ -6,7 +6,7 @@ ghost use Rattle.postscript_drawing.specs.declared.error.Error.TheVariants as er
 ghost use Rattle.postscript_variable.specs.Charstrings.{run_from};
 ghost use Rattle.postscript_variable.specs.Limit.{cost};
 ghost use Rattle.postscript_variable.specs.Programs.{begun, ended};
-ghost use Rattle.postscript_variable_drawing.specs.Drawn.{IsOutlineOf, IsRefused, IsSpent, Gives, origin as the_origin};
+ghost use Rattle.postscript_variable_font.specs.Drawn.{IsOutlineOf, IsRefused, IsSpent, Gives, origin as the_origin};
 
 use postscript_base::Error as Cause;
 use postscript_drawing::{Error, Pen, Result};

@@ -4,8 +4,8 @@ use Rattle.postscript_outline.proofs.Receiving.{list-received}
 use Rattle.postscript_variable.specs.Charstrings.{run_from}
 use Rattle.postscript_variable.specs.Limit.{nothing}
 use Rattle.postscript_variable.specs.Programs.{begun}
-use Rattle.postscript_variable_drawing.specs.Drawn.{IsOutlineOf, origin}
-use Rattle.postscript_variable_drawing.proofs.drawing.outline_of.Goals as goal
+use Rattle.postscript_variable_font.specs.Drawn.{IsOutlineOf, origin}
+use Rattle.postscript_variable_font.proofs.drawing.outline_of.Goals as goal
 
 pub returns-in_err-segments-clause-spends : goal.returns-in_err-segments-clause-spends
 returns-in_err-segments-clause-spends c =

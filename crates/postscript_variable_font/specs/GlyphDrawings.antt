@@ -14,7 +14,7 @@ use Rattle.postscript_variable.specs.Programs.{begun}
 use Rattle.postscript_variable.specs.declared.charstring.Charstring.{Charstring}
 use Rattle.postscript_variable_font.specs.Glyphs.{IsCharstringOf}
 use Rattle.postscript_variable_font.specs.declared.place.Place.{Place}
-use Rattle.postscript_variable_drawing.specs.Drawn.{IsOutlineOf, IsRefused, IsSpent, origin}
+use Rattle.postscript_variable_font.specs.Drawn.{IsOutlineOf, IsRefused, IsSpent, origin}
 
 -- these are the segments that the charstring of a glyph draws at a location
 abbrev pub DrawsGlyph : fonts.Font → (glyph : ℕ) → Place → List Segment → Type 0

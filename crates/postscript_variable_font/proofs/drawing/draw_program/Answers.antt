@@ -6,9 +6,9 @@ use Rattle.postscript_drawing.specs.Undrawn.{error_of}
 use Rattle.postscript_drawing.specs.declared.error.Error.TheVariants as errors
 use Rattle.postscript_drawing.proofs.DrawsLaws.{at_first, so_more, so_refused}
 use Rattle.postscript_drawing.proofs.ProgramLaws.{drawn-whole, first-of-refused, first-so-far, front-of-first, front-so-far, full-at-end, full-of-refused, if-err, on-err, stroke-refused, strokes_of, with-err}
-use Rattle.postscript_variable_drawing.proofs.Steps.{at-end, step-refused}
-use Rattle.postscript_variable_drawing.proofs.Spending.{no-pause, on-operation, on-end, on-pause, on-refusal}
-use Rattle.postscript_variable_drawing.proofs.drawing.draw_program.Goals as goal
+use Rattle.postscript_variable_font.proofs.Steps.{at-end, step-refused}
+use Rattle.postscript_variable_font.proofs.Spending.{no-pause, on-operation, on-end, on-pause, on-refusal}
+use Rattle.postscript_variable_font.proofs.drawing.draw_program.Goals as goal
 use Rattle.postscript_variable.specs.Limit.{nothing}
 use Rattle.postscript_type2.specs.Program.Runs.{Answer, End}
 use Rattle.postscript_variable.specs.Meaning.{answer as the_answer}

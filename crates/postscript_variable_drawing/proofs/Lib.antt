@@ -1,3 +1,0 @@
-pub mod FittingLaws
-pub mod Steps
-pub mod Spending

@@ -1,5 +1,0 @@
-use Rattle.postscript_variable_drawing.proofs.FittingLaws as fitting
-use Rattle.postscript_variable_drawing.proofs.laws.runs_fit.Goals as goal
-
-pub returns : goal.returns
-returns c = fitting.runs-fit
