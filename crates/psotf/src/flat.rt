@@ -10,8 +10,8 @@ use psotf_output::saving;
 use std::alloc::Global;
 use std::io::Write;
 
-/// How often a glyph is run: it is checked, measured and written, and its bytes are copied.
-pub const RUNS: u64 = 4;
+/// How often a glyph is run: it is checked and written, and its bytes are copied.
+pub const RUNS: u64 = 3;
 
 /// Returns the file of the font without subroutines.
 fn file_of(alloc: Global, face: &Face<'_>) -> Result<Vec<u8>, Failure> {

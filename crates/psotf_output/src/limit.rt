@@ -13,7 +13,7 @@ pub const GLYPHS: u64 = 20;
 pub const SEGMENT: u64 = 8;
 
 /// The cost of writing an operator or an operand, in units.
-pub const OPERAND: u64 = 4;
+pub const OPERAND: u64 = 5;
 
 /// The most that a unit of a run costs if segments are written. A unit draws at most one.
 pub const PATH: u64 = 1 + SEGMENT;
