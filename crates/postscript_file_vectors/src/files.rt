@@ -1,7 +1,9 @@
 //! Whole files written: desubroutinized, and with only some characters.
 use crate::checks::{bytes_of, holds, holds_at, is_text};
-use crate::small_file::{CFF, CHARS, CMAP, HHEA, MAXP, METRICS, NAME, choice, tables_of};
+use crate::small_file::{CFF, CHARS, CMAP, HHEA, MAXP, METRICS, NAME, VARIED, choice, tables_of};
 use postscript_files::{Choice, Face, Given, flat_file, subset_file};
+use postscript_sequences::Sequence::{self, Default, Glyph};
+use postscript_sequences::Sequences;
 use postscript_sfnt::{FontFile, glyphs};
 use postscript_sfnt_write::{Table, file_of};
 use postscript_view::FontView;
@@ -26,10 +28,17 @@ fn file<R: Abort>(rt: &R, alloc: Global, changed: u32, digits: &str, without: u3
 }
 
 /// Characters, whether glyphs keep their numbers, and of the new file: the glyphs of A, grave and Agrave, the `hmtx`
-/// table, and the number of glyphs. By hand: Agrave has the components A and grave, and `.notdef` is always kept.
+/// table, and the number of glyphs. By hand: Agrave has the components A and grave, and `.notdef` is always kept. Emptied
+/// glyphs have the metrics of `.notdef`.
 const ROWS: &[(&[u32], bool, [u16; 3], &str, u16)] = &[
     (&[0x60], false, [0, 1, 0], "01f40000 012cffec", 2),
-    (&[0x60], true, [0, 2, 0], METRICS, 4),
+    (
+        &[0x60],
+        true,
+        [0, 2, 0],
+        "01f40000 01f40000 012cffec 01f40000",
+        4,
+    ),
     (&[0xc0, 0x41], false, [1, 0, 3], METRICS, 4),
 ];
 
@@ -94,6 +103,85 @@ fn glyphs_with_and_without_characters(rt: HostRuntime) {
             "glyphs in row",
             row,
         );
+    }
+}
+
+/// A sequence of the table `VARIED`.
+fn sequence_in(cmap: &[u8], char: u32, selector: u32) -> Option<Sequence> {
+    Sequences::find(cmap)?.get(char, selector)
+}
+
+/// The sequences of `VARIED`.
+const SEQUENCES: [(u32, u32); 5] = [
+    (0x41, 0xfe00),
+    (0x60, 0xfe00),
+    (0x60, 0xfe01),
+    (0x60, 0xfe02),
+    (0x60, 0xfe03),
+];
+
+/// Characters, further glyphs, whether glyphs keep their numbers, and the new sequences. By hand: the sequences of these
+/// characters are kept if their glyphs are, and Agrave is kept with A and grave.
+const VARIATIONS: &[(&[u32], &[usize], bool, [Option<Sequence>; 5])] = &[
+    (
+        &[0x60],
+        &[],
+        false,
+        [None, None, Some(Glyph(1)), Some(Glyph(0)), None],
+    ),
+    (
+        &[0x60],
+        &[],
+        true,
+        [None, None, Some(Glyph(2)), Some(Glyph(0)), None],
+    ),
+    (
+        &[0x60],
+        &[1],
+        true,
+        [None, None, Some(Glyph(2)), Some(Glyph(0)), Some(Glyph(1))],
+    ),
+    (
+        &[0x60],
+        &[3],
+        true,
+        [
+            None,
+            Some(Glyph(3)),
+            Some(Glyph(2)),
+            Some(Glyph(0)),
+            Some(Glyph(1)),
+        ],
+    ),
+    (
+        &[0x41, 0x60],
+        &[],
+        true,
+        [
+            Some(Default),
+            None,
+            Some(Glyph(2)),
+            Some(Glyph(0)),
+            Some(Glyph(1)),
+        ],
+    ),
+    (&[0x41], &[], true, [Some(Default), None, None, None, None]),
+    (&[0xc0], &[], true, [None, None, None, None, None]),
+];
+
+#[test]
+fn variation_sequences_of_some_characters(rt: HostRuntime) {
+    let alloc = rt.alloc();
+    let bytes = file(&rt, alloc, CMAP, VARIED, 0);
+    for (row, (chars, unmapped, retain_gids, wanted)) in VARIATIONS.iter().enumerate() {
+        let mut asked = choice(chars, *retain_gids, &[]);
+        asked.unmapped = unmapped;
+        let new = subset_file(alloc, bytes.as_slice(), 0, &asked).expect(&rt, "a file");
+        let face = Face::open(new.as_slice(), 0).expect(&rt, "a face");
+        for (k, (char, selector)) in SEQUENCES.iter().enumerate() {
+            let is = wanted.get(k) == Some(&sequence_in(face.cmap, *char, *selector));
+            holds_at(&rt, is, "sequence in row", row);
+        }
     }
 }
 

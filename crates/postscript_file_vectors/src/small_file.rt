@@ -20,6 +20,15 @@ pub const NAME: u32 = 0x6e616d65;
 /// A, grave and Agrave.
 pub const CHARS: [(u32, u16); 3] = [(0x41, 1), (0x60, 2), (0xc0, 3)];
 
+/// A `cmap` table with these characters and variation sequences: the default sequence of A and U+FE00, and sequences of grave
+/// with U+FE00 (Agrave), U+FE01 (grave), U+FE02 (`.notdef`) and U+FE03 (A).
+pub const VARIED: &str = "0000 0002 0000 0005 00000048 0003 000a 00000014 \
+    000c0000 00000034 00000000 00000003 \
+    00000041 00000041 00000001 00000060 00000060 00000002 000000c0 000000c0 00000003 \
+    000e 00000062 00000004 00fe00 00000036 0000003e 00fe01 00000000 00000047 \
+    00fe02 00000000 00000050 00fe03 00000000 00000059 00000001 000041 00 \
+    00000001 000060 0003 00000001 000060 0002 00000001 000060 0000 00000001 000060 0001";
+
 /// The advances 500, 600, 300 and 610, and the bearings 0, 10, -20 and 30.
 pub const METRICS: &str = "01f40000 0258000a 012cffec 0262001e";
 

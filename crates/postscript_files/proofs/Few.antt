@@ -65,7 +65,7 @@ last-low true n glyph (zero, less, is) = omega (arith, is)
 last-low true n glyph (suc i, less, is) = absurd (omega (arith, less))
 last-low false n glyph (i, less, is) = absurd (omega (arith, less))
 
-kept-low : (closed : List ℕ) (n glyph : ℕ) → Contains (kept_of closed n) glyph → glyph < n
+pub kept-low : (closed : List ℕ) (n glyph : ℕ) → Contains (kept_of closed n) glyph → glyph < n
 kept-low closed zero glyph (i, less, is) = absurd (omega (arith, less))
 kept-low closed (suc n) glyph h =
     let there : Contains (kept_of closed (n + 1)) glyph = subst (λ m. Contains (kept_of closed m) glyph) (sym (add-one n)) h in

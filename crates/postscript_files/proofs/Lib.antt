@@ -4,6 +4,7 @@ pub mod Marking
 pub mod Keeping
 pub mod LookingUp
 pub mod Numbering
+pub mod Spreading
 pub mod Filing
 pub mod Others
 pub mod Same

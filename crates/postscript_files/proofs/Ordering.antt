@@ -1,9 +1,10 @@
 -- The order of the glyphs of a subset does not depend on the list of named glyphs that the code makes.
 use Rattle.std.proofs.Common.{◌≡◌, refl, sym, ap, ◌∙◌, subst, inl, inr, ℕ, zero, suc, ◌+◌, ◌<◌, List, [], ◌∷◌, ◌++◌, Bool, true, false, get_or, arith, add-one}
-use Rattle.std.specs.Prelude.{◌==◌, ◌||◌, ◌⊎◌, map, if◌then◌else◌, Result, Ok, Err, IfOk, Vec}
+use Rattle.std.specs.Prelude.{◌==◌, ◌||◌, ◌⊎◌, ◌↔◌, length, map, if◌then◌else◌, Result, Ok, Err, IfOk, Vec}
 use Rattle.std.specs.List.{Contains, range_with_len}
 use Rattle.std.specs.declared.alloc.Global.{Global}
-use Rattle.std.proofs.lemmas.Bool.{cases_eq, eqb-true}
+use Rattle.std.proofs.lemmas.Bool.{cases_eq, cases_lt, eqb-true}
+use Rattle.std.proofs.lemmas.List.FromFn.{length-range_with_len}
 use Rattle.std.proofs.lemmas.List.Elements.{Contains-append_cases, Contains-append_left, Contains-append_right}
 use Rattle.postscript_drawing.specs.Components.{glyphs_of as glyphs_in}
 use Rattle.postscript_sfnt.specs.declared.character_map.CharacterMap.{CharacterMap}
@@ -16,13 +17,17 @@ use Rattle.postscript_write.specs.Sources.{choice_by, is_kept, kept_of}
 use Rattle.postscript_write.proofs.Drawings.{many-of}
 use Rattle.postscript_write.proofs.Marks.{kept_more}
 use Rattle.postscript_files.specs.Choices.{AreKeptPairs, IsKept, glyph_of, glyphs_of, named_of}
-use Rattle.postscript_files.specs.Origins.{AreAllNamed, AreOrigins, AreOriginsOf, HasGlyphs, IsOrigin}
+use Rattle.postscript_files.specs.Origins.{AreAllNamed, AreFew, AreOrigins, AreOriginsOf, HasGlyphs, IsOrigin}
+use Rattle.postscript_files.specs.Renumbered.{ArePlaced, AreSpread}
+use Rattle.postscript_files.specs.Sequences.{IsFirstIndex, IsNewNumber}
 use Rattle.postscript_files.specs.declared.choice.Choice.{Choice}
 use Rattle.postscript_files.specs.declared.error.Error.{Error}
 use Rattle.postscript_files.specs.declared.face.Face.{Face}
 use Rattle.postscript_files.proofs.Charting.{glyph-named, named-for}
-use Rattle.postscript_files.proofs.Origins.{contains-kept, named-kept, source-there, zero-kept}
+use Rattle.postscript_files.proofs.Few.{kept-low}
+use Rattle.postscript_files.proofs.Origins.{contains-kept, named-kept, own-number, source-there, zero-kept}
 use Rattle.postscript_files.proofs.Same.{cut-like, one-closed, same-kept}
+use Rattle.postscript_files.proofs.Spreading.{own-indices}
 
 -- a chosen glyph, or that of a kept character, is named
 for-named : (choice : Choice) (charmap : CharacterMap) (pairs : List Mapping) → AreKeptPairs choice charmap pairs → (glyph : ℕ) →
@@ -106,12 +111,76 @@ origins-for choice charmap ps qs cff origins true a b h = h
 origins-for choice charmap ps qs cff origins false a b h = kept-for choice charmap ps qs cff origins a b h
 
 -- there is one list of origins
-one-order : (retain : Bool) (named cff xs ys : List ℕ) → AreOrigins retain named cff xs → AreOrigins retain named cff ys → xs ≡ ys
+pub one-order : (retain : Bool) (named cff xs ys : List ℕ) → AreOrigins retain named cff xs → AreOrigins retain named cff ys → xs ≡ ys
 one-order true named cff xs ys a b =
     a.2 ∙ ap (range_with_len 0) (many-of cff a.0 (view_shown b.0) a.1 b.1.laid) ∙ sym b.2
 one-order false named cff xs ys a b =
     a.all ∙ ap (kept_of a.closed) (many-of cff a.are.font (view_shown b.are.font) a.are.opened b.are.opened.laid)
     ∙ same-kept a.closed b.closed (one-closed cff named a.closed b.closed a.are b.are) (glyphs_in b.are.font) ∙ sym b.all
+
+-- a glyph is placed at its new number
+pub new-numbers : (retain : Bool) (named cff origins kept placed : List ℕ) → AreOrigins retain named cff origins → AreKept named cff kept →
+    ArePlaced retain kept (length origins) placed → (glyph number : ℕ) →
+    IsFirstIndex placed glyph number ↔ IsNewNumber retain kept glyph number
+new-numbers true named cff origins kept placed are of_kept at =
+    let e : length origins ≡ glyphs_in of_kept.are.font =
+    ap length are.2 ∙ length-range_with_len 0 (glyphs_in are.0)
+    ∙ many-of cff are.0 (view_shown of_kept.are.font) are.1 of_kept.are.opened.laid in
+    own-indices kept placed (length origins) at
+    (λ glyph h. let low = kept-low of_kept.closed (glyphs_in of_kept.are.font) glyph
+    (subst (λ (xs : List ℕ). Contains xs glyph) of_kept.all h) in
+    omega (arith, low, e))
+    (λ some. subst (λ (xs : List ℕ). Contains xs 0) (sym of_kept.all)
+    (contains-kept of_kept.closed (glyphs_in of_kept.are.font) 0 (omega (arith, some, e)) (zero-kept of_kept.closed)))
+new-numbers false named cff origins kept placed are of_kept at = λ glyph number.
+    subst (λ (xs : List ℕ). IsFirstIndex placed glyph number ↔ IsFirstIndex xs glyph number) at (λ h. h, λ h. h)
+
+-- placed glyphs are few
+pub few-placed : (retain : Bool) (named cff origins kept placed : List ℕ) → AreOrigins retain named cff origins → AreKept named cff kept →
+    ArePlaced retain kept (length origins) placed → AreFew origins → AreFew placed
+few-placed true named cff origins kept placed are of_kept at few =
+    let m = at.many in
+    let n = few.0 in (
+      omega (arith, m, n),
+      λ k less. elim (cases_lt 0 (get_or placed k 0)) [
+        | inl some ↦ (let own = (at.only k some).0 in omega (arith, own, m, n, less))
+        | inr zeros ↦ omega (arith, zeros)
+      ],
+    )
+few-placed false named cff origins kept placed are of_kept at few =
+    subst AreFew (one-order false named cff origins kept are of_kept ∙ sym at) few
+
+-- as many glyphs are placed as there are new ones
+pub placed-many : (retain : Bool) (named cff origins kept placed : List ℕ) → AreOrigins retain named cff origins → AreKept named cff kept →
+    ArePlaced retain kept (length origins) placed → length placed ≡ length origins
+placed-many true named cff origins kept placed are of_kept at = at.many
+placed-many false named cff origins kept placed are of_kept at = ap length (at ∙ one-order false named cff kept origins of_kept are)
+
+-- a kept glyph is placed at its new number
+pub placed-at : (retain : Bool) (named cff origins kept placed : List ℕ) → AreOrigins retain named cff origins → AreKept named cff kept →
+    ArePlaced retain kept (length origins) placed → (i glyph : ℕ) → Contains kept glyph → IsOrigin origins i glyph → IsOrigin placed i glyph
+placed-at true named cff origins kept placed are of_kept at i glyph there h =
+    let same : i ≡ glyph = own-number named cff origins i glyph are h in
+    let m = at.many in
+    let t = h.there in
+    record {
+      there = omega (arith, m, t);
+      is = ap (λ n. get_or placed n 0) same ∙ at.each glyph (omega (arith, same, t)) there;
+    }
+placed-at false named cff origins kept placed are of_kept at i glyph there h =
+    subst (λ (xs : List ℕ). IsOrigin xs i glyph) (one-order false named cff origins kept are of_kept ∙ sym at) h
+
+-- .notdef is placed at the numbers of other glyphs
+pub placed-empty : (kept placed : List ℕ) (count i : ℕ) → AreSpread kept count placed → i < count → (Contains kept i → ⊥) → IsOrigin placed i 0
+placed-empty kept placed count i at less other =
+    let m = at.many in
+    record {
+      there = omega (arith, m, less);
+      is = elim (cases_lt 0 (get_or placed i 0)) [
+        | inl some ↦ absurd (other (at.only i some).1)
+        | inr zeros ↦ omega (arith, zeros)
+      ];
+    }
 
 pub one-origins : (choice : Choice) (charmap : CharacterMap) (ps qs : List Mapping) (cff xs ys : List ℕ) → AreKeptPairs choice charmap ps →
     AreKeptPairs choice charmap qs → AreOrigins choice.retain_gids (named_of (glyphs_of choice) ps) cff xs →

@@ -9,7 +9,7 @@ use Rattle.std.proofs.lemmas.List.FromFn.{get_or-range_with_len, length-range_wi
 use Rattle.postscript_drawing.specs.Components.{glyphs_of}
 use Rattle.postscript_view.specs.Value.{view_shown}
 use Rattle.postscript_view.specs.declared.font.FontView.{FontView}
-use Rattle.postscript_write.specs.Components.{IsOpened, is_named}
+use Rattle.postscript_write.specs.Components.{AreKept, IsOpened, is_named}
 use Rattle.postscript_write.specs.Drawings.{AreLikeKept, IsSourceAt, Likeness}
 use Rattle.postscript_write.specs.Sources.{AreThere, choice_by, is_kept, keeping, kept_of}
 use Rattle.postscript_write.proofs.Drawings.{many-of}
@@ -64,6 +64,15 @@ named-there named glyphs glyph there h =
     let e : get_or named h.0 0 ≡ glyph = get_or_default named h.0 0 glyph h.1 ∙ h.2 in
     let p = there h.0 h.1 in omega (arith, e, p)
 
+-- a glyph that is named is among the kept ones
+pub kept-there : (retain : Bool) (named cff flat kept : List ℕ) → IsSubsetFont retain named cff flat → AreKept named cff kept →
+    (glyph : ℕ) → Contains named glyph → Contains kept glyph
+kept-there retain named cff flat kept font are glyph h =
+    let less : glyph < glyphs_of are.are.font =
+    named-there named (glyphs_of are.are.font) glyph (font.there (view_shown are.are.font) are.are.opened.laid) h in
+    let is : is_kept are.closed glyph ≡ true = (are.are.all glyph).1 (is_named glyph (named-kept named glyph h)) in
+    subst (λ (xs : List ℕ). Contains xs glyph) (sym are.all) (contains-kept are.closed (glyphs_of are.are.font) glyph less is)
+
 -- a glyph that is named has an origin
 pub has-origin : (retain : Bool) (named cff flat origins : List ℕ) → IsSubsetFont retain named cff flat →
     AreOrigins retain named cff origins → (glyph : ℕ) → Contains named glyph → (i : ℕ) × IsOrigin origins i glyph
@@ -78,11 +87,7 @@ has-origin true named cff flat origins font are glyph h =
       },
     )
 has-origin false named cff flat origins font are glyph h =
-    let less : glyph < glyphs_of are.are.font =
-    named-there named (glyphs_of are.are.font) glyph (font.there (view_shown are.are.font) are.are.opened.laid) h in
-    let kept : is_kept are.closed glyph ≡ true = (are.are.all glyph).1 (is_named glyph (named-kept named glyph h)) in
-    origin-of origins glyph (subst (λ (xs : List ℕ). Contains xs glyph) (sym are.all)
-    (contains-kept are.closed (glyphs_of are.are.font) glyph less kept))
+    origin-of origins glyph (kept-there false named cff flat origins font are glyph h)
 
 -- glyphs that keep their numbers have them
 pub own-number : (named cff origins : List ℕ) (i glyph : ℕ) → AreOrigins true named cff origins → IsOrigin origins i glyph → i ≡ glyph

@@ -19,6 +19,7 @@ use Rattle.postscript_sfnt_write.specs.Mappings.{IsGlyphIn, in_segments}
 use Rattle.postscript_sfnt_write.specs.Metrics.{KeepsBut}
 use Rattle.postscript_sfnt_write.specs.declared.file.Table.{Table}
 use Rattle.postscript_sfnt_write.specs.declared.mapping.Mapping.{Mapping}
+use Rattle.postscript_write.specs.Components.{AreKept}
 use Rattle.postscript_write.specs.Drawings.{DrawsTheSame}
 use Rattle.postscript_write.specs.SameGlyphs.{IsSameGlyph}
 use Rattle.postscript_write.specs.declared.error.Error.{Error as Refusal}
@@ -29,8 +30,9 @@ use Rattle.postscript_files.specs.Listed.{AreParts, HasParts, IsFileOfParts, IsU
 use Rattle.postscript_files.specs.Made.{AreBytes, HasNoOrigins, IsCutFile, IsHmtxOf, IsMade, IsMapOf}
 use Rattle.postscript_write.specs.Costs.{KeepsWithin}
 use Rattle.postscript_files.specs.Origins.{AreFew, AreOrigins, AreOriginsOf, IsCutRefusedBy, IsKeptGlyph, IsOrigin, NoOriginsOf}
-use Rattle.postscript_files.specs.Subsets.{AreCounted, AreInOrder, AreTablesOf, HasSame, IsSame, IsSubsetFace, IsSubsetFile, IsSubsetFont, IsSubsetOf, KeepsNumber, NoSubsetBy, NoSubsetFrom, NoSubsetOf}
-use Rattle.postscript_files.specs.Sequences.{source_of}
+use Rattle.postscript_files.specs.Renumbered.{ArePlaced, AreSpread}
+use Rattle.postscript_files.specs.Sequences.{IsFirstIndex, IsNewNumber, chars_of}
+use Rattle.postscript_files.specs.Subsets.{AreCounted, AreInOrder, AreTablesOf, HasNotdefMetrics, HasSame, IsSame, IsSubsetFace, IsSubsetFile, IsSubsetFont, IsSubsetOf, KeepsNumber, NoSubsetBy, NoSubsetFrom, NoSubsetOf}
 use Rattle.postscript_files.specs.declared.choice.Choice.{Choice}
 use Rattle.postscript_files.specs.declared.error.Error.{Error}
 use Rattle.postscript_files.specs.declared.error.Error.TheVariants.{Cut, File, Font, Memory, MissingCharacter, MissingTable, NoAdvances, NoMap, Overlap, SameTag, TooLarge}
@@ -42,9 +44,16 @@ use Rattle.postscript_files.proofs.Counting.{many-glyphs}
 use Rattle.postscript_files.proofs.Few.{few-pairs, two-small}
 use Rattle.postscript_files.proofs.Measuring.{many-metrics, same-advance, same-bearing}
 use Rattle.postscript_files.proofs.OneGlyph.{some-glyph}
-use Rattle.postscript_files.proofs.Origins.{above-zero, has-origin, origin-like, own-number}
-use Rattle.postscript_files.proofs.Ordering.{kept-for, kept-like, one-origins}
+use Rattle.postscript_files.proofs.Origins.{above-zero, has-origin, kept-there, origin-like, own-number}
+use Rattle.postscript_files.proofs.Ordering.{few-placed, kept-for, kept-like, new-numbers, one-order, one-origins, placed-at, placed-empty, placed-many}
 use Rattle.postscript_files.proofs.Others.{one-table}
+use Rattle.postscript_files.proofs.Varied.{with-numbers}
+
+-- the kept glyphs are placed at their new numbers
+pub record HasPlaced (retain : Bool) (named cff origins placed : List ℕ) : Type 0 where
+  pub kept : List ℕ
+  pub are : AreKept named cff kept
+  pub at : ArePlaced retain kept (length origins) placed
 
 -- what is known of a new face
 pub record Known (choice : Choice) (old new : Face) : Type 0 where
@@ -53,9 +62,11 @@ pub record Known (choice : Choice) (old new : Face) : Type 0 where
   pub kept : AreKeptPairs choice old.map pairs
   pub font : IsSubsetFont choice.retain_gids (named_of (glyphs_of choice) pairs) old.cff.now new.cff.now
   pub are : AreOrigins choice.retain_gids (named_of (glyphs_of choice) pairs) old.cff.now origins
-  pub cmap : IsMapOf (source_of choice.retain_gids old.cmap.now) pairs origins new.cmap.now
+  pub placed : List ℕ
+  pub at : HasPlaced choice.retain_gids (named_of (glyphs_of choice) pairs) old.cff.now origins placed
+  pub cmap : IsMapOf old.cmap.now pairs origins placed new.cmap.now
   pub hhea : IsWord new.hhea.now 34 (length origins)
-  pub hmtx : IsHmtxOf old origins new.hmtx.now
+  pub hmtx : IsHmtxOf old placed new.hmtx.now
   pub maxp : IsGlyphs new.maxp.now (length origins)
   pub map : IsBestMap new.cmap.now new.map
   pub advances : AreAdvancesOf new.hhea.now new.hmtx.now new.advances
@@ -65,21 +76,38 @@ keeps-number : (retain : Bool) (named cff origins : List ℕ) (i glyph : ℕ) �
 keeps-number true named cff origins i glyph are h = own-number named cff origins i glyph are h
 keeps-number false named cff origins i glyph are h = tt
 
+-- as many glyphs are placed as there are new ones
+many-placed : (choice : Choice) (old new : Face) (w : Known choice old new) → length w.placed ≡ length w.origins
+many-placed choice old new w =
+    placed-many choice.retain_gids (named_of (glyphs_of choice) w.pairs) old.cff.now w.origins w.at.kept w.placed w.are w.at.are w.at.at
+
+hhea-told : (choice : Choice) (old new : Face) (w : Known choice old new) → IsWord new.hhea.now 34 (length w.placed)
+hhea-told choice old new w = subst (IsWord new.hhea.now 34) (sym (many-placed choice old new w)) w.hhea
+
+is-placed : (choice : Choice) (old new : Face) (w : Known choice old new) (i glyph : ℕ) → Contains w.at.kept glyph →
+    IsOrigin w.origins i glyph → IsOrigin w.placed i glyph
+is-placed choice old new w i glyph there h =
+    placed-at choice.retain_gids (named_of (glyphs_of choice) w.pairs) old.cff.now w.origins w.at.kept w.placed w.are w.at.are w.at.at i glyph
+    there h
+
 has-same : (choice : Choice) (old new : Face) (w : Known choice old new) (glyph i : ℕ) →
     Contains (named_of (glyphs_of choice) w.pairs) glyph → IsOrigin w.origins i glyph → HasSame choice old new glyph i
-has-same choice old new w glyph i asked h = (
-  record {
-    drawn = λ was is opened made.
-        origin-like DrawsTheSame choice.retain_gids (named_of (glyphs_of choice) w.pairs) old.cff.now new.cff.now w.origins w.are w.font.drawn
-        glyph i asked h was is opened made;
-    told = λ was is opened made.
-        origin-like IsSameGlyph choice.retain_gids (named_of (glyphs_of choice) w.pairs) old.cff.now new.cff.now w.origins w.are w.font.same
-        glyph i asked h was is opened made;
-    advance = same-advance old new w.origins i glyph w.hmtx w.hhea w.advances h;
-    bearing = same-bearing old new w.origins i glyph w.hmtx w.hhea h;
-  },
-  keeps-number choice.retain_gids (named_of (glyphs_of choice) w.pairs) old.cff.now w.origins i glyph w.are h,
-)
+has-same choice old new w glyph i asked h =
+    let there : Contains w.at.kept glyph =
+    kept-there choice.retain_gids (named_of (glyphs_of choice) w.pairs) old.cff.now new.cff.now w.at.kept w.font w.at.are glyph asked in
+    let placed : IsOrigin w.placed i glyph = is-placed choice old new w i glyph there h in (
+      record {
+        drawn = λ was is opened made.
+            origin-like DrawsTheSame choice.retain_gids (named_of (glyphs_of choice) w.pairs) old.cff.now new.cff.now w.origins w.are w.font.drawn
+            glyph i asked h was is opened made;
+        told = λ was is opened made.
+            origin-like IsSameGlyph choice.retain_gids (named_of (glyphs_of choice) w.pairs) old.cff.now new.cff.now w.origins w.are w.font.same
+            glyph i asked h was is opened made;
+        advance = same-advance old new w.placed i glyph w.hmtx (hhea-told choice old new w) w.advances placed;
+        bearing = same-bearing old new w.placed i glyph w.hmtx (hhea-told choice old new w) placed;
+      },
+      keeps-number choice.retain_gids (named_of (glyphs_of choice) w.pairs) old.cff.now w.origins i glyph w.are h,
+    )
 
 origin-there : (choice : Choice) (old new : Face) (w : Known choice old new) (glyph : ℕ) →
     Contains (named_of (glyphs_of choice) w.pairs) glyph → (i : ℕ) × IsOrigin w.origins i glyph
@@ -158,7 +186,7 @@ counted-so choice old new w = record {
   font = λ view laid. many-glyphs choice.retain_gids (named_of (glyphs_of choice) w.pairs) old.cff.now new.cff.now w.origins w.font w.are view laid;
   maxp = w.maxp;
   hhea = w.hhea;
-  hmtx = w.hmtx.size ∙ ap (λ n. n * 4) (many-metrics old w.origins new.hmtx.now w.hmtx);
+  hmtx = w.hmtx.size ∙ ap (λ n. n * 4) (many-metrics old w.placed new.hmtx.now w.hmtx ∙ many-placed choice old new w);
 }
 
 -- a kept glyph is the same under its new number
@@ -166,6 +194,9 @@ same-kept-glyph : (choice : Choice) (old new : Face) (w : Known choice old new) 
     IsKeptGlyph choice old glyph → IsSame old new glyph i
 same-kept-glyph choice old new w i glyph h kept =
     let all = kept-for choice old.map kept.0 w.pairs old.cff.now kept.1 kept.2 w.kept kept.3 in
+    let same : kept.1 ≡ w.at.kept = one-order false (named_of (glyphs_of choice) w.pairs) old.cff.now kept.1 w.at.kept all w.at.are in
+    let placed : IsOrigin w.placed i glyph =
+    is-placed choice old new w i glyph (subst (λ (xs : List ℕ). Contains xs glyph) same kept.4) h in
     record {
       drawn = λ was is opened made.
           kept-like DrawsTheSame choice.retain_gids (named_of (glyphs_of choice) w.pairs) old.cff.now new.cff.now w.origins kept.1 w.are
@@ -173,8 +204,21 @@ same-kept-glyph choice old new w i glyph h kept =
       told = λ was is opened made.
           kept-like IsSameGlyph choice.retain_gids (named_of (glyphs_of choice) w.pairs) old.cff.now new.cff.now w.origins kept.1 w.are
           w.font.same all i glyph kept.4 h was is opened made;
-      advance = same-advance old new w.origins i glyph w.hmtx w.hhea w.advances h;
-      bearing = same-bearing old new w.origins i glyph w.hmtx w.hhea h;
+      advance = same-advance old new w.placed i glyph w.hmtx (hhea-told choice old new w) w.advances placed;
+      bearing = same-bearing old new w.placed i glyph w.hmtx (hhea-told choice old new w) placed;
+    }
+
+-- another glyph has the metrics of .notdef, if glyphs keep their numbers
+emptied : (choice : Choice) (old new : Face) (w : Known choice old new) (i : ℕ) → choice.retain_gids ≡ true → i < length w.origins →
+    (IsKeptGlyph choice old i → ⊥) → HasNotdefMetrics old new i
+emptied choice old new w i retain less other =
+    let spread : AreSpread w.at.kept (length w.origins) w.placed =
+    subst (λ (r : Bool). ArePlaced r w.at.kept (length w.origins) w.placed) retain w.at.at in
+    let placed = placed-empty w.at.kept w.placed (length w.origins) i spread less
+    (λ there. other (w.pairs, w.at.kept, w.kept, w.at.are, there)) in
+    record {
+      advance = same-advance old new w.placed i 0 w.hmtx (hhea-told choice old new w) w.advances placed;
+      bearing = same-bearing old new w.placed i 0 w.hmtx (hhea-told choice old new w) placed;
     }
 
 -- the map gives a kept character the new number of its glyph
@@ -198,38 +242,43 @@ in-order choice old new w origins h =
     subst (AreInOrder choice old new) (sym one) (record {
       counted = counted-so choice old new w;
       same = λ i glyph origin kept. same-kept-glyph choice old new w i glyph origin kept;
+      emptied = λ i retain less other. emptied choice old new w i retain less other;
       maps = λ char glyph i kept maps. char-number choice old new w char glyph i kept maps;
     })
 
 -- a new face whose tables these are
-pub known : (choice : Choice) (old new : Face) (pairs : List Mapping) (origins font : List ℕ) (made : Made) →
+pub known : (choice : Choice) (old new : Face) (pairs : List Mapping) (origins placed font : List ℕ) (made : Made) →
     AreKeptPairs choice old.map pairs → IsSubsetFont choice.retain_gids (named_of (glyphs_of choice) pairs) old.cff.now font →
-    AreOrigins choice.retain_gids (named_of (glyphs_of choice) pairs) old.cff.now origins → IsMade choice.retain_gids old pairs origins made →
+    AreOrigins choice.retain_gids (named_of (glyphs_of choice) pairs) old.cff.now origins →
+    HasPlaced choice.retain_gids (named_of (glyphs_of choice) pairs) old.cff.now origins placed → IsMade old pairs origins placed made →
     HasParts choice old.file font made new.file → (file : List ℕ) → IsFaceIn file 0 new → Known choice old new
-known choice old new pairs origins font made kept is are m has file read = record {
+known choice old new pairs origins placed font made kept is are at m has file read = record {
   pairs = pairs;
   origins = origins;
   kept = kept;
   font = subst (λ (xs : List ℕ). IsSubsetFont choice.retain_gids (named_of (glyphs_of choice) pairs) old.cff.now xs)
       (one-table new.file cff_tag font new.cff.now has.cff read.cff) is;
   are = are;
-  cmap = subst (λ (xs : List ℕ). IsMapOf (source_of choice.retain_gids old.cmap.now) pairs origins xs) (one-table new.file cmap_tag made.cmap.items new.cmap.now has.cmap read.cmap) m.cmap;
+  placed = placed;
+  at = at;
+  cmap = subst (λ (xs : List ℕ). IsMapOf old.cmap.now pairs origins placed xs) (one-table new.file cmap_tag made.cmap.items new.cmap.now has.cmap read.cmap) m.cmap;
   hhea = subst (λ (xs : List ℕ). IsWord xs 34 (length origins))
       (one-table new.file hhea_tag made.hhea.items new.hhea.now has.hhea read.hhea) m.hhea;
-  hmtx = subst (λ (xs : List ℕ). IsHmtxOf old origins xs) (one-table new.file hmtx_tag made.hmtx.items new.hmtx.now has.hmtx read.hmtx) m.hmtx;
+  hmtx = subst (λ (xs : List ℕ). IsHmtxOf old placed xs) (one-table new.file hmtx_tag made.hmtx.items new.hmtx.now has.hmtx read.hmtx) m.hmtx;
   maxp = subst (λ (xs : List ℕ). IsGlyphs xs (length origins))
       (one-table new.file maxp_tag made.maxp.items new.maxp.now has.maxp read.maxp) m.maxp;
   map = read.map;
   advances = read.advances;
 }
 
-pub subset-face : (choice : Choice) (old new : Face) (pairs : List Mapping) (origins font : List ℕ) (made : Made) →
+pub subset-face : (choice : Choice) (old new : Face) (pairs : List Mapping) (origins placed font : List ℕ) (made : Made) →
     AreKeptPairs choice old.map pairs → IsSubsetFont choice.retain_gids (named_of (glyphs_of choice) pairs) old.cff.now font →
-    AreOrigins choice.retain_gids (named_of (glyphs_of choice) pairs) old.cff.now origins → IsMade choice.retain_gids old pairs origins made →
+    AreOrigins choice.retain_gids (named_of (glyphs_of choice) pairs) old.cff.now origins →
+    HasPlaced choice.retain_gids (named_of (glyphs_of choice) pairs) old.cff.now origins placed → IsMade old pairs origins placed made →
     HasParts choice old.file font made new.file → (file : List ℕ) → IsFaceIn file 0 new → IsSubsetFace choice old new
 unfolding known
-subset-face choice old new pairs origins font made kept is are m has file read =
-    let w = known choice old new pairs origins font made kept is are m has file read in
+subset-face choice old new pairs origins placed font made kept is are at m has file read =
+    let w = known choice old new pairs origins placed font made kept is are at m has file read in
     record {
       named = named_of (glyphs_of choice) pairs;
       are = λ glyph h. named-for choice old.map pairs kept glyph h;
@@ -254,11 +303,13 @@ subset-face choice old new pairs origins font made kept is are m has file read =
         ascend = w.cmap.like.ascend w.cmap.is.ascend;
       };
       sequences = record {
-        origins = origins;
-        are = (pairs, kept, are);
         pairs = pairs;
-        kept = kept;
-        sequences = w.cmap.sequences;
+        are = kept;
+        kept = at.kept;
+        glyphs = at.are;
+        sequences = with-numbers old.cmap.now (chars_of pairs) (IsFirstIndex placed) (IsNewNumber choice.retain_gids at.kept) new.cmap.now
+            (new-numbers choice.retain_gids (named_of (glyphs_of choice) pairs) old.cff.now origins at.kept placed are at.are at.at)
+            w.cmap.sequences;
       };
       hhea = subst (λ (xs : List ℕ). KeepsBut 34 old.hhea.now xs)
           (one-table new.file hhea_tag made.hhea.items new.hhea.now has.hhea read.hhea) m.hhea_kept;
@@ -335,15 +386,15 @@ some-origin retain named cff flat origins is are =
     let there = h.1.there in omega (arith, there)
 
 -- the file is opened
-opened : (choice : Choice) (old : Face) (pairs : List Mapping) (origins font : List ℕ) (made : Made) (file : List ℕ) → 0 < length origins →
-    IsMade choice.retain_gids old pairs origins made → IsFileOfParts choice old.file font made file → (new : Face) × IsFaceIn file 0 new
-opened choice old pairs origins font made file some m it =
+opened : (choice : Choice) (old : Face) (pairs : List Mapping) (origins placed font : List ℕ) (made : Made) (file : List ℕ) → 0 < length origins →
+    length placed ≡ length origins → IsMade old pairs origins placed made → IsFileOfParts choice old.file font made file → (new : Face) × IsFaceIn file 0 new
+opened choice old pairs origins placed font made file some as_many m it =
     let face = a-face file it.opens.0 it.opens.1 in
     let has = it.is face.0 face.1 in
     let readable = m.cmap.like.read m.cmap.is.readable in
     let map = some-map made.cmap.items (place_at made.cmap.items readable.i)
     (bytes-after made.cmap.items (place_at made.cmap.items readable.i) m.cmap_bytes) readable.whole in
-    let many : length m.hmtx.metrics ≡ length origins = many-metrics old origins made.hmtx.items m.hmtx in
+    let many : length m.hmtx.metrics ≡ length origins = many-metrics old placed made.hmtx.items m.hmtx ∙ as_many in
     let told : HasAdvances made.hhea.items made.hmtx.items (length origins) =
     m.hmtx.read made.hhea.items (length origins) m.hhea some (omega (arith, many)) in (
       record {
@@ -376,27 +427,45 @@ opened choice old pairs origins font made file some m it =
       },
     )
 
-pub if-subset : (r : Result (Vec ℕ Global) Error) (choice : Choice) (old : Face) (pairs : List Mapping) (named origins font : List ℕ)
+-- placed glyphs are few
+pub few-by : (retain : Bool) (cff named xs ys origins kept placed : List ℕ) (count : ℕ) → xs ≡ named → ys ≡ named → count ≡ length origins →
+    AreKept xs cff kept → AreOrigins retain ys cff origins → ArePlaced retain kept count placed → AreFew origins → AreFew placed
+few-by retain cff named xs ys origins kept placed count of-xs of-ys counted of_kept are at few =
+    few-placed retain named cff origins kept placed (subst (λ (ns : List ℕ). AreOrigins retain ns cff origins) of-ys are)
+    (subst (λ (ns : List ℕ). AreKept ns cff kept) of-xs of_kept) (subst (λ n. ArePlaced retain kept n placed) counted at) few
+
+-- tables that are made of copies of these lists
+pub made-by : (old : Face) (ps pairs : List Mapping) (os origins xs placed : List ℕ) (made : Made) → ps ≡ pairs → os ≡ origins → xs ≡ placed →
+    IsMade old ps os xs made → IsMade old pairs origins placed made
+made-by old ps pairs os origins xs placed made same-pairs same-origins same m =
+    subst (λ (ys : List ℕ). IsMade old pairs origins ys made) same
+    (subst (λ (ys : List ℕ). IsMade old pairs ys xs made) same-origins
+    (subst (λ (qs : List Mapping). IsMade old qs os xs made) same-pairs m))
+
+pub if-subset : (r : Result (Vec ℕ Global) Error) (choice : Choice) (old : Face) (pairs : List Mapping) (named origins placed font : List ℕ)
     (made : Made) → AreKeptPairs choice old.map pairs → named ≡ named_of (glyphs_of choice) pairs →
     IsSubsetFont choice.retain_gids named old.cff.now font → KeepsWithin choice.limit named old.cff.now →
-    AreOrigins choice.retain_gids named old.cff.now origins →
-    IsMade choice.retain_gids old pairs origins made → IfOk r (λ file. IsFileOfParts choice old.file font made file.items) →
+    AreOrigins choice.retain_gids named old.cff.now origins → HasPlaced choice.retain_gids named old.cff.now origins placed →
+    IsMade old pairs origins placed made → IfOk r (λ file. IsFileOfParts choice old.file font made file.items) →
     IfOk r (λ file. IsCutFile choice old file.items)
-if-subset (Ok file) choice old pairs named origins font made kept same is within are m it =
+if-subset (Ok file) choice old pairs named origins placed font made kept same is within are at m it =
     let font-is : IsSubsetFont choice.retain_gids (named_of (glyphs_of choice) pairs) old.cff.now font =
     subst (λ (xs : List ℕ). IsSubsetFont choice.retain_gids xs old.cff.now font) same is in
     let origins-are : AreOrigins choice.retain_gids (named_of (glyphs_of choice) pairs) old.cff.now origins =
     subst (λ (xs : List ℕ). AreOrigins choice.retain_gids xs old.cff.now origins) same are in
+    let places : HasPlaced choice.retain_gids (named_of (glyphs_of choice) pairs) old.cff.now origins placed =
+    subst (λ (xs : List ℕ). HasPlaced choice.retain_gids xs old.cff.now origins placed) same at in
     record {
       within = (pairs, kept, subst (λ (xs : List ℕ). KeepsWithin choice.limit xs old.cff.now) same within);
       opens = it.opens;
       sound = it.sound;
-      there = opened choice old pairs origins font made file.items
-          (some-origin choice.retain_gids named old.cff.now font origins is are) m it;
+      there = opened choice old pairs origins placed font made file.items
+          (some-origin choice.retain_gids named old.cff.now font origins is are)
+          (placed-many choice.retain_gids named old.cff.now origins at.kept placed are at.are at.at) m it;
       is = λ new read.
-          subset-face choice old new pairs origins font made kept font-is origins-are m (it.is new.file read.read) file.items read;
+          subset-face choice old new pairs origins placed font made kept font-is origins-are places m (it.is new.file read.read) file.items read;
     }
-if-subset (Err e) choice old pairs named origins font made kept same is within are m it = tt
+if-subset (Err e) choice old pairs named origins placed font made kept same is within are at m it = tt
 
 pub subset-by : (r : Result (Vec ℕ Global) Error) (choice : Choice) (old : Face) →
     (choice.lenient ≡ false → NoneIsMissing old.map choice.chars.now) → IfOk r (λ file. IsCutFile choice old file.items) →
@@ -503,11 +572,11 @@ pub no-made-so : (e : Error) (choice : Choice) (old : Face) → IsUnmade old e �
 no-made-so e choice old h = unmade-so e choice old h
 
 -- the tables of a subset that was made
-tables-of : (choice : Choice) (old : Face) (pairs : List Mapping) (origins font : List ℕ) (made : Made) (tables : List Table) →
+tables-of : (choice : Choice) (old : Face) (pairs : List Mapping) (origins placed font : List ℕ) (made : Made) (tables : List Table) →
     AreKeptPairs choice old.map pairs → IsSubsetFont choice.retain_gids (named_of (glyphs_of choice) pairs) old.cff.now font →
-    AreFew origins → IsMade choice.retain_gids old pairs origins made → AreParts choice old.file font made tables →
+    AreFew placed → IsMade old pairs origins placed made → AreParts choice old.file font made tables →
     ((tag : ℕ) → tagged tables tag ≤ 1) → AreTablesOf choice old tables
-tables-of choice old pairs origins font made tables kept is few m parts once = record {
+tables-of choice old pairs origins placed font made tables kept is few m parts once = record {
   named = named_of (glyphs_of choice) pairs;
   are = λ glyph h. named-for choice old.map pairs kept glyph h;
   cff = (font, parts.cff, is);
@@ -524,7 +593,7 @@ tables-of choice old pairs origins font made tables kept is few m parts once = r
   hmtx = (
     made.hmtx.items,
     parts.hmtx,
-    let size = m.hmtx.size in let many = many-metrics old origins made.hmtx.items m.hmtx in let most = few.0 in
+    let size = m.hmtx.size in let many = many-metrics old placed made.hmtx.items m.hmtx in let most = few.0 in
         omega (arith, size, many, most),
   );
   maxp = (made.maxp.items, parts.maxp, m.maxp_kept.size);
@@ -535,29 +604,29 @@ tables-of choice old pairs origins font made tables kept is few m parts once = r
   once = once;
 }
 
-unwritten-so : (e : Error) (choice : Choice) (old : Face) (pairs : List Mapping) (origins font : List ℕ) (made : Made) →
+unwritten-so : (e : Error) (choice : Choice) (old : Face) (pairs : List Mapping) (origins placed font : List ℕ) (made : Made) →
     AreKeptPairs choice old.map pairs → IsSubsetFont choice.retain_gids (named_of (glyphs_of choice) pairs) old.cff.now font →
-    AreFew origins → IsMade choice.retain_gids old pairs origins made → NoFileOfParts choice old.file font made e → NoSubsetFrom choice old e
-unwritten-so Memory choice old pairs origins font made kept is few m h = tt
-unwritten-so TooLarge choice old pairs origins font made kept is few m h =
-    (h.0, tables-of choice old pairs origins font made h.0 kept is few m h.1 h.2, h.3)
-unwritten-so (SameTag tag) choice old pairs origins font made kept is few m h = h
-unwritten-so Cut choice old pairs origins font made kept is few m h = absurd h
-unwritten-so (File e) choice old pairs origins font made kept is few m h = absurd h
-unwritten-so (MissingTable tag) choice old pairs origins font made kept is few m h = absurd h
-unwritten-so NoMap choice old pairs origins font made kept is few m h = absurd h
-unwritten-so NoAdvances choice old pairs origins font made kept is few m h = absurd h
-unwritten-so (Font e) choice old pairs origins font made kept is few m h = absurd h
-unwritten-so Overlap choice old pairs origins font made kept is few m h = absurd h
-unwritten-so (MissingCharacter char) choice old pairs origins font made kept is few m h = absurd h
+    AreFew placed → IsMade old pairs origins placed made → NoFileOfParts choice old.file font made e → NoSubsetFrom choice old e
+unwritten-so Memory choice old pairs origins placed font made kept is few m h = tt
+unwritten-so TooLarge choice old pairs origins placed font made kept is few m h =
+    (h.0, tables-of choice old pairs origins placed font made h.0 kept is few m h.1 h.2, h.3)
+unwritten-so (SameTag tag) choice old pairs origins placed font made kept is few m h = h
+unwritten-so Cut choice old pairs origins placed font made kept is few m h = absurd h
+unwritten-so (File e) choice old pairs origins placed font made kept is few m h = absurd h
+unwritten-so (MissingTable tag) choice old pairs origins placed font made kept is few m h = absurd h
+unwritten-so NoMap choice old pairs origins placed font made kept is few m h = absurd h
+unwritten-so NoAdvances choice old pairs origins placed font made kept is few m h = absurd h
+unwritten-so (Font e) choice old pairs origins placed font made kept is few m h = absurd h
+unwritten-so Overlap choice old pairs origins placed font made kept is few m h = absurd h
+unwritten-so (MissingCharacter char) choice old pairs origins placed font made kept is few m h = absurd h
 
-pub no-written-so : (r : Result (Vec ℕ Global) Error) (choice : Choice) (old : Face) (pairs : List Mapping) (named origins font : List ℕ)
+pub no-written-so : (r : Result (Vec ℕ Global) Error) (choice : Choice) (old : Face) (pairs : List Mapping) (named origins placed font : List ℕ)
     (made : Made) → AreKeptPairs choice old.map pairs → named ≡ named_of (glyphs_of choice) pairs →
-    IsSubsetFont choice.retain_gids named old.cff.now font → AreFew origins → IsMade choice.retain_gids old pairs origins made →
+    IsSubsetFont choice.retain_gids named old.cff.now font → AreFew placed → IsMade old pairs origins placed made →
     IfErr r (λ e. NoFileOfParts choice old.file font made e) → IfErr r (λ e. NoSubsetFrom choice old e)
-no-written-so (Ok file) choice old pairs named origins font made kept same is few m h = tt
-no-written-so (Err e) choice old pairs named origins font made kept same is few m h =
-    unwritten-so e choice old pairs origins font made kept
+no-written-so (Ok file) choice old pairs named origins placed font made kept same is few m h = tt
+no-written-so (Err e) choice old pairs named origins placed font made kept same is few m h =
+    unwritten-so e choice old pairs origins placed font made kept
     (subst (λ (xs : List ℕ). IsSubsetFont choice.retain_gids xs old.cff.now font) same is) few m h
 
 -- the font of the named glyphs is refused

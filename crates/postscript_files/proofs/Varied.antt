@@ -16,7 +16,7 @@ use Rattle.postscript_sfnt_write.specs.Mappings.{AreTold, AreToldIn4, CharsRise,
 use Rattle.postscript_sfnt_write.specs.Records.{AllAscend, HasFourRecords, HasRecords, HasTwoRecords}
 use Rattle.postscript_sfnt_write.specs.Sequences.{AreClosed, IsWith}
 use Rattle.postscript_sfnt_write.specs.declared.mapping.Mapping.{Mapping}
-use Rattle.postscript_files.specs.Sequences.{HasDefault, HasKept, HasMapped, HasNoSequences, IsAdded, IsKept, IsMapLike, IsSequenceGlyph, IsSequencesOf, IsTooLong, KeepsSequences, char_of, chars_of, most_units}
+use Rattle.postscript_files.specs.Sequences.{HasDefault, HasKept, HasMapped, HasNoSequences, IsAdded, IsFirstIndex, IsKept, IsMapLike, IsSequenceGlyph, IsSequencesOf, IsTooLong, KeepsSequences, char_of, chars_of, most_units}
 use Rattle.std.specs.declared.alloc.Global.{Global}
 use Rattle.postscript_files.specs.Choices.{AreKeptPairs}
 use Rattle.postscript_files.specs.Subsets.{AreSequenceGlyphs}
@@ -155,7 +155,7 @@ written_none cmap records i it =
     ]
 
 -- neither table has sequences of these characters
-keeps_none : (old chars origins new : List ℕ) → HasNoSequences old → HasNoSequences new → HasKept old chars origins new
+keeps_none : (old chars origins new : List ℕ) → HasNoSequences old → HasNoSequences new → HasKept old chars (IsFirstIndex origins) new
 keeps_none old chars origins new a b = record {
   defaults = λ char selector. (λ h. absurd (b h.1.i h.1.here), λ h. absurd (a h.1.1.i h.1.1.here));
   mapped = λ char selector number. (λ h. absurd (b h.1.i h.1.here), λ h. absurd (a h.1.1.1.i h.1.1.1.here));
@@ -170,7 +170,7 @@ mapped_on : (cmap table : List ℕ) (char selector glyph : ℕ) → IsSequencesO
 mapped_on cmap table char selector glyph is h = subst (λ xs. IsMapped xs char selector glyph) (one_table cmap h.0 table h.1 is) h.2
 
 keeps_table : (old chars origins new table subtable : List ℕ) → IsSequencesOf old table → IsSequencesOf new subtable →
-    Keeps table chars origins subtable → HasKept old chars origins new
+    Keeps table chars origins subtable → HasKept old chars (IsFirstIndex origins) new
 keeps_table old chars origins new table subtable was is keeps = record {
   defaults = λ char selector. (
     λ h. (let k = (keeps.defaults char selector).0 (default_on new subtable char selector is h) in (k.0, (table, was, k.1))),
@@ -193,7 +193,7 @@ unfolding records_of
 no_records subtable short = omega (arith, short)
 
 keeps_empty : (old chars origins new table subtable : List ℕ) → IsSequencesOf old table → HasNoSequences new → records_of subtable ≡ 0 →
-    Keeps table chars origins subtable → HasKept old chars origins new
+    Keeps table chars origins subtable → HasKept old chars (IsFirstIndex origins) new
 keeps_empty old chars origins new table subtable was lacks empty keeps = record {
   defaults = λ char selector. (
     λ h. absurd (lacks h.1.i h.1.here),
@@ -239,9 +239,9 @@ plain_only plain subtable cmap records empty either = elim either [
 ]
 
 added_kept : (old chars origins plain subtable cmap table : List ℕ) → HasRecords plain → IsSequencesOf old table →
-    Keeps table chars origins subtable → IsAdded plain subtable cmap → HasKept old chars origins cmap
+    Keeps table chars origins subtable → IsAdded plain subtable cmap → HasKept old chars (IsFirstIndex origins) cmap
 added_kept old chars origins plain subtable cmap table records was keeps either = elim either [
-  | inl same ↦ subst (HasKept old chars origins) (sym same.1)
+  | inl same ↦ subst (HasKept old chars (IsFirstIndex origins)) (sym same.1)
       (keeps_empty old chars origins plain table subtable was (written_none plain records) (no_records subtable same.0) keeps)
   | inr w ↦
       let format = kept_format table chars origins subtable keeps in
@@ -249,7 +249,7 @@ added_kept old chars origins plain subtable cmap table records was keeps either 
 ]
 
 pub keeps_sequences : (old chars origins plain subtable cmap : List ℕ) → HasRecords plain → IsKept old chars origins subtable →
-    IsAdded plain subtable cmap → KeepsSequences old chars origins cmap
+    IsAdded plain subtable cmap → KeepsSequences old chars (IsFirstIndex origins) cmap
 keeps_sequences old chars origins plain subtable cmap records kept either = elim kept [
   | inl without ↦
       let none_now = plain_only plain subtable cmap records without.1 either in
@@ -265,6 +265,20 @@ keeps_sequences old chars origins plain subtable cmap records kept either = elim
     dropped = λ long. absurd (some.0 long);
   }
 ]
+
+-- the same numbers in other words
+pub with-numbers : (old chars : List ℕ) (IsOne IsOther : ℕ → ℕ → Type 0) (new : List ℕ) →
+    ((glyph number : ℕ) → IsOne glyph number ↔ IsOther glyph number) → KeepsSequences old chars IsOne new → KeepsSequences old chars IsOther new
+with-numbers old chars IsOne IsOther new same keeps = record {
+  kept = λ short. record {
+    defaults = (keeps.kept short).defaults;
+    mapped = λ char selector number. (
+      λ h. (let k = ((keeps.kept short).mapped char selector number).0 h in (k.0, (k.1.0, k.1.1, (same k.1.0 number).0 k.1.2))),
+      λ h. ((keeps.kept short).mapped char selector number).1 (h.0, (h.1.0, h.1.1, (same h.1.0 number).1 h.1.2)),
+    );
+  };
+  dropped = keeps.dropped;
+}
 
 -- the format of a subtable that is kept
 pub format_kept : (old chars origins subtable : List ℕ) → IsKept old chars origins subtable → 21 ≤ length subtable →

@@ -20,9 +20,9 @@ use Rattle.postscript_write.specs.Sources.{chosen}
 use Rattle.postscript_write.specs.declared.error.Error.{Error as Refusal}
 use Rattle.postscript_files.specs.Faces.{IsFaceIn, post_tag}
 use Rattle.postscript_files.specs.Measures.{metric_in}
-use Rattle.postscript_files.specs.Origins.{IsCutRefusedBy, IsOrigin, KeepsToLimit}
-use Rattle.postscript_files.specs.Renumbered.{AreNumbersOf, AreRenumbered, AreSmall}
-use Rattle.postscript_files.specs.Sequences.{IsMapLike, KeepsSequences, chars_of, source_of}
+use Rattle.postscript_files.specs.Origins.{AreSmall, IsCutRefusedBy, IsOrigin, KeepsToLimit}
+use Rattle.postscript_files.specs.Renumbered.{AreNumbersOf, AreRenumbered}
+use Rattle.postscript_files.specs.Sequences.{IsFirstIndex, IsMapLike, KeepsSequences, chars_of}
 use Rattle.postscript_files.specs.Subsets.{IsSubsetFace}
 use Rattle.postscript_files.specs.declared.choice.Choice.{Choice}
 use Rattle.postscript_files.specs.declared.error.Error.{Error}
@@ -57,12 +57,12 @@ pub record IsPlainMap (pairs : List Mapping) (origins cmap : List ℕ) : Type 0 
   pub closed : AreClosed cmap
   pub size : length cmap ≤ 64076 + length pairs * 12
 
--- the same with the variation sequences of these characters in the old table
-pub record IsMapOf (old : List ℕ) (pairs : List Mapping) (origins cmap : List ℕ) : Type 0 where
+-- the same with the variation sequences of these characters in the old table, whose glyphs are placed at their new numbers
+pub record IsMapOf (old : List ℕ) (pairs : List Mapping) (origins placed cmap : List ℕ) : Type 0 where
   pub plain : List ℕ
   pub is : IsPlainMap pairs origins plain
   pub like : IsMapLike plain cmap
-  pub sequences : KeepsSequences old (chars_of pairs) origins cmap
+  pub sequences : KeepsSequences old (chars_of pairs) (IsFirstIndex placed) cmap
 
 -- a `post` table without names, with the other values of the old one, or zeros
 pub record IsPostOf (file : FontFile) (post : List ℕ) : Type 0 where
@@ -70,23 +70,23 @@ pub record IsPostOf (file : FontFile) (post : List ℕ) : Type 0 where
   pub kept : (was : List ℕ) → IsTableOf file post_tag was → 32 ≤ length was → drop 4 post ≡ drop 4 (take 32 was)
   pub lacking : ((was : List ℕ) → IsTableOf file post_tag was → length was < 32) → drop 4 post ≡ replicate 28 0
 
--- an `hmtx` table with the metrics of the origins
-pub record IsHmtxOf (face : Face) (origins hmtx : List ℕ) : Type 0 where
+-- an `hmtx` table with the metrics of these glyphs
+pub record IsHmtxOf (face : Face) (glyphs hmtx : List ℕ) : Type 0 where
   pub metrics : List Metric
-  pub are : metrics ≡ map (metric_in face.advances face.hmtx.now (number_at face.hhea.now 34 2)) origins
+  pub are : metrics ≡ map (metric_in face.advances face.hmtx.now (number_at face.hhea.now 34 2)) glyphs
   pub size : length hmtx ≡ length metrics * 4
   pub read : CanBeRead hmtx metrics
   pub advances : TellsAdvances hmtx metrics
   pub bearings : TellsBearings hmtx metrics
 
--- the tables that are made for characters and for the origins of the new glyphs
-pub record IsMade (retain : Bool) (face : Face) (pairs : List Mapping) (origins : List ℕ) (made : Made) : Type 0 where
+-- the tables that are made for characters, for the origins of the new glyphs, and for the kept glyphs at their new numbers
+pub record IsMade (face : Face) (pairs : List Mapping) (origins placed : List ℕ) (made : Made) : Type 0 where
   pub small : AreSmall origins
-  pub cmap : IsMapOf (source_of retain face.cmap.now) pairs origins made.cmap.items
+  pub cmap : IsMapOf face.cmap.now pairs origins placed made.cmap.items
   pub cmap_bytes : AreBytes made.cmap.items
   pub hhea : IsWord made.hhea.items 34 (length origins)
   pub hhea_kept : KeepsBut 34 face.hhea.now made.hhea.items
-  pub hmtx : IsHmtxOf face origins made.hmtx.items
+  pub hmtx : IsHmtxOf face placed made.hmtx.items
   pub maxp : IsGlyphs made.maxp.items (length origins)
   pub maxp_kept : KeepsBut 4 face.maxp.now made.maxp.items
   pub post : IsPostOf face.file made.post.items

@@ -37,9 +37,13 @@ IsNamed choice face glyph = Contains (glyphs_of choice) glyph ⊎ ((char : ℕ) 
 abbrev pub AreAllNamed : Choice → Face → (named : List ℕ) → Type 0
 AreAllNamed choice face named = (glyph : ℕ) → Contains named glyph ↔ IsNamed choice face glyph
 
+-- each number is below 65,536
+abbrev pub AreSmall : (numbers : List ℕ) → Type 0
+AreSmall numbers = (k : ℕ) → k < length numbers → slice_index_or numbers k 0 < 65536
+
 -- fewer than 65,536 numbers, each of them below 65,536
 abbrev pub AreFew : (numbers : List ℕ) → Type 0
-AreFew numbers = (length numbers < 65536) × ((k : ℕ) → k < length numbers → slice_index_or numbers k 0 < 65536)
+AreFew numbers = (length numbers < 65536) × AreSmall numbers
 
 -- these are the origins of the glyphs of a subset
 abbrev pub AreOriginsOf : Choice → Face → (origins : List ℕ) → Type 0

@@ -1,5 +1,6 @@
 -- The new numbers of glyphs, listed by their old numbers. Only private contracts use this file.
-use Rattle.std.specs.Prelude.{◌≡◌, ℕ, ◌<◌, List, length, map, slice_index_or}
+use Rattle.std.specs.Prelude.{◌≡◌, ℕ, ◌<◌, Bool, true, false, List, length, map, slice_index_or}
+use Rattle.std.specs.List.{Contains}
 use Rattle.postscript_sfnt_write.specs.declared.mapping.Mapping.{Mapping}
 use Rattle.postscript_files.specs.Origins.{IsOrigin}
 
@@ -21,6 +22,13 @@ AreRenumbered pairs numbers all = all ≡ map (renumber numbers) pairs
 abbrev pub AreBelow : (origins : List ℕ) → (above : ℕ) → Type 0
 AreBelow origins above = (k : ℕ) → k < length origins → slice_index_or origins k 0 < above
 
--- all origins have numbers of two bytes
-abbrev pub AreSmall : (origins : List ℕ) → Type 0
-AreSmall origins = AreBelow origins 65536
+-- a list of this length: each of these glyphs is at its own index, and 0 is at the other indices
+pub record AreSpread (glyphs : List ℕ) (count : ℕ) (spread : List ℕ) : Type 0 where
+  pub many : length spread ≡ count
+  pub each : (glyph : ℕ) → glyph < count → Contains glyphs glyph → slice_index_or spread glyph 0 ≡ glyph
+  pub only : (i : ℕ) → 0 < slice_index_or spread i 0 → (slice_index_or spread i 0 ≡ i) × Contains glyphs i
+
+-- the kept glyphs at their new numbers
+abbrev pub ArePlaced : (retain : Bool) → (kept : List ℕ) → (count : ℕ) → (placed : List ℕ) → Type 0
+ArePlaced true kept count placed = AreSpread kept count placed
+ArePlaced false kept count placed = placed ≡ kept

@@ -38,23 +38,33 @@ abbrev pub IsSequenceGlyph : (cmap chars : List ℕ) → (glyph : ℕ) → Type 
 IsSequenceGlyph cmap chars glyph = (IsTooLong cmap chars → ⊥)
     × ((char : ℕ) × (selector : ℕ) × Contains chars char × HasMapped cmap char selector glyph)
 
--- the sequence of one of these characters has a glyph, and this is the first new number of the glyph
-abbrev pub IsKeptSequence : (old chars origins : List ℕ) → (char selector number : ℕ) → Type 0
-IsKeptSequence old chars origins char selector number =
-    Contains chars char × ((glyph : ℕ) × HasMapped old char selector glyph × (new_number origins glyph ≡ Some number))
+-- the first index of a glyph in a list
+abbrev pub IsFirstIndex : (glyphs : List ℕ) → (glyph number : ℕ) → Type 0
+IsFirstIndex glyphs glyph number = new_number glyphs glyph ≡ Some number
 
--- The new table says of each sequence of these characters what the old one says, under new numbers. It has no other sequences.
-pub record HasKept (old chars origins new : List ℕ) : Type 0 where
+-- the number of a kept glyph in the subset: its old one if glyphs keep their numbers, otherwise its index among the kept glyphs
+abbrev pub IsNewNumber : (retain : Bool) → (kept : List ℕ) → (glyph number : ℕ) → Type 0
+IsNewNumber true kept glyph number = Contains kept glyph × (number ≡ glyph)
+IsNewNumber false kept glyph number = IsFirstIndex kept glyph number
+
+-- the sequence of one of these characters has a glyph, and the glyph has this new number
+abbrev pub IsKeptSequence : (old chars : List ℕ) → (IsNew : ℕ → ℕ → Type 0) → (char selector number : ℕ) → Type 0
+IsKeptSequence old chars IsNew char selector number =
+    Contains chars char × ((glyph : ℕ) × HasMapped old char selector glyph × IsNew glyph number)
+
+-- The new table says of each sequence of these characters what the old one says, under new numbers. It has no sequences of glyphs without new
+-- numbers, and none of other characters.
+pub record HasKept (old chars : List ℕ) (IsNew : ℕ → ℕ → Type 0) (new : List ℕ) : Type 0 where
   pub defaults : (char selector : ℕ) → HasDefault new char selector ↔ (Contains chars char × HasDefault old char selector)
-  pub mapped : (char selector number : ℕ) → HasMapped new char selector number ↔ IsKeptSequence old chars origins char selector number
+  pub mapped : (char selector number : ℕ) → HasMapped new char selector number ↔ IsKeptSequence old chars IsNew char selector number
 
 -- the table has no sequences
 abbrev pub HasNoSequences : (cmap : List ℕ) → Type 0
 HasNoSequences cmap = (i : ℕ) → IsSubtable cmap i → ⊥
 
 -- the new table has the sequences of these characters, or none if they exceed the limit
-pub record KeepsSequences (old chars origins new : List ℕ) : Type 0 where
-  pub kept : (IsTooLong old chars → ⊥) → HasKept old chars origins new
+pub record KeepsSequences (old chars : List ℕ) (IsNew : ℕ → ℕ → Type 0) (new : List ℕ) : Type 0 where
+  pub kept : (IsTooLong old chars → ⊥) → HasKept old chars IsNew new
   pub dropped : IsTooLong old chars → HasNoSequences new
 
 -- The subtable of the sequences of these characters under new numbers. It is empty if the old table has no sequences, or if they exceed the
@@ -63,7 +73,7 @@ abbrev pub IsKept : (old chars origins subtable : List ℕ) → Type 0
 IsKept old chars origins subtable = ((HasNoSequences old ⊎ IsTooLong old chars) × (subtable ≡ []))
     ⊎ ((IsTooLong old chars → ⊥) × ((table : List ℕ) × IsSequencesOf old table × Keeps table chars origins subtable))
 
--- A subtable is added if it has 21 bytes, as one record needs.
+-- A subtable is added if it has at least 21 bytes, as one record needs.
 abbrev pub IsAdded : (plain subtable cmap : List ℕ) → Type 0
 IsAdded plain subtable cmap = ((length subtable < 21) × (cmap ≡ plain)) ⊎ ((21 ≤ length subtable) × IsWith plain subtable cmap)
 
@@ -80,11 +90,6 @@ pub record IsMapLike (plain cmap : List ℕ) : Type 0 where
   pub told_in_4 : (mappings : List Mapping) → AreToldIn4 plain mappings → AreToldIn4 cmap mappings
   pub format4 : HasFormat4 plain → HasFormat4 cmap
   pub ascend : AllAscend plain → AllAscend cmap
-
--- the table whose sequences a subset keeps: none if glyphs keep their numbers
-abbrev pub source_of : (retain : Bool) → (cmap : List ℕ) → List ℕ
-source_of true cmap = []
-source_of false cmap = cmap
 
 -- the characters of mappings
 abbrev pub char_of : Mapping → ℕ

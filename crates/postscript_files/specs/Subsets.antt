@@ -17,7 +17,7 @@ use Rattle.postscript_sfnt_write.specs.declared.mapping.Mapping.{Mapping}
 use Rattle.postscript_view.specs.Contents.{View}
 use Rattle.postscript_view.specs.Layout.{IsLaidOut}
 use Rattle.postscript_view.specs.declared.font.FontView.{FontView}
-use Rattle.postscript_write.specs.Components.{IsOpened, IsSubset}
+use Rattle.postscript_write.specs.Components.{AreKept, IsOpened, IsSubset}
 use Rattle.postscript_write.specs.Drawings.{DrawsKept, DrawsTheSame}
 use Rattle.postscript_write.specs.Kept.{HasAllBy}
 use Rattle.postscript_write.specs.Making.{IsFontBy}
@@ -28,7 +28,7 @@ use Rattle.postscript_files.specs.Copies.{AreTooLarge, HasCopy, IsListed, tagged
 use Rattle.postscript_files.specs.Faces.{IsFaceIn, IsNeeded, NoFaceIn, cff_tag, cmap_tag, hhea_tag, hmtx_tag, maxp_tag, post_tag}
 use Rattle.postscript_files.specs.Measures.{bearing_in}
 use Rattle.postscript_files.specs.Origins.{AreOriginsOf, IsCutRefusedBy, IsKeptGlyph, IsOrigin, KeepsToLimit}
-use Rattle.postscript_files.specs.Sequences.{IsSequenceGlyph, KeepsSequences, MayHaveAdded, chars_of, source_of}
+use Rattle.postscript_files.specs.Sequences.{IsNewNumber, IsSequenceGlyph, KeepsSequences, MayHaveAdded, chars_of}
 use Rattle.postscript_files.specs.Sound.{IsSoundFont}
 use Rattle.postscript_files.specs.declared.choice.Choice.{Choice}
 use Rattle.postscript_files.specs.declared.choice.Given.{Given}
@@ -85,11 +85,17 @@ pub record AreCounted (new : Face) (count : ℕ) : Type 0 where
   pub hhea : IsWord new.hhea.now 34 count
   pub hmtx : length new.hmtx.now ≡ count * 4
 
--- New glyph i is old glyph origins[i], and there are no others. If glyphs keep their numbers, this is said of the kept ones. The best map
--- gives each kept character the index of its old glyph.
+-- the advance in `hmtx` and the left side bearing are those of .notdef
+pub record HasNotdefMetrics (old new : Face) (i : ℕ) : Type 0 where
+  pub advance : advance_in new.advances i ≡ advance_in old.advances 0
+  pub bearing : bearing_of new i ≡ bearing_of old 0
+
+-- New glyph i is old glyph origins[i], and there are no others. If glyphs keep their numbers, this is said of the kept ones, and the others have
+-- the metrics of .notdef. The best map gives each kept character the index of its old glyph.
 pub record AreInOrder (choice : Choice) (old new : Face) (origins : List ℕ) : Type 0 where
   pub counted : AreCounted new (length origins)
   pub same : (i glyph : ℕ) → IsOrigin origins i glyph → IsKeptGlyph choice old glyph → IsSame old new glyph i
+  pub emptied : (i : ℕ) → choice.retain_gids ≡ true → i < length origins → (IsKeptGlyph choice old i → ⊥) → HasNotdefMetrics old new i
   pub maps : (char glyph i : ℕ) → IsKept choice old.map char glyph → Maps new.map char i → IsOrigin origins i glyph
 
 -- The `post` table has version 3.0, which has no names. Its other values are those of the old one, if this has 32 bytes, otherwise 0.
@@ -127,14 +133,14 @@ pub record IsCmap (new : Face) : Type 0 where
   pub records : HasRecords plain
   pub ascend : AllAscend new.cmap.now
 
--- The `cmap` table has the variation sequences of the kept characters, under new numbers, as far as their glyphs are kept. It has none if glyphs
--- keep their numbers.
+-- The `cmap` table has the variation sequences of the kept characters: all without a glyph of their own, and those whose glyph is kept, under
+-- its new number. It has no others.
 pub record HasSequences (choice : Choice) (old new : Face) : Type 0 where
-  pub origins : List ℕ
-  pub are : AreOriginsOf choice old origins
   pub pairs : List Mapping
-  pub kept : AreKeptPairs choice old.map pairs
-  pub sequences : KeepsSequences (source_of choice.retain_gids old.cmap.now) (chars_of pairs) origins new.cmap.now
+  pub are : AreKeptPairs choice old.map pairs
+  pub kept : List ℕ
+  pub glyphs : AreKept (named_of (glyphs_of choice) pairs) old.cff.now kept
+  pub sequences : KeepsSequences old.cmap.now (chars_of pairs) (IsNewNumber choice.retain_gids kept) new.cmap.now
 
 -- the glyphs of the variation sequences of kept characters
 abbrev pub AreSequenceGlyphs : Choice → Face → (glyphs : List ℕ) → Type 0

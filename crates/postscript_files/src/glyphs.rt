@@ -1,6 +1,6 @@
 //! The glyphs of a subset, under their old numbers.
 ghost use Rattle.std.specs.Prelude.{◌≡◌, IfOk, IfErr};
-ghost use Rattle.postscript_files.specs.Origins.{AreAllNamed, AreFew, AreOriginsOf, HasGlyphs, IsUnopened, NoOriginsOf};
+ghost use Rattle.postscript_files.specs.Origins.{AreAllNamed, AreFew, AreOriginsOf, AreSmall, HasGlyphs, IsUnopened, NoOriginsOf};
 ghost use Rattle.postscript_files.specs.Subsets.{AreSequenceGlyphs};
 ghost use Rattle.postscript_files.specs.declared.error.Error.TheVariants as errors;
 
@@ -51,7 +51,7 @@ impl Face<'_> {
     /// be in the list more than once. There are none if the sequences cost more than 20,000,000 units: for each selector
     /// one, and one for each kept character and for each range and mapping of the selector.
     ///
-    /// A subset keeps a sequence only if its glyph is kept, so add these glyphs to `choice.unmapped`.
+    /// [`Face::subset`] keeps a sequence only if its glyph is kept, so add these glyphs to `choice.unmapped`.
     ///
     /// # Errors
     ///
@@ -59,6 +59,8 @@ impl Face<'_> {
     pub fn sequence_glyphs(&self, alloc: Global, choice: &Choice<'_>) -> Result<Vec<usize>>
         // A glyph is in the list exactly if the sequence of a kept character has it, unless the limit is exceeded.
         ensures glyphs { IfOk result (λ glyphs. AreSequenceGlyphs choice.now self.now glyphs.items) }
+        // Each is below 65,536.
+        ensures small { IfOk result (λ glyphs. AreSmall glyphs.items) }
         // The only error is `Memory`.
         ensures memory { IfErr result (λ e. e ≡ errors.Memory) }
     {

@@ -14,7 +14,8 @@
 //!   `head`. There are no other tables.
 //! - `subset_file`: the best map has a glyph for each kept character, and no glyph for other characters. This glyph is
 //!   drawn as the old one. It has the same name or CID, the same advance width and the same left side bearing. A subtable of
-//!   format 4 has the same glyphs for the characters below U+FFFF, or none if these form more than 8,000 segments. `CFF `,
+//!   format 4 has the same glyphs for the characters below U+FFFF, or none if these form more than 8,000 segments. The
+//!   variation sequences of kept characters are there exactly if their glyphs are kept, under the new numbers. `CFF `,
 //!   `maxp`, `hhea` and `hmtx` have the same number of glyphs. Tables of the choice are copied byte for byte, apart from
 //!   `checkSumAdjustment`. There are no other tables. New glyph `i` is the old glyph at index `i` of the list that
 //!   [`Face::origins`] returns.

@@ -2,7 +2,7 @@
 ghost use Rattle.std.specs.Prelude.{◌≡◌, ℕ, ◌+◌, ◌*◌, ◌<◌, ◌≤◌, length, map, IfOk, IfErr};
 ghost use Rattle.postscript_base.specs.Index.{number_at as the_number};
 ghost use Rattle.postscript_files.specs.Measures.{bearing_in, bearing_place, metric_in};
-ghost use Rattle.postscript_files.specs.Renumbered.{AreSmall};
+ghost use Rattle.postscript_files.specs.Origins.{AreSmall};
 ghost use Rattle.postscript_files.specs.declared.error.Error.TheVariants as errors;
 
 use crate::error::Result;

@@ -1,7 +1,7 @@
 //! The new numbers of glyphs.
-ghost use Rattle.std.specs.Prelude.{◌≡◌, ℕ, ◌<◌, ◌≤◌, ◌^◌, length, slice_index_or, IfOk, IfErr, OnOk};
+ghost use Rattle.std.specs.Prelude.{◌≡◌, ℕ, ◌<◌, ◌≤◌, ◌^◌, length, slice_index_or, slice_set, IfOk, IfErr, OnOk};
 ghost use Rattle.postscript_files.specs.Origins.{AreFew};
-ghost use Rattle.postscript_files.specs.Renumbered.{AreBelow, AreNumbersOf, AreRenumbered};
+ghost use Rattle.postscript_files.specs.Renumbered.{AreBelow, AreNumbersOf, AreRenumbered, AreSpread};
 ghost use Rattle.postscript_files.specs.declared.error.Error.TheVariants as errors;
 
 use crate::error::Result;
@@ -56,6 +56,27 @@ pub(crate) fn renumbered(alloc: Global, pairs: &[Mapping], numbers: &[u16]) -> R
             char: pair.char,
             glyph: number_of(numbers, pair.glyph),
         })?;
+    }
+    Ok(all)
+}
+
+/// Sets the item at the index of a glyph to the glyph, if there is one.
+fn place(all: &mut Vec<usize>, glyph: usize)
+    ensures { all.new.items ≡ slice_set all.old.items glyph glyph }
+{
+    if glyph < all.len() {
+        all[glyph] = glyph;
+    }
+}
+
+/// Returns this number of items. Each of these glyphs is at its own index, and the other items are 0.
+pub(crate) fn spread(alloc: Global, glyphs: &[usize], count: usize) -> Result<Vec<usize>>
+    ensures spread { IfOk result (λ all. AreSpread glyphs.now count all.items) }
+    ensures memory { IfErr result (λ e. e ≡ errors.Memory) }
+{
+    let mut all = vec![in alloc; 0usize; count]?;
+    for glyph in glyphs {
+        place(&mut all, *glyph);
     }
     Ok(all)
 }

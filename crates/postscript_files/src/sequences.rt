@@ -7,8 +7,8 @@ ghost use Rattle.postscript_sequences.specs.Sequences.{AreAscending, IsGlyphOf, 
 ghost use Rattle.postscript_sfnt_write.specs.Mappings.{CharsRise};
 ghost use Rattle.postscript_sfnt_write.specs.Records.{HasRecords};
 ghost use Rattle.postscript_sfnt_write.specs.Sequences.{AreClosed};
-ghost use Rattle.postscript_files.specs.Origins.{AreFew};
-ghost use Rattle.postscript_files.specs.Sequences.{HasNoSequences, IsAdded, IsKept, IsMapLike, IsSequenceGlyph, IsSequencesOf, IsTooLong, KeepsSequences, chars_of as the_chars};
+ghost use Rattle.postscript_files.specs.Origins.{AreFew, AreSmall};
+ghost use Rattle.postscript_files.specs.Sequences.{HasNoSequences, IsAdded, IsFirstIndex, IsKept, IsMapLike, IsSequenceGlyph, IsSequencesOf, IsTooLong, KeepsSequences, chars_of as the_chars};
 ghost use Rattle.postscript_files.specs.declared.error.Error.TheVariants as errors;
 
 use crate::error::{Error, Result};
@@ -38,6 +38,7 @@ fn chars_of(alloc: Global, pairs: &[Mapping]) -> Result<Vec<u32>>
 /// Returns numbers of glyphs without their bound.
 fn wide(alloc: Global, glyphs: &[u16]) -> Result<Vec<usize>>
     ensures same { IfOk result (λ wide. wide.items ≡ glyphs.now) }
+    ensures small { IfOk result (λ wide. AreSmall wide.items) }
     ensures memory { IfErr result (λ e. e ≡ errors.Memory) }
 {
     let mut wide = Vec::new(alloc);
@@ -86,6 +87,7 @@ fn glyphs_of(alloc: Global, sequences: &Sequences<'_>, chars: &[u32]) -> Result<
     requires { AreAscending chars.now }
     ensures exact { IfOk result (λ glyphs. (glyph : ℕ) →
         Contains glyphs.items glyph ↔ IsGlyphOf (table_of sequences.now) chars.now glyph) }
+    ensures small { IfOk result (λ glyphs. AreSmall glyphs.items) }
     ensures memory { IfErr result (λ e. e ≡ errors.Memory) }
 {
     let mut limit = LIMIT;
@@ -104,6 +106,8 @@ pub(crate) fn sequence_glyphs(alloc: Global, cmap: &[u8], pairs: &[Mapping]) -> 
     // The list has exactly the glyphs of sequences of these characters, or none if the sequences exceed the limit.
     ensures exact { IfOk result (λ glyphs. (glyph : ℕ) →
         Contains glyphs.items glyph ↔ IsSequenceGlyph cmap.now (the_chars pairs.now) glyph) }
+    // Each is below 65,536.
+    ensures small { IfOk result (λ glyphs. AreSmall glyphs.items) }
     // The only error is `Memory`.
     ensures memory { IfErr result (λ e. e ≡ errors.Memory) }
 {
@@ -165,26 +169,26 @@ fn added(alloc: Global, plain: Vec<u8>, subtable: &[u8]) -> Result<Vec<u8>>
     }
 }
 
-/// Adds the variation sequences of characters, under new numbers, to a written `cmap` table. They are dropped if they cost
-/// more than the limit.
+/// Adds the variation sequences of characters to a written `cmap` table, under the first indices of their glyphs in a list.
+/// They are dropped if they cost more than the limit.
 pub(crate) fn with_kept(
     alloc: Global,
     old: &[u8],
     pairs: &[Mapping],
-    origins: &[usize],
+    glyphs: &[usize],
     plain: Vec<u8>,
 ) -> Result<Vec<u8>>
     requires rise { CharsRise pairs.now }
-    requires few { AreFew origins.now }
+    requires few { AreFew glyphs.now }
     requires closed { AreClosed plain.items }
     requires records { HasRecords plain.items }
     // The new table has exactly the sequences of these characters, under new numbers, or none if they exceed the limit.
-    ensures sequences { IfOk result (λ cmap. KeepsSequences old.now (the_chars pairs.now) origins.now cmap.items) }
+    ensures sequences { IfOk result (λ cmap. KeepsSequences old.now (the_chars pairs.now) (IsFirstIndex glyphs.now) cmap.items) }
     // Its other subtables are those of the written table.
     ensures map { IfOk result (λ cmap. IsMapLike plain.items cmap.items) }
     // The only error is `Memory`.
     ensures memory { IfErr result (λ e. e ≡ errors.Memory) }
 {
-    let subtable = subtable_of(alloc, old, pairs, origins)?;
+    let subtable = subtable_of(alloc, old, pairs, glyphs)?;
     added(alloc, plain, &subtable)
 }

@@ -12,9 +12,8 @@ ghost use Rattle.postscript_write.specs.declared.error.Error.{Error as Refusal};
 ghost use Rattle.postscript_files.specs.Copies.{IsListed};
 ghost use Rattle.postscript_files.specs.Listed.{Adds, AreCopiedTo, AreGivenTo, AreMade, CountsCopied, CountsGiven, IsFileOfParts, IsUnmade, NoFileOfParts, Puts};
 ghost use Rattle.postscript_files.specs.Made.{AreBytes, HasNoOrigins, IsCutFile, IsHmtxOf, IsMade, IsMapOf, IsPlainMap, IsPostOf};
-ghost use Rattle.postscript_files.specs.Origins.{AreFew, AreOrigins, IsCutRefusedBy, IsUnopened};
-ghost use Rattle.postscript_files.specs.Renumbered.{AreSmall};
-ghost use Rattle.postscript_files.specs.Sequences.{source_of as the_source};
+ghost use Rattle.postscript_files.specs.Origins.{AreFew, AreOrigins, AreSmall, IsCutRefusedBy, IsUnopened};
+ghost use Rattle.postscript_files.specs.Renumbered.{ArePlaced};
 ghost use Rattle.postscript_files.specs.Subsets.{IsCopied, IsGivenTag, IsSubsetFile, IsSubsetFont, IsSubsetOf, NoSubsetBy, NoSubsetFrom, NoSubsetOf};
 ghost use Rattle.postscript_files.specs.declared.error.Error.TheVariants as errors;
 
@@ -22,7 +21,7 @@ use crate::choice::{Choice, Given, kept_pairs, named, refuse_missing};
 use crate::error::{Error, Result};
 use crate::face::Face;
 use crate::metrics::metrics;
-use crate::numbers::{numbers_of, renumbered};
+use crate::numbers::{numbers_of, renumbered, spread};
 use crate::sequences::with_kept;
 use crate::tables::{file_with, table_of};
 use postscript_sfnt::FontFile;
@@ -104,10 +103,10 @@ fn origins_by(
     alloc: Global,
     cff: &[u8],
     named: &[usize],
-    kept: Vec<usize>,
+    kept: &[usize],
     retain_gids: bool,
 ) -> Result<Vec<usize>>
-    requires kept { AreKept named.now cff.now kept.items }
+    requires kept { AreKept named.now cff.now kept.now }
     ensures are { IfOk result (λ origins. AreOrigins retain_gids named.now cff.now origins.items) }
     ensures few { IfOk result (λ origins. AreFew origins.items) }
     ensures refused { IfErr result (λ e. IsUnopened cff.now e) }
@@ -115,6 +114,19 @@ fn origins_by(
     are_bytes(cff);
     if retain_gids {
         every(alloc, cff)
+    } else {
+        let copy = Vec::from_slice(alloc, kept)?;
+        Ok(copy)
+    }
+}
+
+/// Returns the kept glyphs, each at its new number, with `.notdef` between them. `count` is the number of new glyphs.
+fn placed(alloc: Global, kept: Vec<usize>, count: usize, retain_gids: bool) -> Result<Vec<usize>>
+    ensures placed { IfOk result (λ glyphs. ArePlaced retain_gids kept.items count glyphs.items) }
+    ensures memory { IfErr result (λ e. e ≡ errors.Memory) }
+{
+    if retain_gids {
+        spread(alloc, &kept, count)
     } else {
         Ok(kept)
     }
@@ -163,28 +175,35 @@ fn plain_map_of(alloc: Global, pairs: &[Mapping], origins: &[usize]) -> Result<V
 }
 
 /// Writes the `cmap` table of characters, with the new numbers of their glyphs, and with the variation sequences of these
-/// characters in the old table.
-fn map_of(alloc: Global, old: &[u8], pairs: &[Mapping], origins: &[usize]) -> Result<Vec<u8>>
+/// characters in the old table, as far as their glyphs are in `placed`.
+fn map_of(
+    alloc: Global,
+    old: &[u8],
+    pairs: &[Mapping],
+    origins: &[usize],
+    placed: &[usize],
+) -> Result<Vec<u8>>
     requires rise { CharsRise pairs.now }
     requires few { AreFew origins.now }
-    ensures map { IfOk result (λ cmap. IsMapOf old.now pairs.now origins.now cmap.items) }
+    requires low { AreFew placed.now }
+    ensures map { IfOk result (λ cmap. IsMapOf old.now pairs.now origins.now placed.now cmap.items) }
     ensures bytes { IfOk result (λ cmap. AreBytes cmap.items) }
     ensures memory { IfErr result (λ e. e ≡ errors.Memory) }
 {
     let plain = plain_map_of(alloc, pairs, origins)?;
-    let cmap = with_kept(alloc, old, pairs, origins, plain)?;
+    let cmap = with_kept(alloc, old, pairs, placed, plain)?;
     are_bytes(cmap.as_slice());
     Ok(cmap)
 }
 
-/// Writes the `hmtx` table, with the metrics of the origins.
-fn hmtx_of(alloc: Global, face: &Face<'_>, origins: &[usize]) -> Result<Vec<u8>>
+/// Writes the `hmtx` table, with the metrics of these glyphs.
+fn hmtx_of(alloc: Global, face: &Face<'_>, glyphs: &[usize]) -> Result<Vec<u8>>
     requires room { 36 ≤ length face.now.hhea.now }
-    requires small { AreSmall origins.now }
-    ensures hmtx { IfOk result (λ hmtx. IsHmtxOf face.now origins.now hmtx.items) }
+    requires small { AreSmall glyphs.now }
+    ensures hmtx { IfOk result (λ hmtx. IsHmtxOf face.now glyphs.now hmtx.items) }
     ensures memory { IfErr result (λ e. e ≡ errors.Memory) }
 {
-    let metrics = metrics(alloc, face.hhea, face.hmtx, &face.advances, origins)?;
+    let metrics = metrics(alloc, face.hhea, face.hmtx, &face.advances, glyphs)?;
     Ok(hmtx(alloc, &metrics)?)
 }
 
@@ -233,29 +252,23 @@ fn post_of(alloc: Global, file: &FontFile<'_>) -> Result<Vec<u8>>
     }
 }
 
-/// Returns the `cmap` table whose variation sequences a subset keeps: none if glyphs keep their numbers.
-fn source_of<'l>(face: &Face<'l>, retain_gids: bool) -> &'l [u8]
-    ensures { result.now ≡ the_source retain_gids face.now.cmap.now }
-{
-    if retain_gids { &[] } else { face.cmap }
-}
-
-/// Makes the tables for characters and origins. `retain_gids` is set if glyphs keep their numbers.
+/// Makes the tables for characters and origins. `placed` has the kept glyphs at their new numbers, and otherwise `.notdef`.
 fn made_of(
     alloc: Global,
     face: &Face<'_>,
     pairs: &[Mapping],
     origins: &[usize],
-    retain_gids: bool,
+    placed: &[usize],
 ) -> Result<Made>
     requires room { 36 ≤ length face.now.hhea.now }
     requires rise { CharsRise pairs.now }
     requires few { AreFew origins.now }
-    ensures made { IfOk result (λ made. IsMade retain_gids face.now pairs.now origins.now made) }
+    requires low { AreFew placed.now }
+    ensures made { IfOk result (λ made. IsMade face.now pairs.now origins.now placed.now made) }
     ensures refused { IfErr result (λ e. IsUnmade face.now e) }
 {
-    let cmap = map_of(alloc, source_of(face, retain_gids), pairs, origins)?;
-    let hmtx = hmtx_of(alloc, face, origins)?;
+    let cmap = map_of(alloc, face.cmap, pairs, origins, placed)?;
+    let hmtx = hmtx_of(alloc, face, placed)?;
     let count = origins.len() as u16;
     Ok(Made {
         cmap,
@@ -369,8 +382,9 @@ fn subset_of(alloc: Global, face: &Face<'_>, choice: &Choice<'_>) -> Result<Vec<
     let named = named(alloc, choice, &pairs)?;
     let cut = cut_of(alloc, face.cff, &named, choice.retain_gids, choice.limit)?;
     let FontSubset { font, kept } = cut;
-    let origins = origins_by(alloc, face.cff, &named, kept, choice.retain_gids)?;
-    let made = made_of(alloc, face, &pairs, &origins, choice.retain_gids)?;
+    let origins = origins_by(alloc, face.cff, &named, &kept, choice.retain_gids)?;
+    let placed = placed(alloc, kept, origins.len(), choice.retain_gids)?;
+    let made = made_of(alloc, face, &pairs, &origins, &placed)?;
     written(alloc, face, choice, &font, &made)
 }
 
@@ -379,9 +393,10 @@ fn subset_of(alloc: Global, face: &Face<'_>, choice: &Choice<'_>) -> Result<Vec<
 /// A character is kept if it is in `choice.chars` or if its glyph is in `choice.glyphs`, and if the face has a glyph for it.
 /// The glyphs of the new file are `.notdef`, the glyphs of all kept characters, the glyphs in `choice.glyphs` and in
 /// `choice.unmapped`, and the components of `seac` glyphs among them. Each is drawn, named and measured as before. The glyphs are in their old order.
+/// If `choice.retain_gids` is set, empty glyphs with the metrics of `.notdef` are between them.
 ///
-/// The variation sequences of kept characters are kept too, if their glyphs are. There are none if glyphs keep their
-/// numbers, or if they cost more than 20,000,000 units ([`Face::sequence_glyphs`]).
+/// The variation sequences of kept characters are kept too, if their glyphs are. There are none if they cost more than
+/// 20,000,000 units ([`Face::sequence_glyphs`]).
 ///
 /// The new file has the tables `CFF `, `cmap`, `hhea`, `hmtx`, `maxp` and `post` (without glyph names), copies of the tables
 /// in `choice.copied`, and the tables in `choice.given`. There are no other tables, and so no kerning and no ligatures
