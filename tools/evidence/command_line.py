@@ -160,14 +160,12 @@ def _(folder):
     font["cmap"].tables.append(table)
     font.save(path)
     kept = {0xFE00: [(0x48, None), (0x65, "e.sc")], 0xE0100: [(0x6C, "l.sc")]}
-    for options in (["--drop-layout"], ["--layout-features", "kern"], []):
+    for options in (["--drop-layout"], ["--layout-features", "kern"], [], ["--retain-gids"], ["--retain-gids", "--drop-layout"]):
         out, _ = subset(folder, *options, font=path)
         assert sequences(out) == kept, sequences(out)
         text = ["--unicodes=48,FE00,65,FE00,6C,E0100,6F", "--features=-liga,-kern"]
         shaped = [subprocess.run(["hb-shape", file, *text, "--no-positions", "--no-clusters"], capture_output=True, text=True).stdout for file in (path, out)]
         assert shaped[0] == shaped[1] == "[H|e.sc|l.sc|o]\n", shaped
-    out, _ = subset(folder, "--retain-gids", font=path)
-    assert sequences(out) == {}, sequences(out)
 
 
 @case("subset: without layout nothing is lost")

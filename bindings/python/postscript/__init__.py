@@ -769,8 +769,9 @@ class Font:
         their characters. It also has `.notdef` and the components of `seac` glyphs. Each glyph is drawn, named and measured as before.
         The file has the tables that every font needs, copies of `tables`, and layout tables: `GSUB` with the substitutions of
         `features`, a list of tags or "*" for all; `GPOS` with all positions; `GDEF`. With None for `features` there are none.
-        The glyphs that these substitutions can make are kept too. Unless `exact` is set, so are the characters that a shaper may use
-        for text of the given ones. docs/subsets.md says what is left out. A `LayoutWarning` names each lost table.
+        The glyphs that these substitutions can make, and the glyphs of variation sequences, are kept too. Unless `exact` is set, so are
+        the characters that a shaper may use for text of the given ones. docs/subsets.md says what is left out. A `LayoutWarning` names
+        each lost table.
 
         Glyphs get new numbers in ascending order, unless `keep_numbers` is set. Raises `WriteError`: `Status.NO_CHARACTER` for a
         character without a glyph, unless `ignore_missing` is set; `NO_GLYPHS` if nothing is left; `NO_TABLE`,

@@ -15,4 +15,6 @@ mod languages;
 #[cfg(test)]
 mod shaping;
 #[cfg(test)]
+mod varied;
+#[cfg(test)]
 mod writing;

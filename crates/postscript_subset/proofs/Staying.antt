@@ -7,13 +7,13 @@ use Rattle.std.proofs.lemmas.List.Elements.{All-contains, All-weaker, Contains-a
 use Rattle.postscript_layout.proofs.Stays.{stays as steps-stay}
 use Rattle.postscript_layout_write.specs.Texts.{MayBecome}
 use Rattle.postscript_layout_write.proofs.Calling.{stays}
-use Rattle.postscript_files.specs.Origins.{AreAllNamed, AreOriginsOf, IsNamed}
+use Rattle.postscript_files.specs.Origins.{AreAllNamed, AreOriginsOf}
 use Rattle.postscript_files.specs.Choices.{glyphs_of}
 use Rattle.postscript_files.specs.Subsets.{HasSame, IsSame, IsSubsetFile, KeepsNumber}
 use Rattle.postscript_files.specs.declared.choice.Choice.{Choice}
 use Rattle.postscript_files.specs.declared.face.Face.{Face}
 use Rattle.postscript_files.proofs.Ordering.{unmapped-there}
-use Rattle.postscript_subset.specs.Closing.{IsClosingError, below, with_notdef}
+use Rattle.postscript_subset.specs.Closing.{IsClosingError, IsOfText, below, with_notdef}
 use Rattle.postscript_subset.specs.Refusals.{IsWide}
 use Rattle.postscript_subset.specs.Subsets.{IsBy, TextStaysIn, TextStaysSame}
 use Rattle.postscript_subset.specs.declared.error.Error.{Error}
@@ -43,14 +43,22 @@ named-there : (named : List ℕ) (glyph : ℕ) → Contains named glyph → Cont
 named-there [] glyph h = absurd (let w = h.1 in omega (arith, w))
 named-there (one ∷ named) glyph h = Contains-append_left (one ∷ named) (0 ∷ []) glyph h
 
--- a text of named glyphs stays among the further glyphs of the choice
+text-there : (choice : Choice) (old : Face) (named varied : List ℕ) → AreAllNamed choice old named → (glyph : ℕ) →
+    IsOfText choice old varied glyph → Contains (named ++ varied) glyph
+text-there choice old named varied are glyph h = elim h [
+  | inl is ↦ Contains-append_left named varied glyph ((are glyph).1 is)
+  | inr of_sequence ↦ Contains-append_right named varied glyph of_sequence
+]
+
+-- a text stays among the further glyphs of the choice
 further : (choice : Choice) (features : Features) (old : Face) (tables : List (ℕ × List ℕ)) (by : Choice)
-    (is : IsBy choice features old tables by) (first used had last : List ℕ) → All (IsNamed choice old) first →
+    (is : IsBy choice features old tables by) (first used had last : List ℕ) → All (IsOfText choice old is.made.are.varied) first →
     MayBecome is.made.gsub is.made.are.chosen first used had last → (glyph : ℕ) → Contains last glyph → glyph < is.made.count → Contains by.unmapped.now glyph
 further choice features old tables by is first used had last named comes glyph there less =
-    let closed : All (Contains is.made.closed) first = All-weaker (IsNamed choice old) (Contains is.made.closed)
-    (λ g h. All-contains (Contains is.made.closed) (with_notdef is.made.are.named) g is.made.are.reached.given_there
-    (named-there is.made.are.named g ((is.made.are.are g).1 h))) first named in
+    let closed : All (Contains is.made.closed) first = All-weaker (IsOfText choice old is.made.are.varied) (Contains is.made.closed)
+    (λ g h. All-contains (Contains is.made.closed) (with_notdef (is.made.are.named ++ is.made.are.varied)) g is.made.are.reached.given_there
+    (named-there (is.made.are.named ++ is.made.are.varied) g
+    (text-there choice old is.made.are.named is.made.are.varied is.made.are.are g h))) first named in
     let stay : All (Contains is.made.closed) last = stays steps-stay is.made.gsub is.made.lookups is.made.closed is.made.are.chosen first used had last
     is.made.are.reached.whole is.made.are.reached.chosen_there closed comes in
     let here : Contains is.made.closed glyph = All-contains (Contains is.made.closed) last glyph stay there in
@@ -63,20 +71,20 @@ same-number by old new glyph i retain h =
     let number : i ≡ glyph = subst (λ (r : Bool). KeepsNumber r glyph i) retain h.1 in
     subst (λ n. IsSame old new glyph n) number h.0
 
--- a text of named glyphs stays among glyphs that are the same in the new face
+-- a text stays among glyphs that are the same in the new face
 pub text-stays-same : (choice : Choice) (features : Features) (old : Face) (tables : List (ℕ × List ℕ)) (by : Choice) (file : List ℕ)
     (is : IsBy choice features old tables by) → by.retain_gids ≡ true → IsSubsetFile by old file →
-    TextStaysSame choice old is.made.count is.made.gsub is.made.are.chosen file
+    TextStaysSame choice old is.made.count is.made.are.varied is.made.gsub is.made.are.chosen file
 text-stays-same choice features old tables by file is retain cut first used had last named comes glyph there less new read =
     let chosen : Contains (glyphs_of by) glyph =
     Contains-append_right by.glyphs.now by.unmapped.now glyph (further choice features old tables by is first used had last named comes glyph there less) in
     let h = (cut.is new read).glyphs glyph chosen in
     same-number by old new glyph h.0 retain h.1
 
--- a text of named glyphs stays among the new ones
+-- a text stays among the new glyphs
 pub text-stays : (choice : Choice) (features : Features) (old : Face) (tables : List (ℕ × List ℕ)) (by : Choice) (origins : List ℕ)
     (is : IsBy choice features old tables by) → by.retain_gids ≡ false → AreOriginsOf by old origins →
-    TextStaysIn choice old is.made.count is.made.gsub is.made.are.chosen origins
+    TextStaysIn choice old is.made.count is.made.are.varied is.made.gsub is.made.are.chosen origins
 text-stays choice features old tables by origins is anew are first used had last named comes glyph there less =
     unmapped-there by old origins is.made.count anew is.made.counted are glyph
     (further choice features old tables by is first used had last named comes glyph there less) less

@@ -1,7 +1,8 @@
 -- The glyphs that substitutions can make of the glyphs of a choice.
 use Rattle.std.specs.Prelude.{◌≡◌, ◌⊎◌, ℕ, ◌<◌, ◌++◌, List, [], ◌∷◌, nat_lt}
-use Rattle.std.specs.List.{filter}
+use Rattle.std.specs.List.{Contains, filter}
 use Rattle.postscript_files.specs.Origins.{AreAllNamed, HasGlyphs, IsNamed, IsUnopened}
+use Rattle.postscript_files.specs.Subsets.{AreSequenceGlyphs}
 use Rattle.postscript_files.specs.declared.choice.Choice.{Choice}
 use Rattle.postscript_files.specs.declared.error.Error.{Error as Cause}
 use Rattle.postscript_files.specs.declared.face.Face.{Face}
@@ -18,19 +19,25 @@ use Rattle.postscript_subset.specs.declared.features.Features.{Features}
 abbrev pub IsTableOrNone : FontFile → (tag : ℕ) → List ℕ → Type 0
 IsTableOrNone file tag table = IsTableOf file tag table ⊎ (HasNoTable file tag × (table ≡ []))
 
--- the named glyphs and .notdef, or none if none is named
+-- these glyphs and .notdef, or none if there are none
 abbrev pub with_notdef : (named : List ℕ) → List ℕ
 with_notdef [] = []
 with_notdef (glyph ∷ glyphs) = glyph ∷ glyphs ++ 0 ∷ []
 
--- The lookups are those of the features, and those that their contexts call. The glyphs are the named ones, .notdef, and all that these lookups can make
--- of them. There are none if none is named.
+-- The lookups are those of the features, and those that their contexts call. The glyphs are the named ones, those of variation sequences of kept
+-- characters, .notdef, and all that these lookups can make of them. There are none if none is named.
 pub record AreClosed (choice : Choice) (features : Features) (face : Face) (gsub lookups glyphs : List ℕ) : Type 0 where
   pub chosen : List ℕ
   pub of_features : AreNamedBy features gsub chosen
   pub named : List ℕ
   pub are : AreAllNamed choice face named
-  pub reached : AreReached gsub chosen (with_notdef named) lookups glyphs
+  pub varied : List ℕ
+  pub of_sequences : AreSequenceGlyphs choice face varied
+  pub reached : AreReached gsub chosen (with_notdef (named ++ varied)) lookups glyphs
+
+-- a glyph of a text is named, or that of a variation sequence
+abbrev pub IsOfText : Choice → Face → (varied : List ℕ) → (glyph : ℕ) → Type 0
+IsOfText choice face varied glyph = IsNamed choice face glyph ⊎ Contains varied glyph
 
 -- the glyphs below a number
 abbrev pub below : (count : ℕ) → List ℕ → List ℕ

@@ -79,7 +79,7 @@ pub record IsCutFace (choice : Choice) (features : Features) (face : Face) (left
   pub substitutions : IsGsub subset.gsub face.file features is.made.lookups origins subset.gdef left gsub
   pub positions : IsGpos subset.gpos face.file features origins subset.gdef left gpos
   pub pairs : IsKern subset.kern face.file features origins subset.gpos gpos left kern
-  pub stays : TextStaysIn choice face is.made.count is.made.gsub is.made.are.chosen origins
+  pub stays : TextStaysIn choice face is.made.count is.made.are.varied is.made.gsub is.made.are.chosen origins
   pub left_out : subset.left_out.items ≡ left_in subset.gsub (have_marks origins subset.gdef) is.made.gsub is.made.lookups
 
 -- the file of a face whose glyphs keep their numbers
@@ -91,7 +91,7 @@ pub record IsPlaced (choice : Choice) (features : Features) (face : Face) (subse
   pub gsub : IsCopiedAs subset.gsub face.file gsub_tag
   pub gpos : IsCopiedAs subset.gpos face.file gpos_tag
   pub kern : subset.kern ≡ NotChosen
-  pub stays : TextStaysSame choice face is.made.count is.made.gsub is.made.are.chosen subset.file.items
+  pub stays : TextStaysSame choice face is.made.count is.made.are.varied is.made.gsub is.made.are.chosen subset.file.items
   pub left_out : subset.left_out.items ≡ []
 
 -- why there is no such file

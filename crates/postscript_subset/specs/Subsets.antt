@@ -13,7 +13,7 @@ use Rattle.postscript_layout_write.specs.Leaving.{left_by}
 use Rattle.postscript_layout_write.specs.Pairs.{lookups_of}
 use Rattle.postscript_layout_write.specs.Texts.{MayBecome}
 use Rattle.postscript_sfnt.specs.Lent.{IsTableOf}
-use Rattle.postscript_subset.specs.Closing.{AreClosed, IsTableOrNone, below}
+use Rattle.postscript_subset.specs.Closing.{AreClosed, IsOfText, IsTableOrNone, below}
 use Rattle.postscript_subset.specs.Layers.{IsCopiedAs, IsGdef, IsGpos, IsGsub, IsKern, all_tables, gdef_tag, gpos_tag, gsub_tag, have_marks}
 use Rattle.postscript_subset.specs.declared.error.Error.{Error}
 use Rattle.postscript_subset.specs.declared.error.Error.TheVariants.{File, LargeGlyph, TooLong}
@@ -47,7 +47,7 @@ pub record IsWidened (choice by : Choice) (added : List ℕ) (tables : List (ℕ
   pub copied : by.copied.now ≡ choice.copied.now ++ copied_by choice.retain_gids
   pub given : map shown by.given.now ≡ map shown choice.given.now ++ tables
 
--- The glyphs of a face that the lookups of the features can make of the named ones, with the named ones and .notdef.
+-- The glyphs of a face that the lookups of the features can make of the named ones and those of variation sequences, with these and .notdef.
 pub record AreMade (choice : Choice) (features : Features) (old : Face) (glyphs : List ℕ) : Type 0 where
   pub gsub : List ℕ
   pub is : IsTableOrNone old.file gsub_tag gsub
@@ -58,15 +58,17 @@ pub record AreMade (choice : Choice) (features : Features) (old : Face) (glyphs 
   pub counted : HasGlyphs old count
   pub kept : glyphs ≡ below count closed
 
--- The choice that a file is made by: the further glyphs are those that the lookups of the features can make of the named ones.
+-- The choice that a file is made by: the further glyphs are those of variation sequences, and those that the
+-- lookups of the features can make of these and of the named ones.
 pub record IsBy (choice : Choice) (features : Features) (old : Face) (tables : List (ℕ × List ℕ)) (by : Choice) : Type 0 where
   pub further : List ℕ
   pub made : AreMade choice features old further
   pub widened : IsWidened choice by further tables
 
--- A text of named glyphs, after any substitutions by the lookups and by those that contexts call, has only these glyphs, apart from glyphs that the face lacks.
-abbrev pub TextStaysIn : Choice → Face → (count : ℕ) → (gsub lookups origins : List ℕ) → Type 0
-TextStaysIn choice old count gsub lookups origins = (first used had last : List ℕ) → All (IsNamed choice old) first →
+-- A text of named glyphs and of those of variation sequences, after any substitutions by the lookups and by those that contexts call, has only these
+-- glyphs, apart from glyphs that the face lacks.
+abbrev pub TextStaysIn : Choice → Face → (count : ℕ) → (varied gsub lookups origins : List ℕ) → Type 0
+TextStaysIn choice old count varied gsub lookups origins = (first used had last : List ℕ) → All (IsOfText choice old varied) first →
     MayBecome gsub lookups first used had last → (glyph : ℕ) → Contains last glyph → glyph < count → Contains origins glyph
 
 -- the chosen lookups that a table does not keep
@@ -91,13 +93,13 @@ pub record IsCutWithLayout (choice : Choice) (features : Features) (bytes : List
   pub pairs : IsKern subset.kern cut.old.file features origins subset.gpos gpos left kern
   pub there : (i : ℕ) (table : ℕ × List ℕ) → slice_get (all_tables subset.gdef subset.gsub subset.gpos subset.kern gdef gsub gpos kern) i ≡ Some table →
       (new : Face) → IsFaceIn subset.file.items 0 new → HasCopy new.file table.0 table.1
-  pub stays : TextStaysIn choice cut.old is.made.count is.made.gsub is.made.are.chosen origins
+  pub stays : TextStaysIn choice cut.old is.made.count is.made.are.varied is.made.gsub is.made.are.chosen origins
   pub left_out : subset.left_out.items ≡ left_in subset.gsub (have_marks origins subset.gdef) is.made.gsub is.made.lookups
 
--- A text of named glyphs, after any substitutions by the lookups and by those that contexts call, has only glyphs that are the same in the new face, apart
--- from glyphs that the face lacks.
-abbrev pub TextStaysSame : Choice → (old : Face) → (count : ℕ) → (gsub lookups file : List ℕ) → Type 0
-TextStaysSame choice old count gsub lookups file = (first used had last : List ℕ) → All (IsNamed choice old) first →
+-- A text of named glyphs and of those of variation sequences, after any substitutions by the lookups and by those that contexts call, has only glyphs
+-- that are the same in the new face, apart from glyphs that the face lacks.
+abbrev pub TextStaysSame : Choice → (old : Face) → (count : ℕ) → (varied gsub lookups file : List ℕ) → Type 0
+TextStaysSame choice old count varied gsub lookups file = (first used had last : List ℕ) → All (IsOfText choice old varied) first →
     MayBecome gsub lookups first used had last → (glyph : ℕ) → Contains last glyph → glyph < count → (new : Face) → IsFaceIn file 0 new → IsSame old new glyph glyph
 
 -- The file is a subset of the face in which glyphs keep their numbers, and it has copies of the layout tables.
@@ -111,7 +113,7 @@ pub record IsCutInPlace (choice : Choice) (features : Features) (bytes : List �
   pub kern : subset.kern ≡ NotChosen
   pub copied : (tag : ℕ) (table : List ℕ) → Contains (copied_by true) tag → IsTableOf cut.old.file tag table →
       (new : Face) → IsFaceIn subset.file.items 0 new → HasCopy new.file tag table
-  pub stays : TextStaysSame choice cut.old is.made.count is.made.gsub is.made.are.chosen subset.file.items
+  pub stays : TextStaysSame choice cut.old is.made.count is.made.are.varied is.made.gsub is.made.are.chosen subset.file.items
   pub left_out : subset.left_out.items ≡ []
 
 -- why no file of the face is written

@@ -1,6 +1,7 @@
 //! The glyphs that substitutions can make of the glyphs of a choice.
 ghost use Rattle.std.specs.Prelude.{◌≡◌, ◌⊎◌, ◌++◌, ◌∷◌, [], ◌<◌, ◌≤◌, IfOk, IfErr, OnOk};
 ghost use Rattle.postscript_subset.specs.Closing.{AreClosed, AreExtended, IsClosingError, IsUnopenedFace, with_notdef, below as the_below};
+ghost use Rattle.postscript_files.specs.Origins.{AreSmall};
 ghost use Rattle.postscript_layout_write.specs.Reached.{AreReached};
 ghost use Rattle.postscript_subset.specs.Refusals.{IsSearched, IsWide};
 ghost use Rattle.postscript_files.specs.declared.error.Error.TheVariants as causes;
@@ -41,6 +42,18 @@ pub(crate) fn below(alloc: Global, glyphs: &[u16], count: usize) -> Result<Vec<u
     Ok(found)
 }
 
+/// Adds the glyphs of variation sequences.
+fn put_varied(named: &mut Vec<u16>, varied: &[usize]) -> Result<()>
+    requires small { AreSmall varied.now }
+    ensures put { OnOk result (named.new.items ≡ named.old.items ++ varied.now) }
+    ensures memory { IfErr result (λ e. e ≡ errors.File causes.Memory) }
+{
+    for i in 0..varied.len() {
+        named.push(varied[i] as u16)?;
+    }
+    Ok(())
+}
+
 /// Adds `.notdef` to named glyphs, if there are any.
 fn put_notdef(named: &mut Vec<u16>) -> Result<()>
     ensures put { OnOk result (named.new.items ≡ with_notdef named.old.items) }
@@ -72,7 +85,7 @@ fn reached(
 }
 
 /// Returns the lookups of the features, with those that their contexts call, and the glyphs that all of these can make of the
-/// named ones and `.notdef`. There are no glyphs if none is named.
+/// named glyphs, the glyphs of variation sequences, and `.notdef`. There are no glyphs if none is named.
 pub(crate) fn close(
     alloc: Global,
     face: &Face<'_>,
@@ -86,7 +99,9 @@ pub(crate) fn close(
     ensures why { IfErr result (λ e. IsClosingError choice.now face.now limit.new e) }
 {
     let named = face.named_glyphs(alloc, choice)?;
+    let varied = face.sequence_glyphs(alloc, choice)?;
     let mut glyphs = narrow(alloc, &named)?;
+    put_varied(&mut glyphs, &varied)?;
     put_notdef(&mut glyphs)?;
     let chosen = features.named(alloc, gsub, limit)?;
     let all = reached(alloc, gsub, &chosen, &glyphs, limit)?;

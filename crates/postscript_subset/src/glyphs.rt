@@ -17,7 +17,8 @@ fn counted<'t>(retain_gids: bool, features: Features<'t>) -> Features<'t>
 }
 
 /// Returns the glyphs that [`crate::subset_with_layout`] keeps, apart from components of `seac` glyphs: the named ones,
-/// `.notdef`, and all glyphs of the face that the chosen lookups can make of them.
+/// the glyphs of the variation sequences of kept characters, `.notdef`, and all glyphs of the face that the chosen lookups can make of
+/// these.
 ///
 /// The search is paid from `limit`, as in `subset_with_layout`. So a caller can first check how much these glyphs cost.
 ///
@@ -33,7 +34,7 @@ pub fn glyphs_with_layout(
     features: Features<'_>,
     limit: &mut u64,
 ) -> Result<Vec<usize>>
-    // The glyphs are those of the face that the lookups of the features can make of the named ones.
+    // The glyphs of the face that the lookups of the features can make of named glyphs and of glyphs of variation sequences.
     ensures made { IfOk result (λ glyphs. AreMade choice.now features.entry face.now glyphs.items) }
     // The limit never grows.
     ensures spends { limit.new ≤ limit.old }

@@ -1,8 +1,8 @@
 //! Writes OpenType files with only some characters, whose layout tables still apply (ISO/IEC 14496-22, 6).
 //!
-//! [`subset_with_layout`] cuts a face as [`postscript_files::subset_file`] does. It also keeps the glyphs that the substitutions
-//! of chosen features can make, and writes `GSUB`, `GPOS`, `GDEF` and `kern` tables under the new glyph numbers. [`glyphs_with_layout`]
-//! returns these glyphs beforehand.
+//! [`subset_with_layout`] cuts a face as [`postscript_files::subset_file`] does. It also keeps the glyphs of variation sequences
+//! and the glyphs that the substitutions of chosen features can make, and writes `GSUB`, `GPOS`, `GDEF` and `kern` tables under the
+//! new glyph numbers. [`glyphs_with_layout`] returns these glyphs beforehand.
 //!
 //! [`text_chars`] lists the characters that such a subset needs, so that shapers set text with it as with the whole face.
 //!
@@ -12,13 +12,15 @@
 //!
 //! - The file is a subset of the face, for the caller's choice with further glyphs and tables. All clauses of `subset_file`
 //!   are true of it.
-//! - A text of named glyphs has only glyphs of the subset, after any substitutions by the chosen lookups.
+//! - A text of named glyphs and of glyphs of variation sequences has only glyphs of the subset, after any substitutions by
+//!   the chosen lookups.
 //! - The `GSUB` table substitutes as the old one (`KeepsRules` of `postscript_layout_write`), the `GPOS` table positions glyphs
 //!   as the old one (`KeepsPositions`, `KeepsFlaggedPositions`), and the `GDEF` table has the old classes (`KeepsClasses`).
 //!   Both tables have all scripts and languages, with the chosen features only (`HasOnlyFeatures`).
-//! - If glyphs keep their numbers, the layout tables are copied, and a text of named glyphs has only glyphs that are the same
-//!   in the new face, after any substitutions.
-//! - `glyphs_with_layout` returns exactly the glyphs that the chosen lookups can make of the named ones.
+//! - If glyphs keep their numbers, the layout tables are copied, and such a text has only glyphs that are the same in the new
+//!   face, after any substitutions.
+//! - `glyphs_with_layout` returns exactly the glyphs that the chosen lookups can make of the named ones and of the
+//!   glyphs of variation sequences.
 //! - The outcome of a table names why it is absent or lost. If `GDEF` is lost, `GSUB` and `GPOS` are not kept. Each error has
 //!   its cause.
 //!

@@ -236,8 +236,9 @@ fn cut(
 /// Writes a file with only some characters and glyphs of a face, as [`postscript_files::subset_file`] does, and with layout
 /// tables for its glyphs.
 ///
-/// The lookups of the features in `GSUB` are chosen. The subset keeps the glyphs of `subset_file`, and all glyphs of the face
-/// that the chosen lookups can make of them. It has these tables in addition, under the new glyph numbers:
+/// The lookups of the features in `GSUB` are chosen. The subset keeps the glyphs of `subset_file`, the glyphs of variation
+/// sequences of kept characters ([`Face::sequence_glyphs`]), and all glyphs of the face that the chosen lookups can make of
+/// these. So it has these sequences too. It has these tables in addition, under the new glyph numbers:
 ///
 /// - `GDEF`, with the glyph classes, if the face has classes;
 /// - `GSUB`, with the chosen features and lookups, if the face has this table;

@@ -25,9 +25,9 @@ pub struct Choice {
     pub chars: Vec<u32>,
     /// The glyphs that are chosen by number.
     pub glyphs: Vec<usize>,
-    /// The glyphs of variation sequences of the characters.
+    /// The glyphs of variation sequences of the characters, in a subset without layout tables.
     pub varied: Vec<usize>,
-    /// The glyphs that substitutions can make of the chosen ones.
+    /// The glyphs that a subset with layout tables keeps.
     pub added: Vec<usize>,
 }
 

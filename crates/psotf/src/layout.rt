@@ -37,8 +37,8 @@ pub fn varied(alloc: Global, face: &Face<'_>, choice: &Choice<'_>) -> Result<Vec
     }
 }
 
-/// Returns the chosen glyphs, and the glyphs that substitutions can make of them. It fails if the search costs more than
-/// the share of one glyph.
+/// Returns the chosen glyphs, the glyphs of variation sequences of the chosen characters, and all that substitutions can
+/// make of these. It fails if the search costs more than the share of one glyph.
 pub fn closed(
     alloc: Global,
     face: &Face<'_>,

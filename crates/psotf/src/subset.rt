@@ -154,22 +154,20 @@ fn put_shaped(
     Ok(())
 }
 
-/// Adds the glyphs of variation sequences of the characters. If glyphs keep their numbers, these sequences are lost.
+/// Adds the glyphs of variation sequences of the characters.
 fn put_sequences(
     alloc: Global,
     face: &Face<'_>,
     words: &ArgMatches<'_>,
     choice: &mut Choice,
 ) -> Result<(), Failure> {
-    if words.get_flag("retain-gids") {
-        return Ok(());
-    }
     let asked = asked(choice, words, &[], &[], 0);
     choice.varied = layout::varied(alloc, face, &asked)?;
     Ok(())
 }
 
-/// Adds the glyphs that substitutions can make of the chosen ones.
+/// Adds the glyphs of variation sequences of the characters, and all that substitutions can make of these and of the chosen
+/// ones.
 fn put_layout(
     alloc: Global,
     face: &Face<'_>,
@@ -224,9 +222,10 @@ pub fn write<W: Write>(
     let features = Features::read(rt.alloc(), words)?;
     let chosen = choice.named(rt.alloc(), face)?.len();
     put_shaped(rt.alloc(), face, words, &mut choice)?;
-    put_sequences(rt.alloc(), face, words, &mut choice)?;
     if keeps_layout(words) {
         put_layout(rt.alloc(), face, words, &features, &mut choice, budget)?;
+    } else {
+        put_sequences(rt.alloc(), face, words, &mut choice)?;
     }
     let named = choice.named(rt.alloc(), face)?;
     tell_added(rt, words, named.len(), chosen)?;
