@@ -16,9 +16,9 @@ use psotf_output::{saving, telling};
 use std::alloc::{AllocError, Global};
 use std::io::Write;
 
-/// How often a glyph is run: it is searched twice for components, measured and written, its bytes are copied, and it is run
-/// once more if components are reported.
-pub const RUNS: u64 = 6;
+/// How often a glyph is run: it is searched twice for components and written, its bytes are copied, and it is run once more if
+/// components are reported.
+pub const RUNS: u64 = 5;
 
 /// The tables that are copied into each subset.
 const SAME: [[u8; 4]; 2] = [*b"OS/2", *b"head"];
