@@ -17,4 +17,6 @@ mod shaping;
 #[cfg(test)]
 mod varied;
 #[cfg(test)]
+mod vertical;
+#[cfg(test)]
 mod writing;

@@ -1,0 +1,4 @@
+pub mod Words
+pub mod Headers
+pub mod Records
+pub mod Tables
