@@ -15,6 +15,8 @@ mod languages;
 #[cfg(test)]
 mod shaping;
 #[cfg(test)]
+mod upright;
+#[cfg(test)]
 mod varied;
 #[cfg(test)]
 mod vertical;

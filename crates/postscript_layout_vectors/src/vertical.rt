@@ -1,4 +1,4 @@
-//! Vertical metrics and vertical origins under new glyph numbers, computed by hand from the specification.
+//! Vertical metrics and vertical origins under new glyph numbers, as the specification defines them.
 use crate::writing::table;
 use postscript_vertical::{Error, kept_metrics, kept_origins};
 

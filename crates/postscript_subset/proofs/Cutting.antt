@@ -141,8 +141,8 @@ pub cut-so : (r : Result Subset Error) (choice : Choice) (features : Features) (
     IfOk r (λ subset. IsCutBy by features face gsub lookups left subset) → IfOk r (λ subset. IsCutFace choice features face left subset)
 unfolding is-by
 cut-so (Ok subset) choice features face by gsub lookups glyphs left anew k h =
-    let is : IsBy choice features face (all_tables subset.gdef subset.gsub subset.gpos subset.kern h.gdef h.gsub h.gpos h.kern) h.with =
-    is-by choice features face by h.with gsub lookups glyphs (all_tables subset.gdef subset.gsub subset.gpos subset.kern h.gdef h.gsub h.gpos h.kern) k h.has in
+    let is : IsBy choice features face (all_tables subset.gdef subset.gsub subset.gpos subset.kern h.gdef h.gsub h.gpos h.kern h.vertical) h.with =
+    is-by choice features face by h.with gsub lookups glyphs (all_tables subset.gdef subset.gsub subset.gpos subset.kern h.gdef h.gsub h.gpos h.kern h.vertical) k h.has in
     let are : AreOriginsOf h.with face h.origins =
     origins-alike by h.with face h.origins h.has.chars h.has.glyphs h.has.unmapped h.has.retain_gids h.are in
     record {
@@ -151,16 +151,18 @@ cut-so (Ok subset) choice features face by gsub lookups glyphs left anew k h =
       gsub = h.gsub;
       gpos = h.gpos;
       kern = h.kern;
+      vertical = h.vertical;
       file = h.file;
       is = is-by choice features face by h.with gsub lookups glyphs
-          (all_tables subset.gdef subset.gsub subset.gpos subset.kern h.gdef h.gsub h.gpos h.kern) k h.has;
+          (all_tables subset.gdef subset.gsub subset.gpos subset.kern h.gdef h.gsub h.gpos h.kern h.vertical) k h.has;
       origins = h.origins;
       are = are;
       classes = h.classes;
       substitutions = h.substitutions;
       positions = h.positions;
       pairs = h.pairs;
-      stays = text-stays choice features face (all_tables subset.gdef subset.gsub subset.gpos subset.kern h.gdef h.gsub h.gpos h.kern) h.with h.origins is
+      upright = h.upright;
+      stays = text-stays choice features face (all_tables subset.gdef subset.gsub subset.gpos subset.kern h.gdef h.gsub h.gpos h.kern h.vertical) h.with h.origins is
           (h.has.retain_gids ∙ k.widened.retain_gids ∙ anew) are;
       left_out = h.left_out;
     }
@@ -222,6 +224,7 @@ no-file e choice features face by gsub lookups glyphs room k h =
         [],
         [],
         [],
+        [],
         is,
         origins-from h.0 by face origins,
       )
@@ -236,9 +239,10 @@ no-file e choice features face by gsub lookups glyphs room k h =
         with.6,
         with.7,
         with.8,
+        with.9,
         is-by choice features face by with.0 gsub lookups glyphs
-            (all_tables with.1 with.2 with.3 with.4 with.5 with.6 with.7 with.8) k with.9,
-        subset-from h.0 with.0 face room with.10,
+            (all_tables with.1 with.2 with.3 with.4 with.5 with.6 with.7 with.8 with.9) k with.10,
+        subset-from h.0 with.0 face room with.11,
       )
     ]
 
@@ -280,6 +284,7 @@ subset-so (Ok subset) choice features bytes number left face was h = record {
   gsub = h.gsub;
   gpos = h.gpos;
   kern = h.kern;
+  vertical = h.vertical;
   is = h.is;
   origins = h.origins;
   are = h.are;
@@ -287,8 +292,9 @@ subset-so (Ok subset) choice features bytes number left face was h = record {
   substitutions = h.substitutions;
   positions = h.positions;
   pairs = h.pairs;
+  upright = h.upright;
   there = tables-there choice h.by face subset.file.items
-      (all_tables subset.gdef subset.gsub subset.gpos subset.kern h.gdef h.gsub h.gpos h.kern) h.is.widened.given h.file;
+      (all_tables subset.gdef subset.gsub subset.gpos subset.kern h.gdef h.gsub h.gpos h.kern h.vertical) h.is.widened.given h.file;
   stays = h.stays;
   left_out = h.left_out;
 }
@@ -309,6 +315,29 @@ no-subset-so (Err e) choice features bytes number left face was h = no-subset e 
 pub unfinished-so : (cause : Cause) (by with : Choice) (face : Face) (layers : Layers) → NoSubsetBy with face cause →
     HasTables by (tables_of layers) with → IsUnfinished by face layers (errors.File cause)
 unfinished-so cause by with face layers h has = (cause, refl, inr (with, has, h))
+
+pub no-cut-by : (e : Error) (by : Choice) (face : Face) (layers : Layers) → IsUnfinished by face layers e → NoCutBy by face e
+no-cut-by e by face layers h = (
+  h.0,
+  h.1,
+  elim h.2 [
+    | inl memory ↦ inr (inl memory)
+    | inr with ↦ inr (inr (
+      with.0,
+      layers.gdef.outcome,
+      layers.gsub.outcome,
+      layers.gpos.outcome,
+      layers.kern.outcome,
+      layers.gdef.table.items,
+      layers.gsub.table.items,
+      layers.gpos.table.items,
+      layers.kern.table.items,
+      map shown layers.vertical.items,
+      with.1,
+      with.2,
+    ))
+  ],
+)
 
 pub placed-so : (choice : Choice) (features : Features) (face : Face) (by : Choice) (gsub lookups glyphs : List ℕ) (subset : Subset) →
     choice.retain_gids ≡ true → Known choice features face by gsub lookups glyphs → IsSubsetFile by face subset.file.items →
@@ -374,6 +403,7 @@ no-placed cause choice features face by gsub lookups glyphs left room k h = inr 
   outcomes.Absent,
   outcomes.Absent,
   outcomes.Absent,
+  [],
   [],
   [],
   [],

@@ -1,9 +1,11 @@
 -- Layout tables that are made. Only private contracts and proofs use these definitions.
-use Rattle.std.specs.Prelude.{◌≡◌, ℕ, List, Result, Ok, Err, Vec}
+use Rattle.std.specs.Prelude.{◌≡◌, ℕ, List, Result, Ok, Err, Vec, map}
 use Rattle.std.specs.declared.alloc.Global.{Global}
 use Rattle.postscript_layout_write.specs.declared.error.Error.{Error as Fault}
 use Rattle.postscript_sfnt.specs.declared.file.FontFile.{FontFile}
 use Rattle.postscript_subset.specs.Layers.{HasNoPairs, IsGdef, IsGpos, IsGsub, IsKern, KeepsPairs, RefusesPairs, all_tables}
+use Rattle.postscript_subset.specs.Subsets.{shown}
+use Rattle.postscript_subset.specs.Vertical.{AreVertical}
 use Rattle.postscript_subset.specs.declared.features.Features.{Features}
 use Rattle.postscript_subset.specs.declared.layers.Layer.{Layer}
 use Rattle.postscript_subset.specs.declared.layers.Layers.{Layers}
@@ -22,14 +24,15 @@ ArePairs outcomes.NotChosen old origins left new = ⊥
 ArePairs outcomes.Kept old origins left new = KeepsPairs old origins new
 ArePairs (outcomes.Lost e) old origins left new = RefusesPairs e old origins left
 
--- the four tables of the origins
+-- the tables of the origins
 pub record AreLayers (file : FontFile) (features : Features) (lookups origins : List ℕ) (left : ℕ) (layers : Layers) : Type 0 where
   pub gdef : IsGdef layers.gdef.outcome file origins left layers.gdef.table.items
   pub gsub : IsGsub layers.gsub.outcome file features lookups origins layers.gdef.outcome left layers.gsub.table.items
   pub gpos : IsGpos layers.gpos.outcome file features origins layers.gdef.outcome left layers.gpos.table.items
   pub kern : IsKern layers.kern.outcome file features origins layers.gpos.outcome layers.gpos.table.items left layers.kern.table.items
+  pub vertical : AreVertical file origins (map shown layers.vertical.items)
 
 -- the layout tables that are kept
 abbrev pub tables_of : Layers → List (ℕ × List ℕ)
 tables_of layers = all_tables layers.gdef.outcome layers.gsub.outcome layers.gpos.outcome layers.kern.outcome
-    layers.gdef.table.items layers.gsub.table.items layers.gpos.table.items layers.kern.table.items
+    layers.gdef.table.items layers.gsub.table.items layers.gpos.table.items layers.kern.table.items (map shown layers.vertical.items)

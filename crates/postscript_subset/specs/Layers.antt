@@ -146,7 +146,7 @@ abbrev pub table_if : Outcome → (tag : ℕ) → (table : List ℕ) → List (�
 table_if Kept tag table = (tag, table) ∷ []
 table_if _ tag table = []
 
--- the layout tables that are kept
-abbrev pub all_tables : (gdef gsub gpos kern : Outcome) → (a b c d : List ℕ) → List (ℕ × List ℕ)
-all_tables gdef gsub gpos kern a b c d =
-    table_if gdef gdef_tag a ++ (table_if gsub gsub_tag b ++ (table_if gpos gpos_tag c ++ table_if kern kern_tag d))
+-- the layout tables that are kept, and the tables for vertical text
+abbrev pub all_tables : (gdef gsub gpos kern : Outcome) → (a b c d : List ℕ) → (vertical : List (ℕ × List ℕ)) → List (ℕ × List ℕ)
+all_tables gdef gsub gpos kern a b c d vertical =
+    table_if gdef gdef_tag a ++ (table_if gsub gsub_tag b ++ (table_if gpos gpos_tag c ++ (table_if kern kern_tag d ++ vertical)))

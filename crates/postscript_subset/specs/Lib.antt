@@ -2,6 +2,7 @@ pub mod Lookups
 pub mod Refusals
 pub mod Closing
 pub mod Layers
+pub mod Vertical
 pub mod Subsets
 pub mod Layering
 pub mod Planning

@@ -9,6 +9,7 @@ use Rattle.postscript_files.specs.declared.face.Face.{Face}
 use Rattle.postscript_subset.specs.Layering.{tables_of}
 use Rattle.postscript_subset.specs.Layers.{IsCopiedAs, IsGdef, IsGpos, IsGsub, IsKern, all_tables, gdef_tag, gpos_tag, gsub_tag, have_marks}
 use Rattle.postscript_subset.specs.Subsets.{IsBy, NoFileFrom, TextStaysIn, TextStaysSame, left_in, shown}
+use Rattle.postscript_subset.specs.Vertical.{AreVertical}
 use Rattle.postscript_subset.specs.declared.error.Error.{Error}
 use Rattle.postscript_subset.specs.declared.error.Error.TheVariants as errors
 use Rattle.postscript_subset.specs.declared.features.Features.{Features}
@@ -48,7 +49,8 @@ pub record IsCutBy (by : Choice) (features : Features) (face : Face) (was lookup
   pub gsub : List ℕ
   pub gpos : List ℕ
   pub kern : List ℕ
-  pub has : HasTables by (all_tables subset.gdef subset.gsub subset.gpos subset.kern gdef gsub gpos kern) with
+  pub vertical : List (ℕ × List ℕ)
+  pub has : HasTables by (all_tables subset.gdef subset.gsub subset.gpos subset.kern gdef gsub gpos kern vertical) with
   pub file : IsSubsetFile with face subset.file.items
   pub origins : List ℕ
   pub are : AreOriginsOf by face origins
@@ -56,13 +58,14 @@ pub record IsCutBy (by : Choice) (features : Features) (face : Face) (was lookup
   pub substitutions : IsGsub subset.gsub face.file features lookups origins subset.gdef left gsub
   pub positions : IsGpos subset.gpos face.file features origins subset.gdef left gpos
   pub pairs : IsKern subset.kern face.file features origins subset.gpos gpos left kern
+  pub upright : AreVertical face.file origins vertical
   pub left_out : subset.left_out.items ≡ left_in subset.gsub (have_marks origins subset.gdef) was lookups
 
 abbrev pub NoCutBy : Choice → Face → Error → Type 0
 NoCutBy by face e = (cause : Cause) × (e ≡ errors.File cause) × (NoOriginsOf by face cause ⊎ ((cause ≡ causes.Memory)
     ⊎ ((with : Choice) × (gdef : Outcome) × (gsub : Outcome) × (gpos : Outcome) × (kern : Outcome)
-    × (a : List ℕ) × (b : List ℕ) × (c : List ℕ) × (d : List ℕ)
-    × HasTables by (all_tables gdef gsub gpos kern a b c d) with × NoSubsetBy with face cause)))
+    × (a : List ℕ) × (b : List ℕ) × (c : List ℕ) × (d : List ℕ) × (vertical : List (ℕ × List ℕ))
+    × HasTables by (all_tables gdef gsub gpos kern a b c d vertical) with × NoSubsetBy with face cause)))
 
 -- the file of a face
 pub record IsCutFace (choice : Choice) (features : Features) (face : Face) (left : ℕ) (subset : Subset) : Type 0 where
@@ -71,14 +74,16 @@ pub record IsCutFace (choice : Choice) (features : Features) (face : Face) (left
   pub gsub : List ℕ
   pub gpos : List ℕ
   pub kern : List ℕ
+  pub vertical : List (ℕ × List ℕ)
   pub file : IsSubsetFile by face subset.file.items
-  pub is : IsBy choice features face (all_tables subset.gdef subset.gsub subset.gpos subset.kern gdef gsub gpos kern) by
+  pub is : IsBy choice features face (all_tables subset.gdef subset.gsub subset.gpos subset.kern gdef gsub gpos kern vertical) by
   pub origins : List ℕ
   pub are : AreOriginsOf by face origins
   pub classes : IsGdef subset.gdef face.file origins left gdef
   pub substitutions : IsGsub subset.gsub face.file features is.made.lookups origins subset.gdef left gsub
   pub positions : IsGpos subset.gpos face.file features origins subset.gdef left gpos
   pub pairs : IsKern subset.kern face.file features origins subset.gpos gpos left kern
+  pub upright : AreVertical face.file origins vertical
   pub stays : TextStaysIn choice face is.made.count is.made.are.varied is.made.gsub is.made.are.chosen origins
   pub left_out : subset.left_out.items ≡ left_in subset.gsub (have_marks origins subset.gdef) is.made.gsub is.made.lookups
 

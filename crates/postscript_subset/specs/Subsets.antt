@@ -15,6 +15,7 @@ use Rattle.postscript_layout_write.specs.Texts.{MayBecome}
 use Rattle.postscript_sfnt.specs.Lent.{IsTableOf}
 use Rattle.postscript_subset.specs.Closing.{AreClosed, IsOfText, IsTableOrNone, below}
 use Rattle.postscript_subset.specs.Layers.{IsCopiedAs, IsGdef, IsGpos, IsGsub, IsKern, all_tables, gdef_tag, gpos_tag, gsub_tag, have_marks}
+use Rattle.postscript_subset.specs.Vertical.{AreVertical}
 use Rattle.postscript_subset.specs.declared.error.Error.{Error}
 use Rattle.postscript_subset.specs.declared.error.Error.TheVariants.{File, LargeGlyph, TooLong}
 use Rattle.postscript_subset.specs.declared.features.Features.{Features}
@@ -76,7 +77,8 @@ abbrev pub left_in : Outcome → (marks : Bool) → (gsub lookups : List ℕ) �
 left_in Kept marks gsub lookups = left_by marks gsub lookups (lookups_of gsub)
 left_in _ marks gsub lookups = []
 
--- The file is a subset of the face. Glyph i of the new face is old glyph origins[i], and the layout tables are made for the origins.
+-- The file is a subset of the face. Glyph i of the new face is old glyph origins[i]. The layout tables and the tables for vertical text are made for the
+-- origins.
 pub record IsCutWithLayout (choice : Choice) (features : Features) (bytes : List ℕ) (number left : ℕ) (subset : Subset) : Type 0 where
   pub by : Choice
   pub cut : IsSubsetOf by bytes number subset.file.items
@@ -84,14 +86,16 @@ pub record IsCutWithLayout (choice : Choice) (features : Features) (bytes : List
   pub gsub : List ℕ
   pub gpos : List ℕ
   pub kern : List ℕ
-  pub is : IsBy choice features cut.old (all_tables subset.gdef subset.gsub subset.gpos subset.kern gdef gsub gpos kern) by
+  pub vertical : List (ℕ × List ℕ)
+  pub is : IsBy choice features cut.old (all_tables subset.gdef subset.gsub subset.gpos subset.kern gdef gsub gpos kern vertical) by
   pub origins : List ℕ
   pub are : AreOriginsOf by cut.old origins
   pub classes : IsGdef subset.gdef cut.old.file origins left gdef
   pub substitutions : IsGsub subset.gsub cut.old.file features is.made.lookups origins subset.gdef left gsub
   pub positions : IsGpos subset.gpos cut.old.file features origins subset.gdef left gpos
   pub pairs : IsKern subset.kern cut.old.file features origins subset.gpos gpos left kern
-  pub there : (i : ℕ) (table : ℕ × List ℕ) → slice_get (all_tables subset.gdef subset.gsub subset.gpos subset.kern gdef gsub gpos kern) i ≡ Some table →
+  pub upright : AreVertical cut.old.file origins vertical
+  pub there : (i : ℕ) (table : ℕ × List ℕ) → slice_get (all_tables subset.gdef subset.gsub subset.gpos subset.kern gdef gsub gpos kern vertical) i ≡ Some table →
       (new : Face) → IsFaceIn subset.file.items 0 new → HasCopy new.file table.0 table.1
   pub stays : TextStaysIn choice cut.old is.made.count is.made.are.varied is.made.gsub is.made.are.chosen origins
   pub left_out : subset.left_out.items ≡ left_in subset.gsub (have_marks origins subset.gdef) is.made.gsub is.made.lookups
@@ -119,8 +123,8 @@ pub record IsCutInPlace (choice : Choice) (features : Features) (bytes : List �
 -- why no file of the face is written
 abbrev pub NoFileFrom : Choice → Features → (old : Face) → Cause → Type 0
 NoFileFrom choice features old e = IsUnopened old.cff.now e ⊎ ((by : Choice) × (gdef : Outcome) × (gsub : Outcome) × (gpos : Outcome)
-    × (kern : Outcome) × (a : List ℕ) × (b : List ℕ) × (c : List ℕ) × (d : List ℕ)
-    × IsBy choice features old (all_tables gdef gsub gpos kern a b c d) by × NoSubsetFrom by old e)
+    × (kern : Outcome) × (a : List ℕ) × (b : List ℕ) × (c : List ℕ) × (d : List ℕ) × (vertical : List (ℕ × List ℕ))
+    × IsBy choice features old (all_tables gdef gsub gpos kern a b c d vertical) by × NoSubsetFrom by old e)
 
 -- Why no file is written. Running out of memory may be the error at any time.
 abbrev pub NoCutWithLayout : Choice → Features → (bytes : List ℕ) → (number left : ℕ) → Error → Type 0

@@ -12,7 +12,9 @@ ghost use Rattle.postscript_subset.specs.declared.layers.Outcome.TheVariants as 
 
 use crate::error::{Error, Result};
 use crate::features::Features;
+use crate::vertical::vertical_of;
 use postscript_base::index::number::number_at;
+use postscript_files::Given;
 use postscript_kern::{Error as KernFault, each_language_kerns, kept_kerning};
 use postscript_layout_write::{
     Error as Fault, flagged_positions, flagged_substitutions, glyph_classes, glyph_definitions,
@@ -44,13 +46,15 @@ pub(crate) struct Layer {
     pub(crate) table: Vec<u8>,
 }
 
-/// The layout tables of a subset.
+/// The layout tables of a subset, and its tables for vertical text.
 #[derive(Drop)]
 pub(crate) struct Layers {
     pub(crate) gdef: Layer,
     pub(crate) gsub: Layer,
     pub(crate) gpos: Layer,
     pub(crate) kern: Layer,
+    /// The tables for vertical text.
+    pub(crate) vertical: Vec<Given>,
 }
 
 /// Returns an outcome without a table.
@@ -355,7 +359,7 @@ fn kern_of(
     }
 }
 
-/// Returns the layout tables of the origins.
+/// Returns the layout tables and the tables for vertical text of the origins.
 pub(crate) fn layers_of(
     alloc: Global,
     file: &FontFile<'_>,
@@ -372,10 +376,12 @@ pub(crate) fn layers_of(
     let gsub = gsub_of(alloc, file, features, lookups, origins, gdef.outcome, limit)?;
     let gpos = gpos_of(alloc, file, features, origins, gdef.outcome, limit)?;
     let kern = kern_of(alloc, file, features, origins, &gpos, limit)?;
+    let vertical = vertical_of(alloc, file, origins)?;
     Ok(Layers {
         gdef,
         gsub,
         gpos,
         kern,
+        vertical,
     })
 }

@@ -1,8 +1,8 @@
 //! Writes OpenType files with only some characters, whose layout tables still apply (ISO/IEC 14496-22, 6).
 //!
 //! [`subset_with_layout`] cuts a face as [`postscript_files::subset_file`] does. It also keeps the glyphs of variation sequences
-//! and the glyphs that the substitutions of chosen features can make, and writes `GSUB`, `GPOS`, `GDEF` and `kern` tables under the
-//! new glyph numbers. [`glyphs_with_layout`] returns these glyphs beforehand.
+//! and the glyphs that the substitutions of chosen features can make. It writes `GSUB`, `GPOS`, `GDEF` and `kern` tables and the
+//! tables for vertical text under the new glyph numbers. [`glyphs_with_layout`] returns these glyphs beforehand.
 //!
 //! [`text_chars`] lists the characters that such a subset needs, so that shapers set text with it as with the whole face.
 //!
@@ -17,6 +17,7 @@
 //! - The `GSUB` table substitutes as the old one (`KeepsRules` of `postscript_layout_write`), the `GPOS` table positions glyphs
 //!   as the old one (`KeepsPositions`, `KeepsFlaggedPositions`), and the `GDEF` table has the old classes (`KeepsClasses`).
 //!   Both tables have all scripts and languages, with the chosen features only (`HasOnlyFeatures`).
+//! - Each glyph has its vertical metrics and its vertical origin (`AreVertical`).
 //! - If glyphs keep their numbers, the layout tables are copied, and such a text has only glyphs that are the same in the new
 //!   face, after any substitutions.
 //! - `glyphs_with_layout` returns exactly the glyphs that the chosen lookups can make of the named ones and of the
@@ -38,6 +39,7 @@ mod in_place;
 mod layers;
 mod subset;
 mod text;
+mod vertical;
 
 pub use error::{Error, Result};
 pub use features::Features;

@@ -143,7 +143,7 @@ fn put(given: &mut Vec<Given>, tag: u32, layer: Layer) -> Result<()>
     Ok(())
 }
 
-/// Adds the layout tables that are kept.
+/// Adds the layout tables that are kept, and the tables for vertical text.
 fn put_all(given: &mut Vec<Given>, layers: Layers) -> Result<()>
     ensures put { OnOk result (map shown given.new.items ≡ map shown given.old.items ++ tables_of layers) }
     ensures memory { IfErr result (λ e. e ≡ errors.File causes.Memory) }
@@ -153,11 +153,14 @@ fn put_all(given: &mut Vec<Given>, layers: Layers) -> Result<()>
         gsub,
         gpos,
         kern,
+        mut vertical,
     } = layers;
     put(given, GDEF, gdef)?;
     put(given, GSUB, gsub)?;
     put(given, GPOS, gpos)?;
-    put(given, KERN, kern)
+    put(given, KERN, kern)?;
+    given.append(&mut vertical)?;
+    Ok(())
 }
 
 /// Writes the subset of a choice, with these layout tables in addition.
@@ -245,7 +248,9 @@ fn cut(
 /// - `GPOS`, with the chosen features and all its positions, if the face has this table and `kern`, `mark`, `mkmk` or `curs` is
 ///   among the features;
 /// - `kern`, with the pairs of the new glyphs, if `kern` is among the features, the face has such pairs, and the new `GPOS`
-///   table does not kern in each language.
+///   table does not kern in each language;
+/// - `vhea` and `vmtx`, if the face has both and `postscript_vertical::kept_metrics` does not refuse them;
+/// - `VORG`, if the face has it and `postscript_vertical::kept_origins` does not refuse it.
 ///
 /// If `choice.retain_gids` is set, glyphs keep their numbers. All lookups of `GSUB` are then chosen, and `GDEF`, `GSUB` and `GPOS`
 /// are copied as far as the face has them. `kern` is copied only if `choice.copied` has it.

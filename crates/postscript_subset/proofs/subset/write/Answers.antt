@@ -1,7 +1,9 @@
-use Rattle.std.proofs.Common.{◌∙◌, ap, subst, Bool, ℕ, List}
+use Rattle.std.proofs.Common.{rules, ◌∙◌, ap, subst, Bool, ℕ, List}
+use Rattle.std.specs.Prelude.{map}
 use Rattle.postscript_subset.specs.Layering.{AreLayers}
 use Rattle.postscript_subset.specs.Layers.{have_marks}
-use Rattle.postscript_subset.specs.Subsets.{left_in}
+use Rattle.postscript_subset.specs.Subsets.{left_in, shown}
+use Rattle.postscript_subset.proofs.Cutting.{no-cut-by}
 use Rattle.postscript_subset.proofs.subset.write.Goals as goal
 
 pub returns-clause-subset : goal.returns-clause-subset
@@ -18,6 +20,7 @@ returns-clause-subset c =
       gsub = layers.gsub.table.items;
       gpos = layers.gpos.table.items;
       kern = layers.kern.table.items;
+      vertical = map shown layers.vertical.items;
       has = finished.1;
       file = finished.2;
       origins = origins;
@@ -26,6 +29,12 @@ returns-clause-subset c =
       substitutions = made.gsub;
       positions = made.gpos;
       pairs = made.kern;
+      upright = made.vertical;
       left_out = c.in_ok-left_out.ensures.left
           ∙ ap (λ (b : Bool). left_in layers.gsub.outcome b c.args.gsub.now c.args.lookups.now) marks;
     }
+
+pub returns-in_err-file-clause-why : goal.returns-in_err-file-clause-why
+returns-in_err-file-clause-why c =
+    let no = no-cut-by _ c.args.by.now c.args.face.now c.in_ok-layers.layers c.in_err-file.ensures.why in
+    search (rules, no)
