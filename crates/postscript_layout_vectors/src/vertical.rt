@@ -66,35 +66,48 @@ fn metrics(rt: HostRuntime) {
 fn half_a_bearing(rt: HostRuntime) {
     let header = table(rt.alloc(), HEADER, &[1]).expect(&rt, "memory");
     let old = table(rt.alloc(), &[1000, 10, 20, 30], &[]).expect(&rt, "memory");
+    assert!(rt; old.len() == 8);
     let made = kept_metrics(rt.alloc(), &header, &old[..7], &[1, 2]).expect(&rt, "metrics");
     let new = table(rt.alloc(), &[1000, 20, 1000, 0], &[]).expect(&rt, "memory");
     assert_eq!(rt; made.1.as_slice(), new.as_slice());
 }
 
 #[test]
-fn refused_metrics(rt: HostRuntime) {
+fn refused_headers(rt: HostRuntime) {
     let header = table(rt.alloc(), HEADER, &[2]).expect(&rt, "memory");
-    let none = table(rt.alloc(), HEADER, &[0]).expect(&rt, "memory");
-    let old = table(rt.alloc(), &[1000, 10, 900, 20], &[]).expect(&rt, "memory");
-    let truncated = kept_metrics(rt.alloc(), &header[..35], &old, &[0]);
+    assert!(rt; header.len() == 36);
+    let truncated = kept_metrics(rt.alloc(), &header[0..35], &[], &[0]);
     assert!(rt; truncated == Err(Error::TruncatedHeader));
-    let empty = kept_metrics(rt.alloc(), &none, &old, &[0]);
+    let none = table(rt.alloc(), HEADER, &[0]).expect(&rt, "memory");
+    let empty = kept_metrics(rt.alloc(), &none, &[], &[0]);
     assert!(rt; empty == Err(Error::NoMetrics));
-    let short = kept_metrics(rt.alloc(), &header, &old[..7], &[0]);
-    assert!(rt; short == Err(Error::TruncatedMetrics));
-    assert!(rt; kept_metrics(rt.alloc(), &header, &old, &[0]).is_ok());
 }
 
+#[test]
+fn refused_metrics(rt: HostRuntime) {
+    let header = table(rt.alloc(), HEADER, &[2]).expect(&rt, "memory");
+    let old = table(rt.alloc(), &[1000, 10, 900, 20], &[]).expect(&rt, "memory");
+    assert!(rt; kept_metrics(rt.alloc(), &header, &old, &[0]).is_ok());
+    assert!(rt; old.len() == 8);
+    let short = kept_metrics(rt.alloc(), &header, &old[..7], &[0]);
+    assert!(rt; short == Err(Error::TruncatedMetrics));
+}
+
+/// There may be 65,535 glyphs, but not 65,536.
 #[test]
 fn many(rt: HostRuntime) {
     let header = table(rt.alloc(), HEADER, &[1]).expect(&rt, "memory");
     let old = table(rt.alloc(), &[1000, 10], &[]).expect(&rt, "memory");
     let vorg = table(rt.alloc(), &[1, 0, 880, 1, 0, 900], &[]).expect(&rt, "memory");
-    let glyphs = vec![in rt.alloc(); 0u16; 65536].expect(&rt, "memory");
-    let made = kept_metrics(rt.alloc(), &header, &old, &glyphs[..65535]).expect(&rt, "metrics");
-    assert!(rt; made.0[34..] == [255, 255] && made.1.len() == 262140);
-    let records = kept_origins(rt.alloc(), &vorg, &glyphs[..65535]).expect(&rt, "records");
-    assert!(rt; records[6..8] == [255, 255] && records.len() == 262148);
+    let mut glyphs = vec![in rt.alloc(); 0u16; 65535].expect(&rt, "memory");
+    let made = kept_metrics(rt.alloc(), &header, &old, &glyphs).expect(&rt, "metrics");
+    assert!(rt; made.1.len() == 262140);
+    assert!(rt; made.0.len() == 36);
+    assert_eq!(rt; &made.0[34..36], [255u8, 255].as_slice());
+    let records = kept_origins(rt.alloc(), &vorg, &glyphs).expect(&rt, "records");
+    assert!(rt; records.len() == 262148);
+    assert_eq!(rt; &records[6..8], [255u8, 255].as_slice());
+    glyphs.push(0).expect(&rt, "memory");
     assert!(rt; kept_metrics(rt.alloc(), &header, &old, &glyphs) == Err(Error::TooManyGlyphs));
     assert!(rt; kept_origins(rt.alloc(), &vorg, &glyphs) == Err(Error::TooManyGlyphs));
 }
