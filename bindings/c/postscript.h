@@ -349,7 +349,7 @@ int32_t psf_file_subset(const uint8_t *file, size_t length, size_t face, const u
                         const size_t *glyphs, size_t named, const uint32_t *copied, size_t tables, uint32_t lenient,
                         uint32_t keeps, uint64_t limit, uint8_t *subset, size_t room, size_t *count, psf_refusal *refusal);
 
-/* The same with layout tables: GSUB, GPOS, GDEF and kern are written for the glyphs of the new file. The substitutions of the features with
+/* The same with layout tables: GSUB, GPOS, GDEF, kern, vhea, vmtx and VORG are written for the glyphs of the new file. The substitutions of the features with
  * the tags features[0..tags] are kept, or all substitutions if all is not 0, and also the glyphs that they can make of the others.
  * The variation sequences of the characters are kept, with their glyphs.
  * Positions are kept if kern, mark, mkmk or curs is among the features. If keeps is not 0, all features count,

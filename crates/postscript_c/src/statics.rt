@@ -3,7 +3,6 @@ ghost use Rattle.std.specs.Prelude.{◌≡◌, ◌⊎◌, ◌<◌, length, pos, 
 ghost use Rattle.postscript_c.specs.Placed.{IsUnplaced, axes_in};
 ghost use Rattle.postscript_c.specs.Statics.{AreSettings, AreSettingsAlong, AreSettingsIn, AreSettingsOf, IsStaticOf, IsWrittenAt, TellsStatic, TellsStaticOf, file_written_code, glyph_cause as the_glyph_cause, glyph_code, made_code, no_static_code, no_static_refusal as the_no_static_refusal, place_code, setting_of, static_code, static_refusal as the_static_refusal, tag_of as the_tag_of, variations_code};
 ghost use Rattle.postscript_c.specs.Texts.{lent};
-ghost use Rattle.postscript_c.specs.Written.{IsSet};
 ghost use Rattle.postscript_c.specs.declared.place.Unplaced.TheVariants as unplaced;
 ghost use Rattle.postscript_sfnt.specs.Lent.{IsFaceOf};
 ghost use Rattle.postscript_variation.specs.LentAxes.{axis_count};
@@ -18,7 +17,7 @@ use crate::status::{
 use crate::texts::hand_over;
 use crate::told::{status, undrawn_status};
 use crate::varied::table_status;
-use crate::written::{PsfRefusal, refusal_with};
+use crate::written::{PsfRefusal, is_set, refusal_with};
 use postscript_base::index::number::number_at;
 use postscript_instance::Error as CodeError;
 use postscript_instance_file::{Error, GlyphError, StaticFont, instance_file};
@@ -111,13 +110,6 @@ fn settings_of(alloc: Global, file: &FontFile<'_>, values: &[i32]) -> Result<Vec
         Ok(axes) => all_settings(alloc, axes, values),
         Err(e) => Err(Unplaced::BadAxes(e)),
     }
-}
-
-/// Whether a number is not 0.
-fn is_set(number: u32) -> bool
-    ensures { IsSet number result }
-{
-    number != 0
 }
 
 /// The file of a face at the location of some settings.

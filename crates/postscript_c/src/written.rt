@@ -1,7 +1,7 @@
 //! New fonts.
 ghost use Rattle.std.specs.Prelude.{◌≡◌, pos};
 ghost use Rattle.postscript_c.specs.Texts.{lent};
-ghost use Rattle.postscript_c.specs.Written.{IsFlat, IsSubset, TellsWritten, refusal as no_refusal, refusal_of as the_refusal, written_code};
+ghost use Rattle.postscript_c.specs.Written.{IsFlat, IsSet, IsSubset, TellsWritten, refusal as no_refusal, refusal_of as the_refusal, written_code};
 
 use crate::status::{
     NO_GLYPH, NO_GLYPHS, NO_NAME, NO_PART, REFUSED_GLYPH, SEVERAL_FONTS, TOO_LARGE, TOO_LONG,
@@ -94,6 +94,13 @@ pub(crate) fn flat(alloc: Global, bytes: &[u8]) -> Result<Vec<u8>>
     flat_font(alloc, bytes)
 }
 
+/// Whether a number is not 0.
+pub(crate) fn is_set(number: u32) -> bool
+    ensures { IsSet number result }
+{
+    number != 0
+}
+
 /// The subset with these glyphs, under their old numbers or new ones. The runs of its glyphs share the limit.
 pub(crate) fn subset_of(
     alloc: Global,
@@ -104,7 +111,8 @@ pub(crate) fn subset_of(
 ) -> Result<Vec<u8>>
     ensures { IsSubset keeps limit bytes.now glyphs.now result }
 {
-    match subset_within(alloc, bytes, glyphs, keeps != 0, Some(limit)) {
+    let retain = is_set(keeps);
+    match subset_within(alloc, bytes, glyphs, retain, Some(limit)) {
         Ok(subset) => Ok(subset.font),
         Err(error) => Err(error),
     }
