@@ -50,8 +50,18 @@ impl Choice {
         Ok(())
     }
 
-    /// Adds the characters of a range that have a glyph.
-    fn put_range(&mut self, all: &[(u32, u16)], first: u32, last: u32) -> Result<(), AllocError> {
+    /// Adds the characters of a range that have a glyph, and looks up each.
+    fn put_few(&mut self, face: &Face<'_>, first: u32, last: u32) -> Result<(), AllocError> {
+        for char in first..last.min(LAST) + 1 {
+            if glyph_of(&face.map, char) != 0 {
+                self.chars.push(char)?;
+            }
+        }
+        Ok(())
+    }
+
+    /// Adds the characters of a range that have a glyph, from a list of all characters.
+    fn put_many(&mut self, all: &[(u32, u16)], first: u32, last: u32) -> Result<(), AllocError> {
         let from = all.partition_point(|mapped| mapped.0 < first);
         for (char, _) in &all[from..] {
             if *char > last {
@@ -67,7 +77,7 @@ impl Choice {
         if list.is_empty() {
             return Ok(());
         }
-        let all = if list.contains('-') {
+        let all = if has_many(list) {
             all_of(alloc, &face.map)?
         } else {
             Vec::new(alloc)
@@ -91,7 +101,10 @@ impl Choice {
         word: &str,
     ) -> Result<(), Failure> {
         match range_of(word) {
-            Some((Some(first), Some(last))) => Ok(self.put_range(all, first, last)?),
+            Some((Some(first), Some(last))) if are_many(first, last) => {
+                Ok(self.put_many(all, first, last)?)
+            }
+            Some((Some(first), Some(last))) => Ok(self.put_few(face, first, last)?),
             Some(_) => Err(Failure::usage(NOT_IN_HEX)),
             None => match char_of(word) {
                 Some(char) => self.put_char(face, char),
@@ -235,6 +248,23 @@ fn put_chars_of(chars: &mut Vec<u32>, all: &[Mapped], glyph: usize) -> Result<()
 fn char_of(word: &str) -> Option<u32> {
     let digits = word.strip_prefix("U+").unwrap_or(word);
     u32::from_str_radix(digits, 16).ok()
+}
+
+/// Returns whether a range has too many characters to look up each.
+fn are_many(first: u32, last: u32) -> bool {
+    last.saturating_sub(first) as usize >= FEW
+}
+
+/// Returns whether a list of hexadecimal numbers and ranges has a range of many characters.
+fn has_many(list: &str) -> bool {
+    for word in list.split(',') {
+        if let Some((Some(first), Some(last))) = range_of(word)
+            && are_many(first, last)
+        {
+            return true;
+        }
+    }
+    false
 }
 
 /// Parses a range of characters. Returns `None` if the text has no hyphen.
