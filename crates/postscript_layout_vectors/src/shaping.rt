@@ -34,6 +34,17 @@ const ROWS: [Row; 11] = [
         mapped: &[0x42, 0xe9, 0xea, 0x25cc],
         used: &[0x65, 0xe9, 0x301, 0x25cc],
     },
+    // superscript two modifies a syllable, and so it is drawn on the dotted circle in an Indic script; superscript one does not
+    Row {
+        text: &[0xb2],
+        mapped: &[0xb2, 0x25cc],
+        used: &[0xb2, 0x25cc],
+    },
+    Row {
+        text: &[0xb1, 0xb4, 0xb9],
+        mapped: &[0xb1, 0xb4, 0xb9, 0x25cc],
+        used: &[0xb1, 0xb4, 0xb9],
+    },
     // nothing is composed without an accent
     Row {
         text: &[0x41, 0x65],

@@ -6,7 +6,7 @@ use Rattle.std.specs.List.Sorted.{IsPermutation}
 use Rattle.std.proofs.lemmas.Bool.{eq-eqb, eqb-true, lt-ltb, ltb-true}
 use Rattle.std.proofs.lemmas.List.Elements.{Contains-append_left, Contains-append_right, Contains-append_cases}
 use Rattle.std.proofs.lemmas.List.Sorted.{Contains-permutation, IsPermutation-sym}
-use Rattle.postscript_shaping.specs.Characters.{is_arabic_form, is_mark, is_mirrored, is_right_to_left}
+use Rattle.postscript_shaping.specs.Characters.{is_arabic_form, is_attached, is_mirrored, is_right_to_left}
 use Rattle.postscript_shaping.specs.Parts.{compatible, letters, parts, rest}
 use Rattle.postscript_shaping.specs.Shaping.{AreUsed, Compose, IsBase, IsComposed, IsForm, IsOrParts, IsUsed}
 use Rattle.postscript_shaping.specs.Shaping.IsForm.{space, dotted_circle, mirror, arabic}
@@ -21,15 +21,15 @@ Same xs ys = (char : ℕ) → Contains xs char ↔ Contains ys char
 same-from : (xs ys : List ℕ) → IsPermutation xs ys → Same ys xs
 same-from xs ys p char = (Contains-permutation ys xs char (IsPermutation-sym xs ys p), Contains-permutation xs ys char p)
 
-inserted-is : (kept chars : List ℕ) (char : ℕ) → Same kept chars → is_inserted (is_some kept) (list_any is_mark kept) char ≡ true → IsForm chars char
-inserted-is kept chars char same h = elim (or-cases (is_some kept && (char == 0x20)) (list_any is_mark kept && (char == 0x25cc)) h) [
+inserted-is : (kept chars : List ℕ) (char : ℕ) → Same kept chars → is_inserted (is_some kept) (list_any is_attached kept) char ≡ true → IsForm chars char
+inserted-is kept chars char same h = elim (or-cases (is_some kept && (char == 0x20)) (list_any is_attached kept && (char == 0x25cc)) h) [
   | inl e ↦
       let both = and-both (is_some kept) (char == 0x20) e in
       let one = some-there kept both.0 in
       space (eqb-true char 0x20 both.1) one.0 ((same one.0).0 one.1)
   | inr r ↦
-      let both = and-both (list_any is_mark kept) (char == 0x25cc) r in
-      let mark = any-there is_mark kept both.0 in
+      let both = and-both (list_any is_attached kept) (char == 0x25cc) r in
+      let mark = any-there is_attached kept both.0 in
       dotted_circle (eqb-true char 0x25cc both.1) mark.0 ((same mark.0).0 mark.1) mark.2
 ]
 
@@ -54,7 +54,7 @@ arabic-is own chars char owns h =
 
 form-is : (kept own chars : List ℕ) (char : ℕ) → Same kept chars → Owns own chars → is_form kept own char ≡ true → IsForm chars char
 form-is kept own chars char same owns h =
-    elim (or-cases (is_inserted (is_some kept) (list_any is_mark kept) char) ((mirrors kept && is_mirrored char) || is_arabic own char) h) [
+    elim (or-cases (is_inserted (is_some kept) (list_any is_attached kept) char) ((mirrors kept && is_mirrored char) || is_arabic own char) h) [
       | inl i ↦ inserted-is kept chars char same i
       | inr r ↦ elim (or-cases (mirrors kept && is_mirrored char) (is_arabic own char) r) [
         | inl m ↦ mirror-is kept chars char same m
@@ -62,19 +62,19 @@ form-is kept own chars char same owns h =
       ]
     ]
 
-is-inserted : (kept own : List ℕ) (char : ℕ) → is_inserted (is_some kept) (list_any is_mark kept) char ≡ true → is_form kept own char ≡ true
-is-inserted kept own char h = left-or (is_inserted (is_some kept) (list_any is_mark kept) char) ((mirrors kept && is_mirrored char) || is_arabic own char) h
+is-inserted : (kept own : List ℕ) (char : ℕ) → is_inserted (is_some kept) (list_any is_attached kept) char ≡ true → is_form kept own char ≡ true
+is-inserted kept own char h = left-or (is_inserted (is_some kept) (list_any is_attached kept) char) ((mirrors kept && is_mirrored char) || is_arabic own char) h
 
 is-other : (kept own : List ℕ) (char : ℕ) → ((mirrors kept && is_mirrored char) || is_arabic own char) ≡ true → is_form kept own char ≡ true
-is-other kept own char h = right-or (is_inserted (is_some kept) (list_any is_mark kept) char) ((mirrors kept && is_mirrored char) || is_arabic own char) h
+is-other kept own char h = right-or (is_inserted (is_some kept) (list_any is_attached kept) char) ((mirrors kept && is_mirrored char) || is_arabic own char) h
 
 is-form : (kept own chars : List ℕ) (char : ℕ) → Same kept chars → Owns own chars → IsForm chars char → is_form kept own char ≡ true
 is-form kept own chars char same owns (space e one there) =
-    is-inserted kept own char (left-or (is_some kept && (char == 0x20)) (list_any is_mark kept && (char == 0x25cc))
+    is-inserted kept own char (left-or (is_some kept && (char == 0x20)) (list_any is_attached kept && (char == 0x25cc))
     (both-and (is_some kept) (char == 0x20) (there-some kept one ((same one).1 there)) (eq-eqb char 0x20 e)))
 is-form kept own chars char same owns (dotted_circle e mark there is) =
-    is-inserted kept own char (right-or (is_some kept && (char == 0x20)) (list_any is_mark kept && (char == 0x25cc))
-    (both-and (list_any is_mark kept) (char == 0x25cc) (there-any is_mark kept mark ((same mark).1 there) is) (eq-eqb char 0x25cc e)))
+    is-inserted kept own char (right-or (is_some kept && (char == 0x20)) (list_any is_attached kept && (char == 0x25cc))
+    (both-and (list_any is_attached kept) (char == 0x25cc) (there-any is_attached kept mark ((same mark).1 there) is) (eq-eqb char 0x25cc e)))
 is-form kept own chars char same owns (mirror is other letter there mirrored here left) =
     is-other kept own char (left-or (mirrors kept && is_mirrored char) (is_arabic own char) (both-and (mirrors kept) (is_mirrored char)
     (both-and (list_any is_right_to_left kept) (list_any is_mirrored kept)

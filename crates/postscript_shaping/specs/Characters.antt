@@ -15,6 +15,15 @@ is_scalar char = nat_lt char 0xd800 || (nat_lt 0xdfff char && nat_lt char 0x1100
 abbrev pub is_mark : (char : ℕ) → Bool
 is_mark char = is_scalar char && in_group Mark (general_category char)
 
+-- A digit that modifies a syllable of an Indic script, such as superscript two (UAX 44, Indic_Syllabic_Category, Syllable_Modifier). Other syllable
+-- modifiers are marks.
+abbrev pub is_modifier : (char : ℕ) → Bool
+is_modifier char = (nat_lt 0xb1 char && nat_lt char 0xb4) || (char == 0x2074 || (nat_lt 0x2081 char && nat_lt char 0x2085))
+
+-- a character that is attached to a base
+abbrev pub is_attached : (char : ℕ) → Bool
+is_attached char = is_mark char || is_modifier char
+
 abbrev pub goes_left : BidiClass → Bool
 goes_left RightToLeft = true
 goes_left ArabicLetter = true

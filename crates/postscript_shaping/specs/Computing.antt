@@ -1,7 +1,7 @@
 -- The same as tests. Only private contracts and proofs use these definitions.
 use Rattle.std.specs.Prelude.{ℕ, Bool, true, false, ◌==◌, ◌&&◌, ◌||◌, List, [], ◌∷◌, ◌++◌, length, nat_eq, nat_lt, flat_map}
 use Rattle.std.specs.List.{filter, list_all, list_any}
-use Rattle.postscript_shaping.specs.Characters.{is_arabic_form, is_mark, is_mirrored, is_right_to_left}
+use Rattle.postscript_shaping.specs.Characters.{is_arabic_form, is_attached, is_mirrored, is_right_to_left}
 use Rattle.postscript_shaping.specs.Parts.{compatible, letters, parts, rest}
 
 abbrev pub has : (chars : List ℕ) → (char : ℕ) → Bool
@@ -13,8 +13,8 @@ has_all chars wanted = list_all (has chars) wanted
 abbrev pub has_any : (chars wanted : List ℕ) → Bool
 has_any chars wanted = list_any (has chars) wanted
 
-abbrev pub is_inserted : (some marks : Bool) → (char : ℕ) → Bool
-is_inserted some marks char = (some && (char == 0x20)) || (marks && (char == 0x25cc))
+abbrev pub is_inserted : (some attached : Bool) → (char : ℕ) → Bool
+is_inserted some attached char = (some && (char == 0x20)) || (attached && (char == 0x25cc))
 
 abbrev pub mirrors : (kept : List ℕ) → Bool
 mirrors kept = list_any is_right_to_left kept && list_any is_mirrored kept
@@ -28,7 +28,7 @@ is_arabic own char = is_arabic_form char && (is_some (compatible char) && has_al
 
 -- `own` has the kept characters and their parts
 abbrev pub is_form : (kept own : List ℕ) → (char : ℕ) → Bool
-is_form kept own char = is_inserted (is_some kept) (list_any is_mark kept) char || ((mirrors kept && is_mirrored char) || is_arabic own char)
+is_form kept own char = is_inserted (is_some kept) (list_any is_attached kept) char || ((mirrors kept && is_mirrored char) || is_arabic own char)
 
 -- the kept characters, and their forms in the font
 abbrev pub base : (mapped kept own : List ℕ) → List ℕ

@@ -1,7 +1,7 @@
 -- The characters that a shaper may use for a text, in a font that maps some characters (The Unicode Standard, 3.7, 3.11, 5.13; UAX 9).
 use Rattle.std.specs.Prelude.{◌≡◌, ◌≢◌, ◌⊎◌, ◌↔◌, ℕ, ◌<◌, true, List, [], length}
 use Rattle.std.specs.List.{All, Contains}
-use Rattle.postscript_shaping.specs.Characters.{is_arabic_form, is_mark, is_mirrored, is_right_to_left}
+use Rattle.postscript_shaping.specs.Characters.{is_arabic_form, is_attached, is_mirrored, is_right_to_left}
 use Rattle.postscript_shaping.specs.Parts.{compatible, letters, parts, rest}
 
 -- one of these, or a part of one of these
@@ -9,11 +9,11 @@ abbrev pub IsOrParts : (Is : ℕ → Type 0) → (char : ℕ) → Type 0
 IsOrParts Is char = Is char ⊎ ((whole : ℕ) × Is whole × Contains (parts whole) char)
 
 -- In the place of characters of the text, or beside them, a shaper may use: the space, for characters that it hides; the dotted circle, under a mark
--- without a base; mirrored characters, if the text has one and has letters from right to left; Arabic presentation forms. The letters of such a form
+-- or a modifier without a base; mirrored characters, if the text has one and has letters from right to left; Arabic presentation forms. The letters of such a form
 -- are characters of the text, or parts of these: alef with hamza above has two parts, and so have its forms.
 pub data IsForm (kept : List ℕ) (char : ℕ) : Type 0 where
   space : char ≡ 0x20 → (one : ℕ) → Contains kept one → IsForm kept char
-  dotted_circle : char ≡ 0x25cc → (mark : ℕ) → Contains kept mark → is_mark mark ≡ true → IsForm kept char
+  dotted_circle : char ≡ 0x25cc → (mark : ℕ) → Contains kept mark → is_attached mark ≡ true → IsForm kept char
   mirror : is_mirrored char ≡ true → (other letter : ℕ) → Contains kept other → is_mirrored other ≡ true →
       Contains kept letter → is_right_to_left letter ≡ true → IsForm kept char
   arabic : is_arabic_form char ≡ true → compatible char ≢ [] → All (IsOrParts (Contains kept)) (compatible char) → IsForm kept char

@@ -1,12 +1,12 @@
 //! Characters that a shaper may use without composing or decomposing those of a text.
 ghost use Rattle.std.specs.Prelude.{◌≡◌, ◌++◌, IfOk, OnOk};
 ghost use Rattle.std.specs.List.{filter, list_any};
-ghost use Rattle.postscript_shaping.specs.Characters.{is_mark as the_mark, is_mirrored as the_mirrored, is_right_to_left as the_right_to_left};
+ghost use Rattle.postscript_shaping.specs.Characters.{is_attached as the_attached, is_mirrored as the_mirrored, is_right_to_left as the_right_to_left};
 ghost use Rattle.std.specs.List.Sorted.{IsNonDecreasing};
 ghost use Rattle.postscript_shaping.specs.Computing.{base as the_base, is_arabic as the_arabic, is_form as the_form, is_inserted as the_inserted};
 ghost use Rattle.postscript_shaping.specs.Traits.{AreTraits};
 
-use crate::characters::{is_arabic_form, is_mark, is_mirrored, is_right_to_left};
+use crate::characters::{is_arabic_form, is_attached, is_mirrored, is_right_to_left};
 use crate::parts::compatible;
 use crate::sorted::has_all;
 use std::alloc::{AllocError, Global};
@@ -14,14 +14,14 @@ use std::alloc::{AllocError, Global};
 /// The space, which shapers use for characters that they hide.
 const SPACE: u32 = 0x20;
 
-/// The dotted circle, which shapers insert before a mark without a base.
+/// The dotted circle, which shapers insert before a mark or a modifier without a base.
 const DOTTED_CIRCLE: u32 = 0x25cc;
 
-/// Returns whether some character is a mark.
-fn has_mark(kept: &[u32]) -> bool
-    ensures { result ≡ list_any the_mark kept.now }
+/// Returns whether some character is attached to a base.
+fn has_attached(kept: &[u32]) -> bool
+    ensures { result ≡ list_any the_attached kept.now }
 {
-    kept.iter().any(|char| is_mark(*char))
+    kept.iter().any(|char| is_attached(*char))
 }
 
 /// Returns whether some character is written from right to left.
@@ -43,8 +43,8 @@ fn has_mirrored(kept: &[u32]) -> bool
 struct Traits {
     /// A character.
     some: bool,
-    /// A mark.
-    marks: bool,
+    /// A character that is attached to a base.
+    attached: bool,
     /// A letter that is written from right to left, and a character that is mirrored there.
     mirrors: bool,
 }
@@ -55,16 +55,17 @@ fn traits_of(kept: &[u32]) -> Traits
 {
     Traits {
         some: !kept.is_empty(),
-        marks: has_mark(kept),
+        attached: has_attached(kept),
         mirrors: has_right_to_left(kept) && has_mirrored(kept),
     }
 }
 
-/// Returns whether a shaper may insert a character: the space if some character is kept, or the dotted circle if a mark is.
-fn is_inserted(some: bool, marks: bool, char: u32) -> bool
-    ensures { result ≡ the_inserted some marks char }
+/// Returns whether a shaper may insert a character: the space if some character is kept, or the dotted circle if one
+/// is that is attached to a base.
+fn is_inserted(some: bool, attached: bool, char: u32) -> bool
+    ensures { result ≡ the_inserted some attached char }
 {
-    (some && char == SPACE) || (marks && char == DOTTED_CIRCLE)
+    (some && char == SPACE) || (attached && char == DOTTED_CIRCLE)
 }
 
 /// Returns whether a character is an Arabic presentation form of kept characters. `own` has these and their parts.
@@ -85,7 +86,7 @@ fn is_form(_kept: &[u32], own: &[u32], traits: Traits, char: u32) -> bool
     requires traits { AreTraits _kept.now traits }
     ensures { result ≡ the_form _kept.now own.now char }
 {
-    is_inserted(traits.some, traits.marks, char)
+    is_inserted(traits.some, traits.attached, char)
         || (traits.mirrors && is_mirrored(char))
         || is_arabic(own, char)
 }

@@ -12,7 +12,8 @@ use std::alloc::{AllocError, Global};
 /// The result has the characters of the text, in any case, and these characters of the font:
 ///
 /// - U+0020, which is drawn for characters that shapers hide, if the text is not empty;
-/// - U+25CC, which is inserted before a mark without a base, if the text has a mark;
+/// - U+25CC, which is inserted before a mark without a base, or in Indic scripts before a digit such as superscript two, if
+///   the text has one of these;
 /// - mirrored characters such as brackets, if the text has one, and has a letter that is written from right to left;
 /// - Arabic presentation forms of characters of the text, also of those that can be decomposed, such as alef with hamza above;
 /// - the characters that these can be decomposed to, in one or more steps;
