@@ -9,7 +9,7 @@ struct Row {
     used: &'static [u32],
 }
 
-const ROWS: [Row; 11] = [
+const ROWS: [Row; 13] = [
     // no text
     Row {
         text: &[],
