@@ -343,15 +343,15 @@ int32_t psf_file_flat(const uint8_t *file, size_t length, size_t face, uint64_t 
  * are lost: psf_file_subset_layout keeps them. A variation sequence of a character is kept if its glyph is.
  * If lenient is 0, a character without a glyph is an error; otherwise it is left out. If keeps is 0, glyphs get new numbers in
  * ascending order; otherwise they keep their numbers, and all others are empty, with the metrics of .notdef.
- * Limit and errors are those of psf_font_subset. Outputs are those of psf_file_flat, and so are further errors, with PSF_NO_MAP,
+ * The limit is that of psf_font_subset. Outputs and errors are those of psf_file_flat and of psf_font_subset, and PSF_NO_MAP,
  * PSF_NO_ADVANCES, PSF_NO_CHARACTER, PSF_CUT_TABLE and PSF_SAME_TAG. */
 int32_t psf_file_subset(const uint8_t *file, size_t length, size_t face, const uint32_t *characters, size_t asked,
                         const size_t *glyphs, size_t named, const uint32_t *copied, size_t tables, uint32_t lenient,
                         uint32_t keeps, uint64_t limit, uint8_t *subset, size_t room, size_t *count, psf_refusal *refusal);
 
-/* The same with layout tables: GSUB, GPOS, GDEF, kern, vhea, vmtx and VORG are written for the glyphs of the new file. The substitutions of the features with
- * the tags features[0..tags] are kept, or all substitutions if all is not 0, and also the glyphs that they can make of the others.
- * The variation sequences of the characters are kept, with their glyphs.
+/* The same with layout tables: GSUB, GPOS, GDEF, kern, vhea, vmtx and VORG are written for the glyphs of the new file. The
+ * substitutions of the features with the tags features[0..tags] are kept, or all substitutions if all is not 0, and also the
+ * glyphs that they can make of the others. The variation sequences of the characters are kept, with their glyphs.
  * Positions are kept if kern, mark, mkmk or curs is among the features. If keeps is not 0, all features count,
  * and the tables are copied. If exact is 0, the characters that a shaper may use for text of the given ones are kept too, as far as the
  * face has them, e.g. the parts of composed characters. What is left out: docs/subsets.md.
