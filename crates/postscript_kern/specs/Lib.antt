@@ -6,3 +6,4 @@ pub mod Kept
 pub mod Written
 pub mod Refusals
 pub mod Languages
+pub mod Units

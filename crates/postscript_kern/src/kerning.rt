@@ -1,10 +1,12 @@
 //! The `kern` table of the kept glyphs.
-ghost use Rattle.std.specs.Prelude.{◌≡◌, ◌⊎◌, ◌↔◌, ◌+◌, ◌^◌, ◌<◌, ◌≤◌, [], List, length, IfErr, IfOk, IsTrue, MatchOption};
+ghost use Rattle.std.specs.Prelude.{◌≡◌, ◌⊎◌, ◌↔◌, ◌+◌, ◌^◌, ◌<◌, ◌≤◌, [], List, length, IfErr, IfOk, IsTrue, MatchOption, OnOk};
 ghost use Rattle.postscript_kern.specs.Kept.{AreKept, Subtable};
 ghost use Rattle.postscript_kern.specs.Pairs.{HasPairs, count_of as the_count};
 ghost use Rattle.postscript_kern.specs.Refusals.{Refuses, RefusesSubtable};
 ghost use Rattle.postscript_kern.specs.Renumbering.{AreNumbers};
+ghost use Rattle.postscript_kern.specs.Units.{pairs_at, units_of};
 ghost use Rattle.postscript_kern.specs.Written.{Adds, AreWritten, IsTable};
+ghost use Rattle.postscript_kern.specs.declared.error.Error.TheVariants as errors;
 
 use crate::error::{Error, Result};
 use crate::limit::pay;
@@ -49,6 +51,9 @@ fn add(
     requires exact { AreNumbers kept.now numbers.now }
     ensures added { IfOk result (λ added. Adds table.now kept.now at out.old.items added out.new.items) }
     ensures spends { limit.new ≤ limit.old }
+    ensures paid { OnOk result (limit.old ≡ limit.new + pairs_at table.now at) }
+    ensures most { limit.old ≤ limit.new + pairs_at table.now at }
+    ensures lacking { IfErr result (λ e. e ≡ errors.TooLong → limit.old < pairs_at table.now at) }
     ensures why { IfErr result (λ e. RefusesSubtable table.now kept.now at limit.new e) }
 {
     if !has_pairs(table, at) {
@@ -75,6 +80,9 @@ fn put_subtables(
     ensures put { IfOk result (λ count. (subtables : List Subtable) × AreKept table.now kept.now (the_count table.now) subtables × AreWritten subtables out.new.items × (length subtables ≡ count)) }
     ensures few { IfOk result (λ count. count < 65536) }
     ensures spends { limit.new ≤ limit.old }
+    ensures paid { OnOk result (limit.old ≡ limit.new + units_of table.now) }
+    ensures most { limit.old ≤ limit.new + units_of table.now }
+    ensures lacking { IfErr result (λ e. e ≡ errors.TooLong → limit.old < units_of table.now) }
     ensures why { IfErr result (λ e. Refuses e table.now kept.now limit.new) }
 {
     let numbers = new_numbers(alloc, kept)?;
@@ -113,6 +121,12 @@ pub fn kept_kerning(
         × MatchOption made (subtables ≡ []) (λ new. IsTable subtables new.items)) }
     // The limit never grows.
     ensures spends { limit.new ≤ limit.old }
+    // On success, the limit falls by one unit for each subtable, and for each of its pairs.
+    ensures paid { OnOk result (limit.old ≡ limit.new + units_of table.now) }
+    // An error costs at most these units.
+    ensures most { limit.old ≤ limit.new + units_of table.now }
+    // The error is `TooLong` only if the limit is lower than these units.
+    ensures lacking { IfErr result (λ e. e ≡ errors.TooLong → limit.old < units_of table.now) }
     // An error has its cause.
     ensures why { IfErr result (λ e. Refuses e table.now kept.now limit.new) }
 {

@@ -1,8 +1,9 @@
 //! The languages in which a `GPOS` table kerns.
-ghost use Rattle.std.specs.Prelude.{◌≡◌, ◌↔◌, ℕ, ◌+◌, ◌^◌, ◌<◌, ◌≤◌, IfErr, IfOk, IsTrue};
+ghost use Rattle.std.specs.Prelude.{◌≡◌, ◌↔◌, ℕ, ◌+◌, ◌^◌, ◌<◌, ◌≤◌, IfErr, IfOk, IsTrue, OnErr, OnOk};
 ghost use Rattle.postscript_kern.specs.Languages.{EachLanguageKerns, EachScriptKerns, HasForOthers, IsForOthers, IsKernFeature, LanguageKerns, ScriptKerns, table_of as the_table, tag_of as the_tag};
 ghost use Rattle.postscript_kern.specs.Numbers.{word as the_word};
 ghost use Rattle.postscript_kern.specs.Refusals.{IsUsedUp};
+ghost use Rattle.postscript_kern.specs.Units.{languages_units, listed_units, script_units, scripts_units, total};
 
 use crate::error::Result;
 use crate::limit::pay;
@@ -43,6 +44,8 @@ fn language_kerns(gpos: &[u8], language: usize, limit: &mut u64) -> Result<bool>
     requires { language < 2 ^ 35 }
     ensures exact { IfOk result (λ kerns. IsTrue kerns ↔ LanguageKerns gpos.now language) }
     ensures spends { limit.new ≤ limit.old }
+    ensures most { OnOk result (limit.old ≤ limit.new + the_word gpos.now (language + 4)) }
+    ensures lacking { OnErr result (limit.old < the_word gpos.now (language + 4)) }
     ensures why { IfErr result (λ e. IsUsedUp limit.new e) }
 {
     for k in 0..word(gpos, language + 4) {
@@ -59,6 +62,8 @@ fn languages_kern(gpos: &[u8], script: usize, limit: &mut u64) -> Result<bool>
     requires { script < 2 ^ 34 }
     ensures exact { IfOk result (λ kern. IsTrue kern ↔ ((j : ℕ) → j < the_word gpos.now (script + 2) → LanguageKerns gpos.now (the_table gpos.now script (script + 4) j))) }
     ensures spends { limit.new ≤ limit.old }
+    ensures most { OnOk result (limit.old ≤ limit.new + total (listed_units gpos.now script) (the_word gpos.now (script + 2))) }
+    ensures lacking { OnErr result (limit.old < total (listed_units gpos.now script) (the_word gpos.now (script + 2))) }
     ensures why { IfErr result (λ e. IsUsedUp limit.new e) }
 {
     for j in 0..word(gpos, script + 2) {
@@ -76,6 +81,8 @@ fn script_kerns(gpos: &[u8], script: usize, limit: &mut u64) -> Result<bool>
     requires { script < 2 ^ 34 }
     ensures exact { IfOk result (λ kerns. IsTrue kerns ↔ ScriptKerns gpos.now script) }
     ensures spends { limit.new ≤ limit.old }
+    ensures most { OnOk result (limit.old ≤ limit.new + languages_units gpos.now script) }
+    ensures lacking { OnErr result (limit.old < languages_units gpos.now script) }
     ensures why { IfErr result (λ e. IsUsedUp limit.new e) }
 {
     let default = word(gpos, script);
@@ -93,6 +100,8 @@ fn script_kerns(gpos: &[u8], script: usize, limit: &mut u64) -> Result<bool>
 fn scripts_kern(gpos: &[u8], limit: &mut u64) -> Result<bool>
     ensures exact { IfOk result (λ kern. IsTrue kern ↔ EachScriptKerns gpos.now) }
     ensures spends { limit.new ≤ limit.old }
+    ensures most { OnOk result (limit.old ≤ limit.new + total (script_units gpos.now) (the_word gpos.now (the_word gpos.now 4))) }
+    ensures lacking { OnErr result (limit.old < total (script_units gpos.now) (the_word gpos.now (the_word gpos.now 4))) }
     ensures why { IfErr result (λ e. IsUsedUp limit.new e) }
 {
     let list = word(gpos, 4);
@@ -117,6 +126,8 @@ fn is_for_others(tag: usize) -> bool
 fn has_for_others(gpos: &[u8], limit: &mut u64) -> Result<bool>
     ensures exact { IfOk result (λ has. IsTrue has ↔ HasForOthers gpos.now) }
     ensures spends { limit.new ≤ limit.old }
+    ensures most { OnOk result (limit.old ≤ limit.new + the_word gpos.now (the_word gpos.now 4)) }
+    ensures lacking { OnErr result (limit.old < the_word gpos.now (the_word gpos.now 4)) }
     ensures why { IfErr result (λ e. IsUsedUp limit.new e) }
 {
     let list = word(gpos, 4);
@@ -142,10 +153,14 @@ fn has_for_others(gpos: &[u8], limit: &mut u64) -> Result<bool>
 ///
 /// - `TooLong`: the table costs more than the limit.
 pub fn each_language_kerns(gpos: &[u8], limit: &mut u64) -> Result<bool>
-    // The result is true exactly if there is a script for text whose own script is not in the list, and all language systems kern.
+    // True exactly if there is a script for text of other scripts, and all language systems kern.
     ensures exact { IfOk result (λ kerns. IsTrue kerns ↔ EachLanguageKerns gpos.now) }
     // The limit never grows.
     ensures spends { limit.new ≤ limit.old }
+    // The limit falls by at most the units of all scripts, even if the call fails.
+    ensures most { limit.old ≤ limit.new + scripts_units gpos.now }
+    // The call fails only if the limit is lower than these units.
+    ensures lacking { OnErr result (limit.old < scripts_units gpos.now) }
     // The only error is `TooLong`, with nothing left of the limit.
     ensures why { IfErr result (λ e. IsUsedUp limit.new e) }
 {

@@ -7,6 +7,9 @@
 //! The crate also finds out whether a `GPOS` table kerns text of each script and language (`EachLanguageKerns` in
 //! specs/Languages.antt). Shapers that kern by one of the two tables then need no `kern` table.
 //!
+//! specs/Units.antt says how many units a table needs. With such a limit no call returns `TooLong`, and no call costs more. If
+//! `kept_kerning` succeeds, it costs exactly these units.
+//!
 //! What is left out:
 //!
 //! - Subtables of other formats than 0, and subtables without pairs of kept glyphs.

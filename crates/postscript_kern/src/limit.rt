@@ -1,5 +1,5 @@
 //! The limit of a call.
-ghost use Rattle.std.specs.Prelude.{◌≡◌, ◌+◌, ◌≤◌, OnOk, IfErr};
+ghost use Rattle.std.specs.Prelude.{◌≡◌, ◌+◌, ◌<◌, ◌≤◌, OnErr, OnOk, IfErr};
 ghost use Rattle.postscript_kern.specs.Refusals.{IsUsedUp};
 
 use crate::error::{Error, Result};
@@ -8,6 +8,7 @@ use crate::error::{Error, Result};
 pub(crate) fn pay(limit: &mut u64) -> Result<()>
     ensures paid { OnOk result (limit.new + 1 ≡ limit.old) }
     ensures spends { limit.new ≤ limit.old }
+    ensures lacking { OnErr result (limit.old < 1) }
     ensures why { IfErr result (λ e. IsUsedUp limit.new e) }
 {
     if *limit == 0 {

@@ -41,7 +41,7 @@ fn pairs_in(table: &[u8], at: usize) -> usize
 }
 
 /// Collects the pairs of kept glyphs of a subtable, under their new numbers.
-fn collected(
+fn collect_pairs(
     alloc: Global,
     table: &[u8],
     at: usize,
@@ -55,6 +55,9 @@ fn collected(
     requires exact { AreNumbers kept.now numbers.now }
     ensures exact { IfOk result (λ pairs. AreCollected table.now kept.now at (the_pairs table.now at) pairs) }
     ensures spends { limit.new ≤ limit.old }
+    ensures paid { OnOk result (limit.old ≡ limit.new + the_pairs table.now at) }
+    ensures most { limit.old ≤ limit.new + the_pairs table.now at }
+    ensures lacking { IfErr result (λ e. e ≡ errors.TooLong → limit.old < the_pairs table.now at) }
     ensures why { IfErr result (λ e. (e ≡ errors.Memory) ⊎ IsUsedUp limit.new e) }
 {
     let mut pairs = BTreeMap::new(alloc);
@@ -87,9 +90,12 @@ pub(crate) fn kept_pairs(
     ensures exact { IfOk result (λ pairs. IsKept table.now kept.now at pairs.entries) }
     ensures few { IfOk result (λ pairs. length pairs.entries ≤ 10920) }
     ensures spends { limit.new ≤ limit.old }
+    ensures paid { OnOk result (limit.old ≡ limit.new + the_pairs table.now at) }
+    ensures most { limit.old ≤ limit.new + the_pairs table.now at }
+    ensures lacking { IfErr result (λ e. e ≡ errors.TooLong → limit.old < the_pairs table.now at) }
     ensures why { IfErr result (λ e. RefusesSubtable table.now kept.now at limit.new e) }
 {
-    let pairs = collected(alloc, table, at, kept, numbers, limit)?;
+    let pairs = collect_pairs(alloc, table, at, kept, numbers, limit)?;
     if pairs.len() > MOST {
         return Err(Error::TooLarge);
     }

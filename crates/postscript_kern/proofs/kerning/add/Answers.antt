@@ -1,12 +1,18 @@
-use Rattle.std.proofs.Common.{rules, subst, ℕ, length}
+use Rattle.std.proofs.Common.{arith, rules, subst, ℕ, length}
 use Rattle.postscript_kern.specs.Kept.{IsKept}
 use Rattle.postscript_kern.specs.Written.{PutsSubtable, added, nothing}
 use Rattle.postscript_kern.proofs.Collecting.{none-of, some-of}
+use Rattle.postscript_kern.proofs.Spending.{pairs_absent}
 use Rattle.postscript_kern.proofs.kerning.add.Goals as goal
 
 pub returns-then-not-has_pairs-clause-added : goal.returns-then-not-has_pairs-clause-added
 returns-then-not-has_pairs-clause-added c =
     nothing (λ has. let yes = c.has_pairs.ensures.1 has in let no = c.if-not-has_pairs.true in absurd (cc))
+
+pub returns-then-not-has_pairs-clause-paid : goal.returns-then-not-has_pairs-clause-paid
+returns-then-not-has_pairs-clause-paid c =
+    let none = pairs_absent c.args.table.now c.args.at (λ has. let yes = c.has_pairs.ensures.1 has in let no = c.if-not-has_pairs.true in absurd (cc)) in
+    omega (arith, none)
 
 pub returns-then-is_empty-clause-added : goal.returns-then-is_empty-clause-added
 returns-then-is_empty-clause-added c =

@@ -1,5 +1,6 @@
 use Rattle.std.proofs.Common.{◌≡◌, ◌+◌, ◌*◌, ◌≤◌}
 use Rattle.postscript_kern.specs.Pairs.{subtable_at}
+use Rattle.postscript_kern.specs.Units.{subtable_units, total}
 use Rattle.postscript_kern.proofs.Listing.{AreSoFar}
 use Rattle.postscript_kern.proofs.kerning.put_subtables.Given as goal
 
@@ -11,4 +12,5 @@ invariant-loop-i l = record {
   so_far : AreSoFar l.table l.kept l._i l.count l.out.items;
   few : l.count ≤ l._i;
   spends : l.limit ≤ l.fn.limit;
+  paid : l.fn.limit ≡ l.limit + total (subtable_units l.table) l._i;
 }

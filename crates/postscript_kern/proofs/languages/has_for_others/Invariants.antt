@@ -8,4 +8,5 @@ abbrev pub invariant-loop-i : goal.invariant-loop-i
 invariant-loop-i l = record {
   none : (i : ℕ) → i < l.i → IsForOthers (tag_of l.gpos (word l.gpos 4 + 2) i) → ⊥;
   spends : l.limit ≤ l.fn.limit;
+  most : l.fn.limit ≤ l.limit + l.i;
 }

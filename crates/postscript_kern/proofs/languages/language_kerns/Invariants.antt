@@ -8,4 +8,5 @@ abbrev pub invariant-loop-k : goal.invariant-loop-k
 invariant-loop-k l = record {
   none : (k : ℕ) → k < l.k → IsKernFeature l.gpos (word l.gpos (l.language + 6 + k * 2)) → ⊥;
   spends : l.limit ≤ l.fn.limit;
+  most : l.fn.limit ≤ l.limit + l.k;
 }
