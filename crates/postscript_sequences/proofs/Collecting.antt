@@ -2,7 +2,8 @@
 use Rattle.std.proofs.Common.{◌≡◌, ℕ, ◌+◌, ◌<◌, ◌≤◌, List, [], ◌∷◌, ◌++◌, length, get_or, take, arith, below_more, sym, subst}
 use Rattle.std.specs.Prelude.{Option, None, Some}
 use Rattle.std.proofs.lemmas.List.{take_more}
-use Rattle.postscript_sequences.specs.Parts.{AreParts, AreSaid, IsPart, IsPut, default, glyph, neither, no_part, part, skipped}
+use Rattle.postscript_sequences.specs.Parts.{AreParts, AreSaid, IsPart, default, glyph, neither, no_part, part, skipped}
+use Rattle.postscript_sequences.specs.Private.{IsPut}
 use Rattle.postscript_sequences.specs.Said.{IsBehind, Tells}
 use Rattle.postscript_sequences.specs.Tables.{selector_at}
 use Rattle.postscript_sequences.specs.declared.parts.Part.{Part}

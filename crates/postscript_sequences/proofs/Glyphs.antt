@@ -5,7 +5,7 @@ use Rattle.std.specs.List.{Contains}
 use Rattle.std.proofs.lemmas.Bool.{cases_lt}
 use Rattle.std.proofs.lemmas.List.{at_drop_all}
 use Rattle.std.proofs.lemmas.List.Elements.{Contains-append_cases, Contains-append_left, Contains-append_right, Contains-push, Contains-push_cases}
-use Rattle.postscript_sequences.specs.Parts.{AreParts, AreSaid, Counts, IsPart, default, glyph, glyphs_in, neither, no_part, nothing, part, skipped}
+use Rattle.postscript_sequences.specs.Parts.{AreParts, AreSaid, Counts, IsPart, default, glyph, neither, no_part, nothing, part, skipped}
 use Rattle.postscript_sequences.specs.Sequences.{HasDefault, HasGlyph, IsGlyphOf, IsRecord}
 use Rattle.postscript_sequences.specs.Tables.{glyph_at, other_at, records_of, selector_at}
 use Rattle.postscript_sequences.specs.declared.parts.Part.{Part}
@@ -155,6 +155,10 @@ flat_there f (z ∷ zs) y h = elim (Contains-append_cases (f z) (flat_map f zs) 
   | inl here ↦ (z, cons_first z zs z refl, here)
   | inr later ↦ let w = flat_there f zs y later in (w.0, cons_later z zs w.0 w.1, w.2)
 ]
+
+-- the glyphs of the sequences of a part
+abbrev pub glyphs_in : Part → List ℕ
+glyphs_in one = map (λ each. each.1) one.mapped.items
 
 -- the glyphs of all parts are those of sequences of the characters
 pub glyphs_are : (table chars : List ℕ) (parts : List Part) (glyphs : List ℕ) → AreParts table chars (records_of table) parts →

@@ -9,3 +9,4 @@ pub mod Kept
 pub mod Keeping
 pub mod Numbered
 pub mod Spending
+mod Sizing

@@ -1,7 +1,8 @@
 -- The records of parts, one after the other.
-use Rattle.std.proofs.Common.{◌≡◌, ℕ, ◌+◌, ◌*◌, ◌<◌, List, [], ◌∷◌, ◌++◌, length, length-append, append-nil, flat_map, get_or, replicate, take, arith, refl, sym, ap, subst, ◌∙◌}
+use Rattle.std.proofs.Common.{◌≡◌, ℕ, ◌+◌, ◌*◌, ◌<◌, List, [], ◌∷◌, ◌++◌, length, length-append, append-nil, flat_map, sum_by, get_or, replicate, take, arith, refl, sym, ap, subst, ◌∙◌}
 use Rattle.std.proofs.lemmas.List.{append_assoc, length-replicate, take_more}
 use Rattle.postscript_sequences.specs.Rows.{AreRows, AreRowsOf, Holds, IsAt, IsPlaced, IsPut, IsRowOf, IsWritten, absent, absent_at, added, no_row, row, there_at}
+use Rattle.postscript_sequences.specs.Sizes.{tables_size}
 use Rattle.postscript_sequences.specs.Text.{defaults_text, head_text, row_text}
 use Rattle.postscript_sequences.specs.declared.parts.Part.{Part}
 use Rattle.postscript_sequences.specs.declared.writing.Row.{Row}
@@ -80,9 +81,9 @@ no_rows base rows tables is front long = subst (λ xs. AreRows (front ++ tables)
 
 -- the bytes of a subtable
 pub written_is : (parts : List Part) (rows : List Row) (tables out head body bytes : List ℕ) (base count size : ℕ) → AreRowsOf base parts rows tables →
-    count ≡ length parts → count < 4294967296 → base ≡ 10 + count * 11 → size ≡ base + length tables → size < 4294967296 → out ≡ [] →
+    length tables ≡ sum_by tables_size parts → count ≡ length parts → count < 4294967296 → base ≡ 10 + count * 11 → size ≡ base + length tables → size < 4294967296 → out ≡ [] →
     head ≡ out ++ head_text size count → body ≡ head ++ flat_map row_text rows → bytes ≡ body ++ tables → IsWritten parts bytes
-written_is parts rows tables out head body bytes base count size are counted few begins sized small none first next all =
+written_is parts rows tables out head body bytes base count size are full counted few begins sized small none first next all =
     let same = same_count (replicate base 0 ++ tables) parts rows (are (replicate base 0) (length-replicate base 0)) in
     let start : head ≡ head_text size count = first ∙ ap (λ xs. xs ++ head_text size count) none in
     let a : length head ≡ 10 = ap length start ∙ length_head size count in
@@ -96,6 +97,7 @@ written_is parts rows tables out head body bytes base count size are counted few
       are = subst (λ xs. AreRows xs parts rows) (sym all) (are body long);
       few = omega (arith, few, rows_now);
       short = omega (arith, small, end);
+      size = omega (arith, end, sized, begins, counted, full);
       is = all ∙ ap (λ xs. xs ++ tables) (next ∙ ap (λ xs. xs ++ flat_map row_text rows) start)
           ∙ append_assoc (head_text size count) (flat_map row_text rows) tables
           ∙ ap (λ n. head_text n count ++ (flat_map row_text rows ++ tables)) end

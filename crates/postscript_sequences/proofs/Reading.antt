@@ -108,7 +108,7 @@ number8 : {bytes : List ℕ} {offset : ℕ} → Holds (0 ∷ []) bytes offset �
 number8 h = holds_number (0 ∷ []) 0 1 refl refl h
 
 -- the ranges of a Default UVS table
-length_range : (char : ℕ) → length (range_text char) ≡ 4
+pub length_range : (char : ℕ) → length (range_text char) ≡ 4
 length_range char = let a = length24 char in omega (arith, a, length-append (uint24 char) (0 ∷ []))
 
 pub ranges_at : (bytes : List ℕ) (ds : List ℕ) (offset : ℕ) → IsAt ds (defaults_text ds) bytes offset → ranges_of bytes offset ≡ length ds
@@ -186,7 +186,7 @@ there_range bytes ds offset small rises h char there =
     )
 
 -- the mappings of a Non-Default UVS table
-length_mapping : (each : ℕ × ℕ) → length (mapping_text each) ≡ 5
+pub length_mapping : (each : ℕ × ℕ) → length (mapping_text each) ≡ 5
 length_mapping each = let a = length24 each.0 in let b = length16 each.1 in omega (arith, a, b, length-append (uint24 each.0) (uint16 each.1))
 
 pub mappings_at : (bytes : List ℕ) (ms : List (ℕ × ℕ)) (offset : ℕ) → IsAt ms (mapped_text ms) bytes offset →

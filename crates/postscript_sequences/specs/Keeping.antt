@@ -1,12 +1,7 @@
--- Parts under new glyph numbers. Only private contracts and proofs use these names.
-use Rattle.std.specs.Prelude.{◌≡◌, ℕ, ◌<◌, List, [], ◌∷◌, ◌++◌, Option, None, Some, length, slice_index_or}
+-- Parts under new glyph numbers.
+use Rattle.std.specs.Prelude.{◌≡◌, ℕ, List, [], ◌∷◌, ◌++◌, None, Some}
 use Rattle.postscript_sequences.specs.Numbers.{new_number}
 use Rattle.postscript_sequences.specs.declared.parts.Part.{Part}
-
--- entry g is the new number of glyph g
-pub record AreNumbers (glyphs : List ℕ) (numbers : List (Option ℕ)) : Type 0 where
-  pub many : length numbers ≡ 65536
-  pub each : (glyph : ℕ) → glyph < 65536 → slice_index_or numbers glyph None ≡ new_number glyphs glyph
 
 -- the mappings whose glyphs are kept, under new numbers
 pub data AreRenumbered (glyphs : List ℕ) : (old new : List (ℕ × ℕ)) → Type 0 where

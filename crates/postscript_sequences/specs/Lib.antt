@@ -5,7 +5,9 @@ pub mod Refusals
 pub mod Parts
 pub mod Numbers
 pub mod Keeping
+pub mod Private
 pub mod Text
 pub mod Rows
 pub mod Keeps
 pub mod Units
+pub mod Sizes

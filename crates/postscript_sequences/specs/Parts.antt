@@ -1,19 +1,8 @@
--- The sequences of some characters, by variation selectors. Only private contracts and proofs use these names.
-use Rattle.std.specs.Prelude.{◌≡◌, ℕ, ◌+◌, ◌<◌, List, [], ◌∷◌, ◌++◌, Option, None, Some, map}
-use Rattle.postscript_sequences.specs.Said.{Tells}
+-- The sequences of some characters, by variation selectors.
+use Rattle.std.specs.Prelude.{◌≡◌, ℕ, ◌+◌, ◌<◌, List, [], ◌∷◌, ◌++◌}
 use Rattle.postscript_sequences.specs.Sequences.{HasDefault, HasGlyph}
 use Rattle.postscript_sequences.specs.Tables.{selector_at}
 use Rattle.postscript_sequences.specs.declared.parts.Part.{Part}
-use Rattle.postscript_sequences.specs.declared.sequences.Sequence.{Sequence}
-use Rattle.postscript_sequences.specs.declared.sequences.Sequence.TheVariants.{Default, Glyph}
-
--- a part has one sequence more
-abbrev pub IsPut : (old : Part) → (char : ℕ) → Option Sequence → (new : Part) → Type 0
-IsPut old char None new = (new.selector ≡ old.selector) × (new.defaults.items ≡ old.defaults.items) × (new.mapped.items ≡ old.mapped.items)
-IsPut old char (Some Default) new =
-    (new.selector ≡ old.selector) × (new.defaults.items ≡ old.defaults.items ++ char ∷ []) × (new.mapped.items ≡ old.mapped.items)
-IsPut old char (Some (Glyph glyph)) new =
-    (new.selector ≡ old.selector) × (new.defaults.items ≡ old.defaults.items) × (new.mapped.items ≡ old.mapped.items ++ (char, glyph) ∷ [])
 
 -- what record `i` has of some characters: the default ones, and the others with their glyphs
 pub data AreSaid (table : List ℕ) (i : ℕ) : (chars defaults : List ℕ) → (mapped : List (ℕ × ℕ)) → Type 0 where
@@ -22,8 +11,8 @@ pub data AreSaid (table : List ℕ) (i : ℕ) : (chars defaults : List ℕ) → 
       AreSaid table i (chars ++ char ∷ []) (defaults ++ char ∷ []) mapped
   glyph : (chars defaults : List ℕ) (mapped : List (ℕ × ℕ)) (char glyph : ℕ) → AreSaid table i chars defaults mapped →
       HasGlyph table i char glyph → AreSaid table i (chars ++ char ∷ []) defaults (mapped ++ (char, glyph) ∷ [])
-  neither : (chars defaults : List ℕ) (mapped : List (ℕ × ℕ)) (char : ℕ) → AreSaid table i chars defaults mapped → Tells table i char None →
-      AreSaid table i (chars ++ char ∷ []) defaults mapped
+  neither : (chars defaults : List ℕ) (mapped : List (ℕ × ℕ)) (char : ℕ) → AreSaid table i chars defaults mapped →
+      (HasDefault table i char → ⊥) × ((glyph : ℕ) → HasGlyph table i char glyph → ⊥) → AreSaid table i (chars ++ char ∷ []) defaults mapped
 
 -- the part of record `i`
 pub record IsPart (table : List ℕ) (i : ℕ) (chars : List ℕ) (part : Part) : Type 0 where
@@ -42,7 +31,3 @@ pub data AreParts (table chars : List ℕ) : (count : ℕ) → List Part → Typ
       AreParts table chars (count + 1) (parts ++ one ∷ [])
   skipped : (count : ℕ) (parts : List Part) → AreParts table chars count parts → (Counts table count → ⊥) →
       AreParts table chars (count + 1) parts
-
--- the glyphs of the sequences of a part
-abbrev pub glyphs_in : Part → List ℕ
-glyphs_in one = map (λ each. each.1) one.mapped.items

@@ -1,6 +1,7 @@
 -- The records of a subtable and their tables. Only private contracts and proofs use these names.
 use Rattle.std.specs.Prelude.{◌≡◌, ℕ, ◌+◌, ◌<◌, List, [], ◌∷◌, ◌++◌, length, flat_map}
 use Rattle.postscript_sequences.specs.Text.{defaults_text, head_text, mapped_text, row_text}
+use Rattle.postscript_sequences.specs.Sizes.{size_of}
 use Rattle.postscript_sequences.specs.declared.error.Error.{Error}
 use Rattle.postscript_sequences.specs.declared.error.Error.TheVariants.{Memory, TooLarge, TooLong}
 use Rattle.postscript_sequences.specs.declared.parts.Part.{Part}
@@ -53,6 +54,7 @@ pub record IsWritten (parts : List Part) (bytes : List ℕ) : Type 0 where
   pub are : AreRows bytes parts rows
   pub few : length rows < 4294967296
   pub short : length bytes < 4294967296
+  pub size : length bytes ≡ size_of parts
   pub is : bytes ≡ head_text (length bytes) (length rows) ++ (flat_map row_text rows ++ tables)
 
 -- out of memory, or an offset exceeds four bytes

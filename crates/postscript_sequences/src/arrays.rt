@@ -100,7 +100,7 @@ fn last(table: &[u8], offset: usize, k: usize) -> usize
 }
 
 /// Returns the character of a mapping.
-fn mapped(table: &[u8], offset: usize, k: usize) -> usize
+fn mapped_char(table: &[u8], offset: usize, k: usize) -> usize
     requires offset { offset < 2 ^ 32 }
     requires listed { k < 2 ^ 32 }
     ensures exact { result ≡ char_at table.now offset k }
@@ -143,7 +143,7 @@ pub(crate) fn mapping_from(table: &[u8], offset: usize, from: usize, char: usize
 {
     let count = mappings(table, offset);
     for k in from..count {
-        if mapped(table, offset, k) >= char {
+        if mapped_char(table, offset, k) >= char {
             return k;
         }
     }
@@ -167,7 +167,7 @@ pub(crate) fn glyph_of(table: &[u8], offset: usize, k: usize, char: usize) -> Op
         ((j : ℕ) → IsMapping table.now offset char j → ⊥)
         (λ glyph. IsMapping table.now offset char k × (glyph_at table.now offset k ≡ glyph)) }
 {
-    if k < mappings(table, offset) && mapped(table, offset, k) == char {
+    if k < mappings(table, offset) && mapped_char(table, offset, k) == char {
         Some(glyph(table, offset, k))
     } else {
         None

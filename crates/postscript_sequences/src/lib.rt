@@ -13,7 +13,8 @@
 //! - `glyphs_of` returns exactly the glyphs of the sequences of some characters, with any selector;
 //! - the table of `kept` says of each sequence of these characters what the old one says, under new glyph numbers, and has
 //!   no other sequences (`Keeps` in specs/Keeps.antt). A sequence is dropped if its glyph is not kept, and a record if it
-//!   has no sequences left;
+//!   has no sequences left. The table has exactly the bytes that these records need (`size_of` in specs/Sizes.antt);
+//! - `kept` returns `TooLarge` only if there are more than 65,536 glyphs, or if the table would have 2^32 bytes or more;
 //! - `is_enough` is true exactly if a limit has the units of all records (`units_of` in specs/Units.antt). With such a limit
 //!   `glyphs_of` and `kept` do not return `TooLong`;
 //! - each call is safe and ends, on all bytes. `glyphs_of` and `kept` keep to a limit, and allocate nothing by the counts
@@ -27,7 +28,7 @@
 //! - The Default UVS table counts before the Non-Default UVS table.
 //! - Characters have 24 bits.
 //!
-//! No clause says how small the new table is, or when `TooLarge` comes. Ranges of the new table have one character each.
+//! Each range of the new table has one character, so a table with longer ranges may be shorter.
 #![tactic(auto)]
 
 mod arrays;

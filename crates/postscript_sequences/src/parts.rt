@@ -1,6 +1,7 @@
 //! The sequences of some characters, by variation selectors.
 ghost use Rattle.std.specs.Prelude.{◌≡◌, ℕ, ◌+◌, ◌^◌, ◌<◌, ◌≤◌, ◌++◌, IfErr, IfOk, OnOk, OnErr, length, map};
-ghost use Rattle.postscript_sequences.specs.Parts.{AreParts, IsPart, IsPut};
+ghost use Rattle.postscript_sequences.specs.Parts.{AreParts, IsPart};
+ghost use Rattle.postscript_sequences.specs.Private.{IsPut};
 ghost use Rattle.postscript_sequences.specs.Refusals.{Fails};
 ghost use Rattle.postscript_sequences.specs.Sequences.{AreAscending};
 ghost use Rattle.postscript_sequences.specs.Tables.{records_of};
@@ -10,7 +11,7 @@ ghost use Rattle.postscript_sequences.specs.declared.error.Error.TheVariants as 
 use crate::arrays::{records, selector};
 use crate::error::Result;
 use crate::numbers::pay;
-use crate::said::{Cursor, paid};
+use crate::said::{Cursor, look_up_within};
 use crate::sequences::Sequence;
 use std::alloc::Global;
 
@@ -57,7 +58,7 @@ fn part_of(alloc: Global, table: &[u8], i: usize, chars: &[u32], limit: &mut u64
         mapping: 0,
     };
     for char in chars {
-        let sequence = paid(table, i, &mut cursor, *char as usize, limit)?;
+        let sequence = look_up_within(table, i, &mut cursor, *char as usize, limit)?;
         part.put(*char, sequence)?;
     }
     Ok(part)

@@ -1,7 +1,8 @@
 //! Sequences under new glyph numbers.
 ghost use Rattle.std.specs.Prelude.{◌≡◌, ◌<◌, ◌≤◌, ℕ, Bool, IsTrue, List, None, [], length, option_map, slice_index_or, IfErr, IfOk, MatchBool};
 ghost use Rattle.postscript_sequences.specs.Numbers.{new_number};
-ghost use Rattle.postscript_sequences.specs.Keeping.{AreKept, AreNumbers, IsEmpty, IsRenumbered};
+ghost use Rattle.postscript_sequences.specs.Keeping.{AreKept, IsEmpty, IsRenumbered};
+ghost use Rattle.postscript_sequences.specs.Private.{AreNumbers};
 ghost use Rattle.postscript_sequences.specs.declared.error.Error.TheVariants as errors;
 
 use crate::error::Result;
@@ -47,7 +48,12 @@ fn number_of(glyphs: &[u16], numbers: &[Option<u16>], glyph: u16) -> Option<u16>
 }
 
 /// Returns a part under new glyph numbers. Sequences whose glyphs have none are dropped.
-fn renumbered(alloc: Global, glyphs: &[u16], numbers: &[Option<u16>], part: &Part) -> Result<Part>
+fn renumber_part(
+    alloc: Global,
+    glyphs: &[u16],
+    numbers: &[Option<u16>],
+    part: &Part,
+) -> Result<Part>
     requires few { length glyphs.now ≤ 65536 }
     requires exact { AreNumbers glyphs.now numbers.now }
     ensures exact { IfOk result (λ new. IsRenumbered glyphs.now part.now new) }
@@ -89,7 +95,7 @@ pub(crate) fn kept_parts(
 {
     let mut kept = Vec::new(alloc);
     for part in parts {
-        let new = renumbered(alloc, glyphs, numbers, part)?;
+        let new = renumber_part(alloc, glyphs, numbers, part)?;
         if has_sequences(&new) {
             kept.push(new)?;
         }

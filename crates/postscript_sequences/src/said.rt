@@ -18,7 +18,7 @@ pub(crate) struct Cursor {
 }
 
 /// Returns what a record says of a character, from a position on. The position moves to the character.
-pub(crate) fn said(table: &[u8], i: usize, cursor: &mut Cursor, char: usize) -> Option<Sequence>
+pub(crate) fn look_up(table: &[u8], i: usize, cursor: &mut Cursor, char: usize) -> Option<Sequence>
     requires small { i < 2 ^ 32 }
     requires behind { IsBehind table.now i cursor.old char }
     ensures behind { IsBehind table.now i cursor.new char }
@@ -40,7 +40,7 @@ pub(crate) fn said(table: &[u8], i: usize, cursor: &mut Cursor, char: usize) -> 
 }
 
 /// The same within a limit. It costs a unit, and another one for each range and mapping that is passed.
-pub(crate) fn paid(
+pub(crate) fn look_up_within(
     table: &[u8],
     i: usize,
     cursor: &mut Cursor,
@@ -59,7 +59,7 @@ pub(crate) fn paid(
 {
     pay(limit, 1)?;
     let before = *cursor;
-    let sequence = said(table, i, cursor, char);
+    let sequence = look_up(table, i, cursor, char);
     pay(limit, cursor.range - before.range)?;
     pay(limit, cursor.mapping - before.mapping)?;
     Ok(sequence)

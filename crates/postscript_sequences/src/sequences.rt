@@ -1,8 +1,9 @@
 //! Variation sequences of a font.
-ghost use Rattle.std.specs.Prelude.{◌≡◌, ◌↔◌, ℕ, ◌+◌, ◌<◌, ◌≤◌, length, drop, IfErr, IfOk, IsTrue, MatchOption};
+ghost use Rattle.std.specs.Prelude.{◌≡◌, ◌↔◌, ℕ, ◌+◌, ◌^◌, ◌<◌, ◌≤◌, length, drop, IfErr, IfOk, OnOk, IsTrue, MatchOption};
 ghost use Rattle.std.specs.List.{Contains};
 ghost use Rattle.postscript_sequences.specs.Refusals.{Fails, KeepFails};
 ghost use Rattle.postscript_sequences.specs.Keeps.{Keeps};
+ghost use Rattle.postscript_sequences.specs.Sizes.{IsTooLarge, NeedsBytes};
 ghost use Rattle.postscript_sequences.specs.Units.{units_of};
 ghost use Rattle.postscript_sequences.specs.declared.error.Error.TheVariants as errors;
 ghost use Rattle.postscript_sequences.specs.Tables.{format_of};
@@ -13,8 +14,8 @@ use crate::error::{Error, Result};
 use crate::numbers::number;
 use crate::parts::{parts_of, put_glyphs};
 use crate::renumbering::{GLYPHS, kept_parts, numbers_of};
-use crate::said::{Cursor, said};
-use crate::writing::written;
+use crate::said::{Cursor, look_up};
+use crate::writing::write_subtable;
 use std::alloc::Global;
 
 /// What a font says of a sequence of a character and a variation selector.
@@ -86,7 +87,7 @@ impl<'l> Sequences<'l> {
             range: 0,
             mapping: 0,
         };
-        said(self.table, i, &mut cursor, char as usize)
+        look_up(self.table, i, &mut cursor, char as usize)
     }
 
     /// Returns whether a limit suffices for some characters: [`Sequences::glyphs_of`] and [`Sequences::kept`] do not return
@@ -121,7 +122,7 @@ impl<'l> Sequences<'l> {
     #[tactic(auto, using(crate::proofs::Glyphs::glyphs_are))]
     pub fn glyphs_of(&self, alloc: Global, chars: &[u32], limit: &mut u64) -> Result<Vec<u16>>
         requires { AreAscending chars.now }
-        // The list has exactly the glyphs of sequences of these characters that are not default ones.
+        // The list has exactly the glyphs of these characters' sequences that are not default ones.
         ensures exact { IfOk result (λ glyphs. (glyph : ℕ) → Contains glyphs.items glyph ↔ IsGlyphOf (table_of self.now) chars.now glyph) }
         // The limit never grows.
         ensures spends { limit.new ≤ limit.old }
@@ -159,12 +160,21 @@ impl<'l> Sequences<'l> {
         limit: &mut u64,
     ) -> Result<Vec<u8>>
         requires { AreAscending chars.now }
-        // The new table has exactly the sequences of these characters whose glyphs are kept, under new numbers.
+        // The new table has exactly the sequences of these characters whose glyphs are kept.
         ensures exact { IfOk result (λ new. Keeps (table_of self.now) chars.now glyphs.now new.items) }
+        // It has as many bytes as these sequences need. Each range has one character.
+        ensures size { IfOk result (λ new. NeedsBytes (table_of self.now) chars.now glyphs.now (length new.items)) }
+        // It has fewer than 2^32 bytes.
+        ensures small { IfOk result (λ new. length new.items < 2 ^ 32) }
+        // There are at most 65,536 glyphs.
+        ensures few { OnOk result (length glyphs.now ≤ 65536) }
         // The limit never grows.
         ensures spends { limit.new ≤ limit.old }
         // `TooLong` comes only if the limit is lower than `units_of` for these characters.
         ensures lacking { IfErr result (λ e. e ≡ errors.TooLong → limit.old < units_of (table_of self.now) (length chars.now)) }
+        // `TooLarge` comes only for more than 65,536 glyphs, or if the sequences need 2^32 bytes.
+        ensures large { IfErr result (λ e. e ≡ errors.TooLarge →
+            IsTooLarge (table_of self.now) chars.now glyphs.now) }
         // `TooLong` leaves nothing of the limit.
         ensures why { IfErr result (λ e. KeepFails limit.new e) }
     {
@@ -174,7 +184,7 @@ impl<'l> Sequences<'l> {
         let parts = parts_of(alloc, self.table, chars, limit)?;
         let numbers = numbers_of(alloc, glyphs)?;
         let kept = kept_parts(alloc, glyphs, &numbers, &parts)?;
-        written(alloc, &kept)
+        write_subtable(alloc, &kept)
     }
 }
 

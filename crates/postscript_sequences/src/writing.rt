@@ -1,7 +1,8 @@
 //! Writes subtables of format 14.
-ghost use Rattle.std.specs.Prelude.{◌≡◌, ℕ, ◌+◌, ◌*◌, ◌^◌, ◌<◌, ◌≤◌, ◌++◌, length, flat_map, [], IfErr, IfOk, OnOk};
+ghost use Rattle.std.specs.Prelude.{◌≡◌, ℕ, ◌+◌, ◌*◌, ◌^◌, ◌<◌, ◌≤◌, ◌++◌, length, flat_map, sum_by, [], IfErr, IfOk, OnErr, OnOk};
 ghost use Rattle.postscript_sequences.specs.Text.{defaults_text, head_text, mapped_text, mapping_text, range_text, row_text, uint16 as the_uint16, uint24 as the_uint24, uint32 as the_uint32};
 ghost use Rattle.postscript_sequences.specs.Rows.{AreRowsOf, IsPlaced, IsPut, IsWritten, WriteFails};
+ghost use Rattle.postscript_sequences.specs.Sizes.{size_of, table_size, tables_size};
 ghost use Rattle.postscript_sequences.specs.declared.error.Error.TheVariants as errors;
 
 use crate::error::{Error, Result};
@@ -43,6 +44,7 @@ fn put32(out: &mut Vec<u8>, number: u32) -> std::result::Result<(), AllocError>
 /// Converts a length or an offset to four bytes.
 fn long_of(number: usize) -> Result<u32>
     ensures value { IfOk result (λ long. (long ≡ number) × (long < 2 ^ 32)) }
+    ensures large { OnErr result (2 ^ 32 ≤ number) }
     ensures why { IfErr result (λ e. e ≡ errors.TooLarge) }
 {
     match u32::try_from(number) {
@@ -78,6 +80,8 @@ fn put_defaults(out: &mut Vec<u8>, base: usize, chars: &[u32]) -> Result<u32>
     requires base { 0 < base }
     requires low { base < 2 ^ 48 }
     ensures placed { IfOk result (λ offset. IsPlaced base chars.now (defaults_text chars.now) out.old.items out.new.items offset) }
+    ensures size { OnOk result (length out.new.items ≡ length out.old.items + table_size 4 chars.now) }
+    ensures large { IfErr result (λ e. e ≡ errors.TooLarge → 2 ^ 32 ≤ base + length out.old.items + table_size 4 chars.now) }
     ensures why { IfErr result (λ e. WriteFails e) }
 {
     if chars.is_empty() {
@@ -94,6 +98,8 @@ fn put_mapped(out: &mut Vec<u8>, base: usize, mapped: &[(u32, u16)]) -> Result<u
     requires base { 0 < base }
     requires low { base < 2 ^ 48 }
     ensures placed { IfOk result (λ offset. IsPlaced base mapped.now (mapped_text mapped.now) out.old.items out.new.items offset) }
+    ensures size { OnOk result (length out.new.items ≡ length out.old.items + table_size 5 mapped.now) }
+    ensures large { IfErr result (λ e. e ≡ errors.TooLarge → 2 ^ 32 ≤ base + length out.old.items + table_size 5 mapped.now) }
     ensures why { IfErr result (λ e. WriteFails e) }
 {
     if mapped.is_empty() {
@@ -110,6 +116,8 @@ fn put_part(out: &mut Vec<u8>, base: usize, part: &Part) -> Result<Row>
     requires base { 0 < base }
     requires low { base < 2 ^ 48 }
     ensures row { IfOk result (λ row. IsPut base part.now out.old.items out.new.items row) }
+    ensures size { OnOk result (length out.new.items ≡ length out.old.items + tables_size part.now) }
+    ensures large { IfErr result (λ e. e ≡ errors.TooLarge → 2 ^ 32 ≤ base + length out.old.items + tables_size part.now) }
     ensures why { IfErr result (λ e. WriteFails e) }
 {
     let defaults = put_defaults(out, base, &part.defaults)?;
@@ -127,6 +135,8 @@ fn put_parts(alloc: Global, tables: &mut Vec<u8>, base: usize, parts: &[Part]) -
     requires low { base < 2 ^ 48 }
     requires none { tables.old.items ≡ [] }
     ensures rows { IfOk result (λ rows. AreRowsOf base parts.now rows.items tables.new.items) }
+    ensures size { OnOk result (length tables.new.items ≡ sum_by tables_size parts.now) }
+    ensures large { IfErr result (λ e. e ≡ errors.TooLarge → 2 ^ 32 ≤ base + sum_by tables_size parts.now) }
     ensures why { IfErr result (λ e. WriteFails e) }
 {
     let mut rows = Vec::new(alloc);
@@ -160,8 +170,9 @@ fn put_rows(out: &mut Vec<u8>, rows: &[Row]) -> std::result::Result<(), AllocErr
 }
 
 /// Returns a subtable with the sequences of parts.
-pub(crate) fn written(alloc: Global, parts: &[Part]) -> Result<Vec<u8>>
+pub(crate) fn write_subtable(alloc: Global, parts: &[Part]) -> Result<Vec<u8>>
     ensures written { IfOk result (λ table. IsWritten parts.now table.items) }
+    ensures large { IfErr result (λ e. e ≡ errors.TooLarge → 2 ^ 32 ≤ size_of parts.now) }
     ensures why { IfErr result (λ e. WriteFails e) }
 {
     let count = long_of(parts.len())?;

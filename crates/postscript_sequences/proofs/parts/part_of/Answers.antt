@@ -15,12 +15,12 @@ loop-char-init c = record {
   behind = λ k from less. behind_start _ _ _ _ refl refl;
 }
 
-pub paid-requires-clause-behind : goal.paid-requires-clause-behind
-paid-requires-clause-behind c = c.loop-char.invariant.behind c.loop-char.char-index (omega arith) c.loop-char-test.true
+pub look_up_within-requires-clause-behind : goal.look_up_within-requires-clause-behind
+look_up_within-requires-clause-behind c = c.loop-char.invariant.behind c.loop-char.char-index (omega arith) c.loop-char-test.true
 
 pub loop-char-preserved : goal.loop-char-preserved
 loop-char-preserved c = record {
-  spends = omega (arith, c.loop-char.invariant.spends, c.paid.ensures.spends);
+  spends = omega (arith, c.loop-char.invariant.spends, c.look_up_within.ensures.spends);
   most = (let exact = c.in_ok-sequence.ensures.exact in omega (arith, c.loop-char.invariant.most, exact));
   range = c.in_ok-sequence.ensures.behind.range.within;
   mapping = c.in_ok-sequence.ensures.behind.mapping.within;

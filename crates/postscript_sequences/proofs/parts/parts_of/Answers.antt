@@ -1,4 +1,4 @@
-use Rattle.std.proofs.Common.{arith, ap, ◌∙◌, ◌+◌, ◌<◌, length, refl}
+use Rattle.std.proofs.Common.{arith, ap, ◌∙◌, ◌+◌, length, refl}
 use Rattle.std.proofs.lemmas.Result.{err_from_is_err_and}
 use Rattle.postscript_sequences.specs.Tables.{records_of}
 use Rattle.postscript_sequences.proofs.Collecting.{below_next, below_same, no_parts, parts_less, parts_more}

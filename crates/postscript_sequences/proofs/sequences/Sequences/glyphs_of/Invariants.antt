@@ -1,5 +1,5 @@
 use Rattle.std.proofs.Common.{◌≡◌, ◌++◌, drop, flat_map}
-use Rattle.postscript_sequences.specs.Parts.{glyphs_in}
+use Rattle.postscript_sequences.proofs.Glyphs.{glyphs_in}
 use Rattle.postscript_sequences.proofs.sequences.Sequences.glyphs_of.Given as goal
 
 -- with those of the parts that are left, the glyphs are those of all parts

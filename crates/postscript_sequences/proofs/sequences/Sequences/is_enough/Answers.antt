@@ -1,4 +1,4 @@
-use Rattle.std.proofs.Common.{arith, ◌<◌, length}
+use Rattle.std.proofs.Common.{arith, length}
 use Rattle.postscript_sequences.specs.Sequences.{table_of}
 use Rattle.postscript_sequences.specs.Tables.{records_of}
 use Rattle.postscript_sequences.proofs.Spending.{units_none, units_within}

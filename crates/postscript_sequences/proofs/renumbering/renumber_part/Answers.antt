@@ -1,7 +1,7 @@
 use Rattle.std.proofs.Common.{ap, sym, ◌∙◌}
 use Rattle.postscript_sequences.proofs.Numbered.{mapped_less, mapped_more, mapped_start}
-use Rattle.postscript_sequences.proofs.renumbering.renumbered.Goals as goal
-use Rattle.postscript_sequences.proofs.renumbering.renumbered.Goals.{in-Some+in_ok-push-in-Some, in-None}
+use Rattle.postscript_sequences.proofs.renumbering.renumber_part.Goals as goal
+use Rattle.postscript_sequences.proofs.renumbering.renumber_part.Goals.{in-Some+in_ok-push-in-Some, in-None}
 
 pub loop-char-init : goal.loop-char-init
 loop-char-init c = mapped_start c.args.glyphs.now c.new-mapped.result.items c.new-mapped.ensures.items
