@@ -6,7 +6,8 @@ use postscript_sfnt::{
     Advances, Bounds, CharacterMap, FontFile, GlyphNames, Name, Names, bounding_box, faces, glyphs,
     has_magic_number, units_per_em,
 };
-use rows::{COLLECTION, FILE, MAPS, NAMES, NEXT, NO_MAPS, NO_POSTS, POST, REFUSALS};
+use postscript_text::names::trimmed;
+use rows::{COLLECTION, FILE, MAPS, NAMES, NEXT, NO_MAPS, NO_POSTS, POST, REFUSALS, TRIMMED};
 use std::alloc::Global;
 use std::process::Abort;
 
@@ -116,6 +117,19 @@ fn names_that_are_cut(rt: HostRuntime) {
     bytes.truncate(70);
     let names = Names::read(bytes.as_slice());
     holds(&rt, names.is_none(), "records that are cut");
+}
+
+#[test]
+fn names_of_subsets(rt: HostRuntime) {
+    let alloc = rt.alloc();
+    for (old, new) in TRIMMED {
+        let table = bytes_of(&rt, alloc, old);
+        let found = trimmed(alloc, table.as_slice(), false).expect(&rt, "memory");
+        let found = found.expect(&rt, "a table");
+        holds(&rt, found == bytes_of(&rt, alloc, new), old);
+    }
+    let found = trimmed(alloc, &[0, 0, 0, 1, 0, 18], false).expect(&rt, "memory");
+    holds(&rt, found.is_none(), "a record that is cut");
 }
 
 /// The names of the first glyphs, with a space after each, and a line for those without one.

@@ -1,2 +1,3 @@
 pub mod NameTables
 pub mod Places
+pub mod Repetitions

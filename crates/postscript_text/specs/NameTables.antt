@@ -3,6 +3,7 @@ use Rattle.std.specs.Prelude.{◌≡◌, ◌⊎◌, ℕ, ◌+◌, ◌*◌, ◌<�
 use Rattle.std.specs.Int.{to_be_bytes, w16}
 use Rattle.std.specs.List.{Contains, list_any, slice_range}
 use Rattle.postscript_base.specs.Index.{number_at}
+use Rattle.postscript_text.specs.Repetitions.{Differs, Repeats}
 use Rattle.postscript_text.specs.declared.names.NameTable.{NameTable}
 use Rattle.postscript_text.specs.declared.names.Record.{Record}
 
@@ -101,9 +102,17 @@ abbrev pub IsChosen : (licence : Bool) → Record → Type 0
 IsChosen licence entry =
     (entry.language < 0x8000) × (Has are_read entry.identifier ⊎ ((licence ≡ true) × Has of_licence entry.identifier))
 
--- Records among the first `count` of a table, in order. Each one is chosen and has its whole text.
+-- A record is left out if the table ends before its text does, if it is not chosen, or if it repeats a better record.
+pub data IsLeftOut (table : List ℕ) (licence : Bool) (i : ℕ) : Type 0 where
+  truncated : length table < start_of table i + field_of table i 4 → IsLeftOut table licence i
+  not_chosen : (entry : Record) → IsRecordAt table i entry → (IsChosen licence entry → ⊥) → IsLeftOut table licence i
+  repeated : (entry : Record) → IsRecordAt table i entry → Repeats table entry → IsLeftOut table licence i
+
+-- Records among the first `count` of a table, in order. Each one is chosen, has its whole text, and does not repeat a better record. All
+-- others are left out.
 pub data AreChosen (table : List ℕ) (licence : Bool) : (count : ℕ) → List Record → Type 0 where
   no_record : AreChosen table licence 0 []
   chosen : (count : ℕ) (records : List Record) (entry : Record) → AreChosen table licence count records → IsRecordAt table count entry →
-      IsChosen licence entry → AreChosen table licence (count + 1) (records ++ entry ∷ [])
-  left_out : (count : ℕ) (records : List Record) → AreChosen table licence count records → AreChosen table licence (count + 1) records
+      IsChosen licence entry → Differs table entry → AreChosen table licence (count + 1) (records ++ entry ∷ [])
+  left_out : (count : ℕ) (records : List Record) → AreChosen table licence count records → IsLeftOut table licence count →
+      AreChosen table licence (count + 1) records

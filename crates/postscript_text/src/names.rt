@@ -1,8 +1,9 @@
 //! `name` tables (ISO/IEC 14496-22).
-ghost use Rattle.std.specs.Prelude.{◌≡◌, ◌+◌, ◌<◌, ◌∷◌, ◌++◌, ◌⊎◌, ◌↔◌, [], List, IfNone, IfOk, IfSome, IsTrue, MatchOption, OnOk, flat_map, length, min};
-ghost use Rattle.postscript_sfnt.specs.NameTable.{HasRecords};
+ghost use Rattle.std.specs.Prelude.{◌≡◌, ◌+◌, ◌<◌, ◌∷◌, ◌++◌, ◌⊎◌, ◌↔◌, ℕ, [], List, IfNone, IfOk, IfSome, IsTrue, MatchBool, MatchOption, OnOk, flat_map, length, min};
+ghost use Rattle.postscript_sfnt.specs.NameTable.{HasRecords, name_rank, name_rank_at, names_of, table_of};
 ghost use Rattle.postscript_text.specs.NameTables.{AreChosen, HaveNoSpace, Holds, IsChosen, IsNameTable, IsRecordAt, field_of, row, start_of, word as the_word, word_at};
 ghost use Rattle.postscript_text.specs.Places.{HasNoPlace, HasPlace, IsPlaced};
+ghost use Rattle.postscript_text.specs.Repetitions.{Differs, Repeats, SaysSomethingElse, SaysTheSame};
 ghost use Rattle.postscript_text.specs.declared.names.Record.{Record as TheRecord};
 
 use postscript_base::index::number::number_within;
@@ -92,7 +93,11 @@ pub fn record_at(table: &[u8], i: usize) -> Option<Record<'_>>
 }
 
 /// Returns whether two names have the same characters.
-fn says_the_same(one: Name<'_>, other: Name<'_>) -> bool {
+fn says_the_same(one: Name<'_>, other: Name<'_>) -> bool
+    ensures { MatchBool result
+        (SaysTheSame one.entry other.entry)
+        (SaysSomethingElse one.entry other.entry) }
+{
     let mut others = other.chars();
     for char in one.chars() {
         if others.next() != Some(char) {
@@ -102,11 +107,27 @@ fn says_the_same(one: Name<'_>, other: Name<'_>) -> bool {
     others.next().is_none()
 }
 
-/// Returns whether there is a Windows record in US English for a name ID.
-fn is_of_windows(table: &[u8], count: usize, identifier: usize) -> bool {
+/// Returns whether a record is one of Windows in US English, with a text in UTF-16.
+fn is_in_english(table: &[u8], i: usize) -> bool
+    ensures { IsTrue result
+        ↔ (name_rank (field_of table.now i 0) (field_of table.now i 1) (field_of table.now i 2) ≡ 4) }
+{
+    let encoding = field(table, i, 1);
+    field(table, i, 0) == 3
+        && (encoding == 0 || encoding == 1 || encoding == 10)
+        && field(table, i, 2) == ENGLISH
+}
+
+/// Returns whether there is such a record for a name ID, with its whole text.
+fn is_of_windows(table: &[u8], count: usize, identifier: usize) -> bool
+    requires room { HasRecords table.now }
+    requires all { count ≡ names_of table.now }
+    ensures { MatchBool result
+        ((i : ℕ) × (i < count) × (name_rank_at table.now identifier i ≡ 4))
+        ((i : ℕ) → i < count → name_rank_at table.now identifier i < 4) }
+{
     for i in 0..count {
-        if field(table, i, 0) == 3
-            && field(table, i, 2) == ENGLISH
+        if is_in_english(table, i)
             && field(table, i, 3) == identifier
             && record_at(table, i).is_some()
         {
@@ -117,16 +138,22 @@ fn is_of_windows(table: &[u8], count: usize, identifier: usize) -> bool {
 }
 
 /// Returns whether a Unicode record, or a Mac Roman record, only repeats the text of a better one.
-fn is_told_twice(names: &Names<'_>, table: &[u8], count: usize, record: &Record<'_>) -> bool {
-    let Some(best) = names.get(word_of(record.identifier)) else {
+fn is_told_twice(names: &Names<'_>, table: &[u8], count: usize, entry: &Record<'_>) -> bool
+    requires same { table_of names.now ≡ table.now }
+    requires room { HasRecords table.now }
+    requires all { count ≡ names_of table.now }
+    requires small { entry.now.identifier < 65536 }
+    ensures { MatchBool result (Repeats table.now entry.now) (Differs table.now entry.now) }
+{
+    let Some(best) = names.get(word_of(entry.identifier)) else {
         return false;
     };
-    match (record.platform, record.encoding, best) {
+    match (entry.platform, entry.encoding, best) {
         (0, _, Name::Utf16(_)) => {
-            is_of_windows(table, count, record.identifier)
-                && says_the_same(Name::Utf16(record.text), best)
+            is_of_windows(table, count, entry.identifier)
+                && says_the_same(Name::Utf16(entry.text), best)
         }
-        (1, 0, Name::Utf16(_)) => says_the_same(Name::MacRoman(record.text), best),
+        (1, 0, Name::Utf16(_)) => says_the_same(Name::MacRoman(entry.text), best),
         _ => false,
     }
 }
@@ -154,7 +181,7 @@ impl NameTable {
     }
 
     /// Returns the new offset of a text. Returns `None` if the table does not have it.
-    fn found(&self, entry: &Record<'_>) -> Option<usize>
+    fn place_found(&self, entry: &Record<'_>) -> Option<usize>
         ensures { MatchOption result (HasNoPlace self.now entry.now) (λ place. HasPlace self.now entry.now place) }
     {
         for (start, size, place) in &self.places {
@@ -169,7 +196,7 @@ impl NameTable {
     fn place_of(&mut self, entry: &Record<'_>) -> Result<usize, AllocError>
         ensures { IfOk result (λ place. IsPlaced self.old entry.now place self.new) }
     {
-        if let Some(place) = self.found(entry) {
+        if let Some(place) = self.place_found(entry) {
             return Ok(place);
         }
         let place = self.texts.len();
@@ -228,7 +255,7 @@ fn is_kept(entry: &Record<'_>, licence: bool) -> bool
 /// Returns the table with the records that a subset keeps, in their order. Records that only repeat a better one are
 /// dropped. Returns `None` if the table has another format, more than [`MOST`] records, or texts that need too much space.
 pub fn trimmed(alloc: Global, table: &[u8], licence: bool) -> Result<Option<Vec<u8>>, AllocError>
-    // The table has only chosen records of the old one, in their order.
+    // The table has the chosen records in order, except those that only repeat a better one.
     ensures has { IfOk result (λ made. IfSome made (λ new. (records : List TheRecord)
         × AreChosen table.now licence (word_at table.now 2) records × IsNameTable records new.items)) }
     // Without a table the old one has too few bytes or too many records, or there is no space.

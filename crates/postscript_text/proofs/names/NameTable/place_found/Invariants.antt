@@ -1,5 +1,5 @@
 use Rattle.std.proofs.Common.{◌≡◌, ℕ, ◌<◌, length, slice_index_or}
-use Rattle.postscript_text.proofs.names.NameTable.found.Given as goal
+use Rattle.postscript_text.proofs.names.NameTable.place_found.Given as goal
 
 -- the texts so far are others
 abbrev pub invariant-loop-start : goal.invariant-loop-start
