@@ -23,7 +23,7 @@ pub struct PsfAxis {
 }
 
 /// An axis in the form for C.
-fn shown(axis: &Axis) -> PsfAxis
+fn axis_for_c(axis: &Axis) -> PsfAxis
     ensures { result ≡ the_shown axis.now }
 {
     PsfAxis {
@@ -67,7 +67,7 @@ fn tell_axis_in(axes: &Axes<'_>, i: usize, axis: &mut PsfAxis, count: &mut usize
     *count = axes.len();
     match axes.get(i) {
         Some(found) => {
-            *axis = shown(&found);
+            *axis = axis_for_c(&found);
             0
         }
         None => NO_AXIS,

@@ -42,7 +42,7 @@ impl Corners {
 
     /// With the points of one more segment, control points too.
     #[inline(always)]
-    pub(crate) fn taking(self, segment: Segment) -> Corners
+    pub(crate) fn with_segment(self, segment: Segment) -> Corners
         ensures { (bounds : Option Bounds) → AreCornersOf bounds self → AreCornersOf (taking bounds segment) result }
     {
         match segment {

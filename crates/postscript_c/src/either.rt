@@ -8,7 +8,7 @@ ghost use Rattle.postscript_c.specs.VariedTold.{outline_room};
 use crate::counted::tell_count_of;
 use crate::files::file_status;
 use crate::fill::PsfSegment;
-use crate::font::{PsfFont, opened};
+use crate::font::{PsfFont, open_font};
 use crate::glyph::part_at;
 use crate::picture::{DrawnGlyph, found_glyph};
 use crate::place::{coordinates_at, unplaced_status};
@@ -73,7 +73,7 @@ fn tell_glyph_of(
 }
 
 /// The font with another limit.
-fn within(limit: u64, font: &PsfFont) -> PsfFont
+fn with_limit(limit: u64, font: &PsfFont) -> PsfFont
     ensures { result ≡ the_font_within limit font.now }
 {
     PsfFont { limit, ..*font }
@@ -92,11 +92,11 @@ fn tell_plain(
     ensures { TellsPlain bytes.now glyph limit result (outline_room segments.old count.old bounds.old)
         (outline_room segments.new count.new bounds.new) }
 {
-    match opened(alloc, bytes) {
+    match open_font(alloc, bytes) {
         Ok(font) => tell_glyph_of(
             alloc,
             bytes,
-            &within(limit, &font),
+            &with_limit(limit, &font),
             glyph,
             segments,
             count,
@@ -187,7 +187,7 @@ fn tell_glyphs_of(answer: &Opening<PsfFont>, count: &mut usize) -> i32
 fn tell_count_plain(alloc: Global, bytes: &[u8], count: &mut usize) -> i32
     ensures { TellsCountPlain bytes.now result count.old count.new }
 {
-    let answer = opened(alloc, bytes);
+    let answer = open_font(alloc, bytes);
     tell_glyphs_of(&answer, count)
 }
 

@@ -138,7 +138,7 @@ fn font_of(
 
 /// The font at the beginning of the bytes.
 #[tactic(auto, unfolding(crate::specs::Places::places))]
-pub(crate) fn opened(alloc: Global, bytes: &[u8]) -> Result<PsfFont>
+pub(crate) fn open_font(alloc: Global, bytes: &[u8]) -> Result<PsfFont>
     ensures exact { (place : ℕ) → Answers placed result place (places bytes.now place) }
     ensures widths { IfOk result (λ font. TellsWidths bytes.now font) }
     ensures limit { IfOk result (λ font. font.limit ≡ 20000000) }

@@ -34,7 +34,7 @@ fn name_or_none(name: Option<u16>) -> i32
 }
 
 /// An instance in the form for C.
-fn shown(instance: &Instance) -> PsfInstance
+fn instance_for_c(instance: &Instance) -> PsfInstance
     ensures { result ≡ the_shown instance.now }
 {
     PsfInstance {
@@ -77,7 +77,7 @@ fn tell_instance_in(
     };
     match coordinates_of(alloc, axes, i) {
         Ok(all) => {
-            *instance = shown(&found);
+            *instance = instance_for_c(&found);
             hand_over(&all, room, count)
         }
         Err(_) => MEMORY,

@@ -96,7 +96,11 @@ fn steps_of(variations: Option<AdvanceVariations<'_>>, glyph: usize) -> u64
 }
 
 /// The variation of the advance width of a glyph at normalized coordinates.
-fn added(variations: Option<AdvanceVariations<'_>>, glyph: usize, coordinates: &[i16]) -> i64
+fn advance_variation(
+    variations: Option<AdvanceVariations<'_>>,
+    glyph: usize,
+    coordinates: &[i16],
+) -> i64
     ensures { IsAdded variations.entry glyph coordinates.now result }
 {
     match variations {
@@ -116,7 +120,7 @@ fn sum(advances: &Advances<'_>, glyph: u16, more: i64) -> i64
 }
 
 /// The advance width of a glyph of a face at user coordinates, within a limit.
-fn measured(
+fn measure_advance(
     alloc: Global,
     file: &FontFile<'_>,
     values: &[i32],
@@ -135,7 +139,7 @@ fn measured(
                 if limit < steps_of(variations, glyph) {
                     return Err(Unmeasured::TooLong);
                 }
-                let more = added(variations, glyph, &coordinates);
+                let more = advance_variation(variations, glyph, &coordinates);
                 Ok(sum(&advances, number, more))
             }
             Err(e) => Err(Unmeasured::BadVariations(e)),
@@ -168,7 +172,7 @@ fn tell_measured_of(
 ) -> i32
     ensures { TellsMeasuredOf file.now values.now glyph limit result advance.old advance.new }
 {
-    let answer = measured(alloc, file, values, glyph, limit);
+    let answer = measure_advance(alloc, file, values, glyph, limit);
     tell_advance(&answer, advance)
 }
 

@@ -79,7 +79,7 @@ pub(crate) fn value_along(axis: &Axis, value: Option<i32>) -> i32
 }
 
 /// Applies `avar`, if there is one, to a normalized coordinate.
-fn mapped(maps: Option<Maps<'_>>, axis: usize, at: i32) -> i32
+fn map_coordinate(maps: Option<Maps<'_>>, axis: usize, at: i32) -> i32
     ensures exact { result ≡ mapped_with maps.entry axis at }
     ensures least { negsuc 131071 ≤ℤ at → negsuc 131071 ≤ℤ result }
     ensures most { at ≤ℤ pos 131068 → result ≤ℤ pos 131068 }
@@ -91,7 +91,7 @@ fn mapped(maps: Option<Maps<'_>>, axis: usize, at: i32) -> i32
 }
 
 /// Converts units of 2 ^ -16 to units of 2 ^ -14.
-fn shortened(at: i32) -> i16
+fn to_f2dot14(at: i32) -> i16
     requires least { negsuc 131071 ≤ℤ at }
     requires most { at ≤ℤ pos 131068 }
     ensures { result ≡ the_shortened at }
@@ -104,7 +104,7 @@ fn coordinate_on(found: &Axis, axis: usize, maps: Option<Maps<'_>>, value: i32) 
     ensures { result ≡ the_shortened
         (mapped_with maps.entry axis (normalized found.now.minimum found.now.default found.now.maximum value)) }
 {
-    shortened(mapped(maps, axis, found.normalized(value)))
+    to_f2dot14(map_coordinate(maps, axis, found.normalized(value)))
 }
 
 /// The normalized coordinate along an axis.
@@ -121,7 +121,7 @@ fn coordinate(axes: &Axes<'_>, maps: Option<Maps<'_>>, values: &[i32], axis: usi
 
 /// The normalized coordinates along all axes.
 #[tactic(auto, using(crate::proofs::Placing::no_axes, crate::proofs::Placing::one_axis))]
-fn along(
+fn coordinates_along(
     alloc: Global,
     axes: &Axes<'_>,
     maps: Option<Maps<'_>>,
@@ -152,7 +152,7 @@ fn all_normalized(
             if axes.len() < values.len() {
                 return Err(Unplaced::TooMany);
             }
-            match along(alloc, &axes, maps, values) {
+            match coordinates_along(alloc, &axes, maps, values) {
                 Ok(all) => Ok(all),
                 Err(_) => Err(Unplaced::Memory),
             }

@@ -176,7 +176,7 @@ fn place_of(alloc: Global, font: &Font<'_>, scalars: &[u32]) -> Result<Place, Un
 
 /// Draws a glyph of the font in a `CFF2` table at the location with these scalars.
 #[tactic(auto, using(crate::proofs::Locating::no_location, crate::proofs::Locating::drawn_so, crate::proofs::Locating::undrawn_so))]
-fn located(
+fn draw_at_location(
     alloc: Global,
     table: &[u8],
     scalars: &[u32],
@@ -229,6 +229,6 @@ pub(crate) fn tell_located(
     ensures { TellsLocated table.now scalars.now glyph limit result (outline_room segments.old count.old bounds.old)
         (outline_room segments.new count.new bounds.new) }
 {
-    let answer = located(alloc, table, scalars, glyph, limit);
+    let answer = draw_at_location(alloc, table, scalars, glyph, limit);
     tell_outcome(&answer, segments, count, bounds)
 }

@@ -6,7 +6,7 @@ ghost use Rattle.postscript_c.specs.Segments.{AreShown, AreShown-prop, meant};
 ghost use Rattle.postscript_outline.specs.Bounds.{IsBoundsOf, points, taking};
 
 use crate::corners::Corners;
-use crate::fill::{PsfSegment, shown};
+use crate::fill::{PsfSegment, segment_for_c};
 use postscript_base::Result;
 use postscript_outline::laws::bounds_take_in_points;
 use postscript_outline::{Bounds, Given, Segment, Sink};
@@ -60,8 +60,8 @@ impl Sink for Segments {
 
     #[inline(always)]
     fn add(&mut self, segment: Segment) -> Given {
-        self.segments.push(shown(segment))?;
-        self.corners = self.corners.taking(segment);
+        self.segments.push(segment_for_c(segment))?;
+        self.corners = self.corners.with_segment(segment);
         Ok(())
     }
 }

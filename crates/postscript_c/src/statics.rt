@@ -113,7 +113,7 @@ fn settings_of(alloc: Global, file: &FontFile<'_>, values: &[i32]) -> Result<Vec
 }
 
 /// The file of a face at the location of some settings.
-fn written(
+fn write_static(
     alloc: Global,
     bytes: &[u8],
     face: usize,
@@ -149,7 +149,7 @@ fn static_with(
     requires { AreSettingsIn bytes.now face values.now settings.items }
     ensures { IsStaticOf bytes.now face values.now rounded limit result }
 {
-    match written(alloc, bytes, face, settings, rounded, limit) {
+    match write_static(alloc, bytes, face, settings, rounded, limit) {
         Ok(made) => Ok(made),
         Err(e) => Err(NoStatic::Unwritten(e)),
     }

@@ -48,7 +48,7 @@ pub struct PsfBounds {
 
 impl PsfBounds {
     /// Bounds in the form for C, if there are any.
-    pub(crate) fn of(bounds: Option<Bounds>) -> PsfBounds
+    pub(crate) fn from_bounds(bounds: Option<Bounds>) -> PsfBounds
         ensures sides { sides_of result ≡ bounds }
         ensures zeros { AreZeros result }
     {
@@ -77,7 +77,7 @@ pub(crate) fn bound(answer: &Result<Option<TightBounds>>, bounds: &mut PsfBounds
 {
     match answer {
         Ok(Some(tight)) => {
-            *bounds = PsfBounds::of(tight.bounds);
+            *bounds = PsfBounds::from_bounds(tight.bounds);
             0
         }
         Ok(None) => NO_GLYPH,

@@ -62,7 +62,7 @@ fn advance(width: Option<Operand>, part: &PsfPart) -> i64
 }
 
 /// The data of a drawn glyph.
-pub(crate) fn told(found: &DrawnGlyph) -> PsfGlyph
+pub(crate) fn glyph_for_c(found: &DrawnGlyph) -> PsfGlyph
     ensures told { IsToldOf (drawn_shown found.now) found.now.part result }
     ensures zeros { HasZeros result }
     ensures width { TellsWidth (drawn_shown found.now) result }

@@ -145,7 +145,7 @@ pub(crate) fn draw_within(
 
 /// Draws a glyph of a face at user coordinates.
 #[tactic(auto, using(crate::proofs::Varying::no_font, crate::proofs::Varying::no_place))]
-fn varied(
+fn draw_varied(
     alloc: Global,
     file: &FontFile<'_>,
     values: &[i32],
@@ -177,7 +177,7 @@ pub(crate) fn hand(
 {
     let drawn = &sketch.segments;
     *count = drawn.len();
-    *bounds = PsfBounds::of(sketch.bounds());
+    *bounds = PsfBounds::from_bounds(sketch.bounds());
     if segments.len() < drawn.len() {
         return NO_ROOM;
     }
@@ -215,6 +215,6 @@ pub(crate) fn tell_varied_of(
     ensures { TellsVariedOf file.now values.now glyph limit result (outline_room segments.old count.old bounds.old)
         (outline_room segments.new count.new bounds.new) }
 {
-    let answer = varied(alloc, file, values, glyph, limit);
+    let answer = draw_varied(alloc, file, values, glyph, limit);
     tell_answer(&answer, segments, count, bounds)
 }

@@ -3,7 +3,7 @@ ghost use Rattle.std.specs.Prelude.{◌≡◌, ◌+◌, ◌^◌, ◌≤◌, ◌+
 ghost use Rattle.postscript_drawing.specs.Operators.{AreTwo, is_flex, strokes as the_strokes};
 ghost use Rattle.postscript_drawing.specs.Strokes.{along as the_along, by as the_by, back as the_back, flex as the_flex, hflex as the_hflex, hflex1 as the_hflex1, flex1 as the_flex1};
 
-use crate::operands::{by, wide};
+use crate::operands::{vector_of, wide};
 use crate::stroke::{Axis, Stroke, Vector};
 use postscript_type2::{Operand, Operator};
 
@@ -43,8 +43,16 @@ fn flex(operands: &[Operand]) -> Option<(Stroke, Stroke)>
             dy6,
             _fd,
         ] => Some((
-            Stroke::Curve(by(*dx1, *dy1), by(*dx2, *dy2), by(*dx3, *dy3)),
-            Stroke::Curve(by(*dx4, *dy4), by(*dx5, *dy5), by(*dx6, *dy6)),
+            Stroke::Curve(
+                vector_of(*dx1, *dy1),
+                vector_of(*dx2, *dy2),
+                vector_of(*dx3, *dy3),
+            ),
+            Stroke::Curve(
+                vector_of(*dx4, *dy4),
+                vector_of(*dx5, *dy5),
+                vector_of(*dx6, *dy6),
+            ),
         )),
         _ => None,
     }
@@ -56,15 +64,15 @@ fn hflex(operands: &[Operand]) -> Option<(Stroke, Stroke)>
 {
     match operands {
         [dx1, dx2, dy2, dx3, dx4, dx5, dx6] => Some((
-            Stroke::Curve(level(*dx1), by(*dx2, *dy2), level(*dx3)),
-            Stroke::Curve(level(*dx4), returning(*dx5, wide(*dy2)), level(*dx6)),
+            Stroke::Curve(level(*dx1), vector_of(*dx2, *dy2), level(*dx3)),
+            Stroke::Curve(level(*dx4), vector_back(*dx5, wide(*dy2)), level(*dx6)),
         )),
         _ => None,
     }
 }
 
 /// A vector with the opposite of `dy`.
-fn returning(dx: Operand, dy: i64) -> Vector
+fn vector_back(dx: Operand, dy: i64) -> Vector
     requires { unsigned_abs dy ≤ 2 ^ 34 }
     ensures { result ≡ the_by dx (neg_ℤ dy) }
 {
@@ -87,11 +95,11 @@ fn hflex1(operands: &[Operand]) -> Option<(Stroke, Stroke)>
 {
     match operands {
         [dx1, dy1, dx2, dy2, dx3, dx4, dx5, dy5, dx6] => Some((
-            Stroke::Curve(by(*dx1, *dy1), by(*dx2, *dy2), level(*dx3)),
+            Stroke::Curve(vector_of(*dx1, *dy1), vector_of(*dx2, *dy2), level(*dx3)),
             Stroke::Curve(
                 level(*dx4),
-                by(*dx5, *dy5),
-                returning(*dx6, sum_of_three(*dy1, *dy2, *dy5)),
+                vector_of(*dx5, *dy5),
+                vector_back(*dx6, sum_of_three(*dy1, *dy2, *dy5)),
             ),
         )),
         _ => None,
@@ -130,7 +138,7 @@ fn back(dx: i64, dy: i64, d6: Operand) -> Vector
     ensures { result ≡ the_back dx dy d6 }
 {
     if dx.unsigned_abs() > dy.unsigned_abs() {
-        returning(d6, dy)
+        vector_back(d6, dy)
     } else {
         Vector {
             dx: -dx,
@@ -148,8 +156,16 @@ fn flex1(operands: &[Operand]) -> Option<(Stroke, Stroke)>
             let dx = sum_of_five(*dx1, *dx2, *dx3, *dx4, *dx5);
             let dy = sum_of_five(*dy1, *dy2, *dy3, *dy4, *dy5);
             Some((
-                Stroke::Curve(by(*dx1, *dy1), by(*dx2, *dy2), by(*dx3, *dy3)),
-                Stroke::Curve(by(*dx4, *dy4), by(*dx5, *dy5), back(dx, dy, *d6)),
+                Stroke::Curve(
+                    vector_of(*dx1, *dy1),
+                    vector_of(*dx2, *dy2),
+                    vector_of(*dx3, *dy3),
+                ),
+                Stroke::Curve(
+                    vector_of(*dx4, *dy4),
+                    vector_of(*dx5, *dy5),
+                    back(dx, dy, *d6),
+                ),
             ))
         }
         _ => None,

@@ -55,14 +55,19 @@ pub fn outline_of(
     // If the runs of the glyph and its components cost less than the limit, it is never `TooLong`.
     ensures suffices { SufficesFor font.now glyph limit.old → result ≢ Err errors.TooLong }
 {
-    match outlined(alloc, font, glyph, limit) {
+    match outline_or_full(alloc, font, glyph, limit) {
         Err(Error::Full) => Err(Error::Font(Cause::Memory)),
         answer => answer,
     }
 }
 
 /// The same, but it fails with `Full` if the list of segments runs out of memory.
-fn outlined(alloc: Global, font: &FontView<'_>, glyph: usize, limit: &mut u64) -> Result<Outline>
+fn outline_or_full(
+    alloc: Global,
+    font: &FontView<'_>,
+    glyph: usize,
+    limit: &mut u64,
+) -> Result<Outline>
     ensures found { IfOk result (λ outline. IsDrawnAs font.now glyph outline.segments.items outline.width_difference) }
     ensures why { IfErr result (λ e. IsUndrawnGlyph font.now glyph limit.new e) }
     ensures paid { OnOk result (PaysDrawing font.now glyph limit.old limit.new) }

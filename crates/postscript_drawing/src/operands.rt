@@ -17,7 +17,7 @@ pub(crate) fn wide(operand: Operand) -> i64
 
 /// A vector of two operands.
 #[inline(always)]
-pub(crate) fn by(dx: Operand, dy: Operand) -> Vector
+pub(crate) fn vector_of(dx: Operand, dy: Operand) -> Vector
     ensures { result ≡ the_by dx dy }
 {
     Vector {
@@ -54,7 +54,7 @@ pub(crate) fn vector(operands: &[Operand]) -> Option<(Vector, &[Operand])>
     ensures { MatchOption result (length operands.now < 2) (λ v. operands.now ≡ v.0.dx ∷ v.0.dy ∷ v.1.now) }
 {
     match operands {
-        [dx, dy, rest @ ..] => Some((by(*dx, *dy), rest)),
+        [dx, dy, rest @ ..] => Some((vector_of(*dx, *dy), rest)),
         _ => None,
     }
 }
@@ -77,7 +77,7 @@ pub(crate) fn curve_operands(operands: &[Operand]) -> Option<CurveOperands<'_>>
     match operands {
         [begin, dx, dy, end, rest @ ..] => Some(CurveOperands {
             begin: wide(*begin),
-            middle: by(*dx, *dy),
+            middle: vector_of(*dx, *dy),
             end: wide(*end),
             rest,
         }),

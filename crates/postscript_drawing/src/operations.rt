@@ -41,11 +41,15 @@ pub fn outline_of_operations(
     // The only errors are `Memory`, `MalformedOperands` and `Overflow`.
     ensures listed { IsListed (3 ∷ 20 ∷ 26 ∷ []) result }
 {
-    applied(alloc, operations, width)
+    outline_by_pen(alloc, operations, width)
 }
 
 /// The same, by applying the operations with a pen.
-fn applied(alloc: Global, operations: &[Operation], width: Option<Operand>) -> Result<Outline>
+fn outline_by_pen(
+    alloc: Global,
+    operations: &[Operation],
+    width: Option<Operand>,
+) -> Result<Outline>
     ensures exact { let run = run_telling operations.now width in
         MatchResult result (λ outline. OutlinesApplied outline run)
         (λ e. (e ≡ errors.Memory) ⊎ (outline_applied run ≡ Err (refusal_of e))) }

@@ -7,7 +7,7 @@ ghost use Rattle.postscript_drawing.specs.Strokes.{move as the_move, move_along 
 
 use crate::flex::flex_strokes;
 use crate::operands::{
-    by, curve, curve_along, curve_in_turn, first_aside, line_in_turn, vector, wide,
+    curve, curve_along, curve_in_turn, first_aside, line_in_turn, vector, vector_of, wide,
 };
 use crate::pen::Pen;
 use crate::stroke::Axis;
@@ -113,7 +113,7 @@ impl Pen {
         ensures { DrawsStrokes S.after S.refuses (the_move operands.now) self.old (S.state sink.old) result self.new (S.state sink.new) }
     {
         match operands {
-            [dx1, dy1] => self.move_by(by(*dx1, *dy1), sink),
+            [dx1, dy1] => self.move_by(vector_of(*dx1, *dy1), sink),
             _ => Ok(()),
         }
     }

@@ -43,7 +43,7 @@ const ROWS: [&str; 13] = [
 ];
 
 /// Describes a glyph.
-fn told<R: Abort>(rt: &R, alloc: Global, font: &FontView<'_>, glyph: usize) -> String {
+fn describe_glyph<R: Abort>(rt: &R, alloc: Global, font: &FontView<'_>, glyph: usize) -> String {
     let mut text = String::new(alloc);
     let mut limit = LIMIT;
     match outline_of(alloc, font, glyph, &mut limit) {
@@ -64,10 +64,10 @@ fn accented_glyphs(rt: HostRuntime) {
     let bytes = bytes_of(&rt, alloc, FONT);
     let font = FontView::read(alloc, bytes.as_slice()).expect(&rt, "a font");
     for (glyph, wanted) in ROWS.iter().enumerate() {
-        let text = told(&rt, alloc, &font, glyph);
+        let text = describe_glyph(&rt, alloc, &font, glyph);
         is_text(&rt, text.as_str(), wanted, "a glyph");
     }
-    let text = told(&rt, alloc, &font, 13);
+    let text = describe_glyph(&rt, alloc, &font, 13);
     is_text(&rt, text.as_str(), "there is no glyph 13", "a glyph");
 }
 
@@ -93,7 +93,12 @@ fn an_accented_glyph_is_given_to_a_sink(rt: HostRuntime) {
 }
 
 /// Describes the `seac` glyph drawn within a limit: the path data, whether it was stopped, and the rest of the limit.
-fn within<R: Abort>(rt: &R, alloc: Global, font: &FontView<'_>, limit: u64) -> (String, bool, u64) {
+fn describe_within<R: Abort>(
+    rt: &R,
+    alloc: Global,
+    font: &FontView<'_>,
+    limit: u64,
+) -> (String, bool, u64) {
     let mut left = limit;
     let mut segments: Vec<Segment> = Vec::new(alloc);
     let drawn = draw_glyph(alloc, font, 3, &mut left, &mut segments);
@@ -111,7 +116,7 @@ fn an_accented_glyph_within_a_limit(rt: HostRuntime) {
     let bytes = bytes_of(&rt, alloc, FONT);
     let font = FontView::read(alloc, bytes.as_slice()).expect(&rt, "a font");
     for limit in 1..40 {
-        let (text, is_stopped, left) = within(&rt, alloc, &font, limit);
+        let (text, is_stopped, left) = describe_within(&rt, alloc, &font, limit);
         if is_stopped {
             holds(&rt, left == 0, "nothing is left");
             holds(&rt, limit < 27, "a low limit");

@@ -1,7 +1,7 @@
 //! How a test fails, and the bytes and texts that tests compare.
 ghost use Rattle.std.specs.Prelude.{IsTrue};
 
-use postscript_vectors::common::decoded;
+use postscript_vectors::common::decode_digits;
 use std::alloc::Global;
 use std::fmt::Display;
 use std::process::Abort;
@@ -40,11 +40,17 @@ pub fn put_shown<R: Abort, D: Display>(rt: &R, text: &mut String, word: &str, va
 
 /// The bytes that hex digits with spaces spell.
 pub fn bytes_of<R: Abort>(rt: &R, alloc: Global, digits: &str) -> Vec<u8> {
-    decoded(alloc, digits).expect(rt, "hex digits")
+    decode_digits(alloc, digits).expect(rt, "hex digits")
 }
 
 /// Bytes with one of them changed.
-pub fn changed<R: Abort>(rt: &R, alloc: Global, digits: &str, place: usize, byte: u8) -> Vec<u8> {
+pub fn with_changed_byte<R: Abort>(
+    rt: &R,
+    alloc: Global,
+    digits: &str,
+    place: usize,
+    byte: u8,
+) -> Vec<u8> {
     let mut bytes = bytes_of(rt, alloc, digits);
     if let Some(at) = bytes.get_mut(place) {
         *at = byte;

@@ -237,7 +237,7 @@ const COUNTS: &[(&str, &str)] = &[
 ];
 
 /// Draws a code into a sink, from the origin.
-fn drawn<S: Sink>(
+fn draw_code<S: Sink>(
     alloc: Global,
     code: &[u8],
     sink: &mut S,
@@ -250,7 +250,7 @@ fn drawn<S: Sink>(
 /// The outline of a code.
 fn outline_of(alloc: Global, code: &[u8]) -> postscript_drawing::Result<Outline> {
     let mut segments = Vec::new(alloc);
-    let width = drawn(alloc, code, &mut segments)?;
+    let width = draw_code(alloc, code, &mut segments)?;
     Ok(Outline {
         segments,
         width_difference: width,
@@ -473,7 +473,7 @@ fn a_sink_of_ones_own(rt: HostRuntime) {
         left: 4,
         segments: Vec::new(alloc),
     };
-    let refused = drawn(alloc, code.as_slice(), &mut few);
+    let refused = draw_code(alloc, code.as_slice(), &mut few);
     holds(
         &rt,
         matches!(&refused, Err(Error::Full)),
@@ -501,8 +501,8 @@ fn path_of_two(
     second: &[u8],
 ) -> postscript_drawing::Result<(Vec<Segment>, Option<Operand>)> {
     let mut segments = Vec::new(alloc);
-    drawn(alloc, first, &mut segments)?;
-    let width = drawn(alloc, second, &mut segments)?;
+    draw_code(alloc, first, &mut segments)?;
+    let width = draw_code(alloc, second, &mut segments)?;
     Ok((segments, width))
 }
 
@@ -552,7 +552,7 @@ fn a_sink_that_keeps_the_last(rt: HostRuntime) {
     let alloc = rt.alloc();
     let code = bytes_of(&rt, alloc, "90 8c8d15 8e06 8f16 9007 0e");
     let mut last = Last { segment: None };
-    let width = drawn(alloc, code.as_slice(), &mut last).expect(&rt, "a glyph");
+    let width = draw_code(alloc, code.as_slice(), &mut last).expect(&rt, "a glyph");
     holds(&rt, last.segment == Some(Segment::Close), "the last one");
     let width = width.and_then(|width| width.to_int());
     holds(&rt, width == Some(5), "the width");
@@ -563,13 +563,13 @@ fn a_box_with_no_list(rt: HostRuntime) {
     let alloc = rt.alloc();
     let code = bytes_of(&rt, alloc, "90 8c8d01 8e8f15 8e8f908b8d8e08 0e");
     let mut bounds: Option<Bounds> = None;
-    drawn(alloc, code.as_slice(), &mut bounds).expect(&rt, "an outline");
+    draw_code(alloc, code.as_slice(), &mut bounds).expect(&rt, "an outline");
     let outline = outline_of(alloc, code.as_slice()).expect(&rt, "an outline");
     holds(&rt, bounds == outline.bounds(), "the box");
     let mut taken: Option<Bounds> = None;
     give(outline.segments.as_slice(), &mut taken).expect(&rt, "bounds are never full");
     holds(&rt, taken == bounds, "taken in from a list");
-    let refusal = drawn(alloc, b"\x8c\x8d\x15\x0b", &mut taken).err();
+    let refusal = draw_code(alloc, b"\x8c\x8d\x15\x0b", &mut taken).err();
     holds(
         &rt,
         refusal.is_some_and(|e| number_of(&e) == 23),
@@ -583,7 +583,7 @@ fn a_list_and_its_box(rt: HostRuntime) {
     let code = bytes_of(&rt, alloc, "90 8c8d15 8e06 8f16 9007 0e");
     let list: (Vec<Segment>, Option<Bounds>) = (Vec::new(alloc), None);
     let mut all = (list, TightBounds::new());
-    let width = drawn(alloc, code.as_slice(), &mut all).expect(&rt, "a glyph");
+    let width = draw_code(alloc, code.as_slice(), &mut all).expect(&rt, "a glyph");
     let ((segments, bounds), tight) = all;
     let outline = Outline {
         segments,
@@ -601,8 +601,8 @@ fn a_path_with_no_list(rt: HostRuntime) {
     let first = bytes_of(&rt, alloc, "8c8d15 8e8f9091 05 0e");
     let second = bytes_of(&rt, alloc, "8c8d15 8c8d8e8f1b 8c8d8e8f901b 0e");
     let mut path = String::new(alloc);
-    drawn(alloc, first.as_slice(), &mut path).expect(&rt, "a glyph");
-    drawn(alloc, second.as_slice(), &mut path).expect(&rt, "a glyph");
+    draw_code(alloc, first.as_slice(), &mut path).expect(&rt, "a glyph");
+    draw_code(alloc, second.as_slice(), &mut path).expect(&rt, "a glyph");
     is_text(
         &rt,
         path.as_str(),

@@ -1,7 +1,7 @@
 //! The tables of a small file, for tests of whole files, and the choice of characters for a subset.
 use postscript_files::{Choice, Given};
 use postscript_sfnt_write::{Mapping, cmap};
-use postscript_vectors::common::decoded;
+use postscript_vectors::common::decode_digits;
 use std::alloc::Global;
 
 /// The tags of its tables, as numbers of four bytes.
@@ -52,15 +52,15 @@ const TABLES: [(u32, &str); 4] = [
 /// digits, or if memory runs out.
 pub fn tables_of(alloc: Global, changed: u32, digits: &str) -> Option<Vec<Given>> {
     let mut tables = Vec::new(alloc);
-    push(&mut tables, CFF, decoded(alloc, ACCENTED)?)?;
+    push(&mut tables, CFF, decode_digits(alloc, ACCENTED)?)?;
     let map = if changed == CMAP {
-        decoded(alloc, digits)
+        decode_digits(alloc, digits)
     } else {
         map_of(alloc)
     };
     push(&mut tables, CMAP, map?)?;
     for (tag, text) in TABLES {
-        let bytes = decoded(alloc, if tag == changed { digits } else { text });
+        let bytes = decode_digits(alloc, if tag == changed { digits } else { text });
         push(&mut tables, tag, bytes?)?;
     }
     Some(tables)

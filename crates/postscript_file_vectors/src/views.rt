@@ -1,7 +1,7 @@
 //! Fonts in place: a CID-keyed one, one with its own encoding, and fonts in which only a part is bad.
 pub mod rows;
 
-use crate::checks::{bytes_of, changed, holds, holds_at, is_text, put_shown};
+use crate::checks::{bytes_of, holds, holds_at, is_text, put_shown, with_changed_byte};
 use postscript::compact1::FontSet;
 use postscript_vectors::common::{TWO_DICTIONARIES, code_of};
 use postscript_view::{Advance, AdvanceWithin, FdSelect, FontView};
@@ -14,7 +14,7 @@ use std::io::Cursor;
 use std::process::Abort;
 
 /// The bytes of a font, followed by others.
-pub fn joined<R: Abort>(rt: &R, alloc: Global, font: &str, behind: &str) -> Vec<u8> {
+pub fn join_bytes<R: Abort>(rt: &R, alloc: Global, font: &str, behind: &str) -> Vec<u8> {
     let mut bytes = bytes_of(rt, alloc, font);
     let more = bytes_of(rt, alloc, behind);
     bytes
@@ -38,7 +38,12 @@ fn put_advance<R: Abort>(rt: &R, text: &mut String, advance: &Advance) {
 }
 
 /// Describes a glyph of a CID-keyed font.
-pub fn told<R: Abort>(rt: &R, alloc: Global, font: &FontView<'_>, glyph: usize) -> String {
+pub fn describe_glyph<R: Abort>(
+    rt: &R,
+    alloc: Global,
+    font: &FontView<'_>,
+    glyph: usize,
+) -> String {
     let mut text = String::new(alloc);
     let set = font.char_set().expect(rt, "a char set");
     if let Some(cid) = font.cid(&set, glyph) {
@@ -70,11 +75,11 @@ pub fn told<R: Abort>(rt: &R, alloc: Global, font: &FontView<'_>, glyph: usize) 
 fn glyphs_of_a_cid_keyed_font(rt: HostRuntime) {
     let alloc = rt.alloc();
     for selection in SELECTIONS {
-        let bytes = joined(&rt, alloc, CID, selection);
+        let bytes = join_bytes(&rt, alloc, CID, selection);
         let font = FontView::read(alloc, bytes.as_slice()).expect(&rt, "a font");
         holds(&rt, font.is_cid_keyed(), "a CID-keyed font");
         for (glyph, wanted) in GLYPHS.iter().enumerate() {
-            let text = told(&rt, alloc, &font, glyph);
+            let text = describe_glyph(&rt, alloc, &font, glyph);
             is_text(&rt, text.as_str(), wanted, selection);
         }
     }
@@ -83,7 +88,7 @@ fn glyphs_of_a_cid_keyed_font(rt: HostRuntime) {
 #[test]
 fn ranges_that_fall_give_no_part(rt: HostRuntime) {
     let alloc = rt.alloc();
-    let bytes = joined(&rt, alloc, CID, FALLING);
+    let bytes = join_bytes(&rt, alloc, CID, FALLING);
     let font = FontView::read(alloc, bytes.as_slice()).expect(&rt, "a font");
     for glyph in 0..4 {
         let is_none = font.part_of(glyph).is_none() && font.glyph(glyph).is_none();
@@ -105,7 +110,7 @@ fn font_dictionaries_of_glyphs(rt: HostRuntime) {
 fn fonts_that_fit_a_limit(rt: HostRuntime) {
     let alloc = rt.alloc();
     for (font, selection, given, fits, left) in FITTING {
-        let bytes = joined(&rt, alloc, font, selection);
+        let bytes = join_bytes(&rt, alloc, font, selection);
         let font = FontView::read(alloc, bytes.as_slice()).expect(&rt, "a font");
         let mut limit = *given;
         let told = font.fits(alloc, &mut limit).expect(&rt, "memory");
@@ -133,7 +138,7 @@ fn told_within<R: Abort>(
 #[test]
 fn advances_within_a_limit(rt: HostRuntime) {
     let alloc = rt.alloc();
-    let bytes = joined(&rt, alloc, CID, SELECTIONS[0]);
+    let bytes = join_bytes(&rt, alloc, CID, SELECTIONS[0]);
     let font = FontView::read(alloc, bytes.as_slice()).expect(&rt, "a font");
     for (row, (glyph, given, wanted, left)) in WITHIN.iter().enumerate() {
         let (told, limit) = told_within(&rt, alloc, &font, *glyph, *given);
@@ -145,7 +150,7 @@ fn advances_within_a_limit(rt: HostRuntime) {
 #[test]
 fn glyphs_of_cids(rt: HostRuntime) {
     let alloc = rt.alloc();
-    let bytes = joined(&rt, alloc, CID, SELECTIONS[0]);
+    let bytes = join_bytes(&rt, alloc, CID, SELECTIONS[0]);
     let font = FontView::read(alloc, bytes.as_slice()).expect(&rt, "a font");
     let set = font.char_set().expect(&rt, "a char set");
     let found = [0, 1, 10, 11, 12, 100, 101].map(|cid| font.glyph_of_cid(&set, cid));
@@ -184,7 +189,7 @@ pub fn codes_of<R: Abort>(rt: &R, alloc: Global, bytes: &[u8]) -> String {
 fn codes_of_encodings(rt: HostRuntime) {
     let alloc = rt.alloc();
     for (encoding, wanted) in CODES {
-        let bytes = joined(&rt, alloc, PLAIN, encoding);
+        let bytes = join_bytes(&rt, alloc, PLAIN, encoding);
         let text = codes_of(&rt, alloc, bytes.as_slice());
         is_text(&rt, text.as_str(), wanted, encoding);
     }
@@ -242,7 +247,7 @@ fn no_names_in_a_cid_keyed_font(rt: HostRuntime) {
 fn no_names_behind_the_last_glyph(rt: HostRuntime) {
     let alloc = rt.alloc();
     for (row, (place, byte, last, behind)) in LASTS.iter().enumerate() {
-        let bytes = changed(&rt, alloc, RANGE, *place, *byte);
+        let bytes = with_changed_byte(&rt, alloc, RANGE, *place, *byte);
         let font = FontView::read(alloc, bytes.as_slice()).expect(&rt, "a font");
         let set = font.char_set().expect(&rt, "a char set");
         holds_at(&rt, set.identifier(3) == Some(*last), "the last", row);
@@ -258,7 +263,7 @@ fn no_names_behind_the_last_glyph(rt: HostRuntime) {
 fn fonts_of_another_version(rt: HostRuntime) {
     let alloc = rt.alloc();
     // `FontSet` reads the version without checking it, and `FontView` opens every font that `FontSet` reads.
-    let bytes = changed(&rt, alloc, RANGE, 0, 9);
+    let bytes = with_changed_byte(&rt, alloc, RANGE, 0, 9);
     let font = FontView::read(alloc, bytes.as_slice()).expect(&rt, "a font in place");
     holds(&rt, font.char_strings.len() == 4, "four glyphs");
     let set = FontSet::read_lenient(alloc, &mut Cursor::new(bytes.as_slice()));
@@ -286,7 +291,7 @@ fn matrices_of_glyphs(rt: HostRuntime) {
     let alloc = rt.alloc();
     // With the matrix of the font, and without it: its operator is changed to StrokeWidth.
     for (operator, wanted) in [(0x07u8, ["2e-3", "5e-4", ""]), (0x08, ["1e-3", "5e-4", ""])] {
-        let bytes = changed(&rt, alloc, MATRICES, 35, operator);
+        let bytes = with_changed_byte(&rt, alloc, MATRICES, 35, operator);
         for (glyph, scale) in wanted.iter().enumerate() {
             let text = scale_of(&rt, alloc, bytes.as_slice(), glyph);
             is_text(&rt, text.as_str(), scale, "a matrix");
@@ -298,12 +303,12 @@ fn matrices_of_glyphs(rt: HostRuntime) {
 fn fonts_that_are_refused(rt: HostRuntime) {
     let alloc = rt.alloc();
     for (row, (place, byte, code)) in REFUSED.iter().enumerate() {
-        let bytes = changed(&rt, alloc, PLAIN, *place, *byte);
+        let bytes = with_changed_byte(&rt, alloc, PLAIN, *place, *byte);
         let found = code_of(FontView::read(alloc, bytes.as_slice()));
         holds_at(&rt, found == *code, "refused row", row);
     }
     for (row, (place, byte, code)) in BROKEN.iter().enumerate() {
-        let bytes = changed(&rt, alloc, PLAIN, *place, *byte);
+        let bytes = with_changed_byte(&rt, alloc, PLAIN, *place, *byte);
         let font = FontView::read(alloc, bytes.as_slice()).expect(&rt, "a font");
         holds_at(&rt, code_of(font.char_set()) == *code, "broken row", row);
     }
@@ -312,10 +317,10 @@ fn fonts_that_are_refused(rt: HostRuntime) {
 #[test]
 fn codes_of_predefined_encodings(rt: HostRuntime) {
     let alloc = rt.alloc();
-    let bytes = changed(&rt, alloc, PLAIN, 21, 0x00);
+    let bytes = with_changed_byte(&rt, alloc, PLAIN, 21, 0x00);
     let text = codes_of(&rt, alloc, bytes.as_slice());
     is_text(&rt, text.as_str(), " 65:1 66:3", "the standard encoding");
-    let bytes = changed(&rt, alloc, PLAIN, 21, 0x01);
+    let bytes = with_changed_byte(&rt, alloc, PLAIN, 21, 0x01);
     let text = codes_of(&rt, alloc, bytes.as_slice());
     is_text(&rt, text.as_str(), "", "the expert encoding");
 }

@@ -2,7 +2,7 @@
 use crate::checks::{bytes_of, holds, holds_at, is_text};
 use crate::small_file::ACCENTED;
 use crate::views::rows::{CID, PLAIN, SELECTIONS};
-use crate::views::{codes_of, joined, told};
+use crate::views::{codes_of, describe_glyph, join_bytes};
 use postscript::compact1::FontSet;
 use postscript_base::index::IndexView;
 use postscript_drawing::{LIMIT, outline_of};
@@ -40,7 +40,7 @@ fn code_is<R: Abort>(rt: &R, alloc: Global, bytes: &[u8], glyph: usize, digits: 
 fn tells<R: Abort>(rt: &R, alloc: Global, bytes: &[u8], rows: &[usize]) {
     let font = FontView::read(alloc, bytes).expect(rt, "a font");
     for (glyph, row) in rows.iter().enumerate() {
-        let text = told(rt, alloc, &font, glyph);
+        let text = describe_glyph(rt, alloc, &font, glyph);
         is_text(rt, text.as_str(), FLAT[*row % FLAT.len()], "a glyph");
     }
 }
@@ -49,7 +49,7 @@ fn tells<R: Abort>(rt: &R, alloc: Global, bytes: &[u8], rows: &[usize]) {
 fn cid_keyed_fonts_written(rt: HostRuntime) {
     let alloc = rt.alloc();
     for selection in SELECTIONS {
-        let bytes = joined(&rt, alloc, CID, selection);
+        let bytes = join_bytes(&rt, alloc, CID, selection);
         let flat = flat_font(alloc, bytes.as_slice()).expect(&rt, "a flat font");
         tells(&rt, alloc, flat.as_slice(), &[0, 1, 2, 3, 4]);
         code_is(&rt, alloc, flat.as_slice(), 1, "879f160e");
@@ -60,7 +60,7 @@ fn cid_keyed_fonts_written(rt: HostRuntime) {
 #[test]
 fn cid_keyed_fonts_cut(rt: HostRuntime) {
     let alloc = rt.alloc();
-    let bytes = joined(&rt, alloc, CID, SELECTIONS[0]);
+    let bytes = join_bytes(&rt, alloc, CID, SELECTIONS[0]);
     let cut = subset(alloc, bytes.as_slice(), &[2, 2]).expect(&rt, "a subset");
     tells(&rt, alloc, cut.as_slice(), &[0, 2, 4]);
     let kept = subset_keeping(alloc, bytes.as_slice(), &[2]).expect(&rt, "a subset");
@@ -72,7 +72,7 @@ fn cid_keyed_fonts_cut(rt: HostRuntime) {
 #[test]
 fn codes_written(rt: HostRuntime) {
     let alloc = rt.alloc();
-    let bytes = joined(&rt, alloc, PLAIN, "00 02 4142");
+    let bytes = join_bytes(&rt, alloc, PLAIN, "00 02 4142");
     let flat = flat_font(alloc, bytes.as_slice()).expect(&rt, "a flat font");
     let text = codes_of(&rt, alloc, flat.as_slice());
     is_text(&rt, text.as_str(), " 65:1 66:2", "a flat font");
@@ -102,7 +102,7 @@ fn is_named<R: Abort>(rt: &R, alloc: Global, bytes: &[u8], strings: &[&[u8]], na
 #[test]
 fn strings_cut(rt: HostRuntime) {
     let alloc = rt.alloc();
-    let bytes = joined(&rt, alloc, PLAIN, "00 02 4142");
+    let bytes = join_bytes(&rt, alloc, PLAIN, "00 02 4142");
     is_named(&rt, alloc, bytes.as_slice(), &[b"alpha", b"beta"], b"beta");
     let cut = subset(alloc, bytes.as_slice(), &[4]).expect(&rt, "a subset");
     is_named(&rt, alloc, cut.as_slice(), &[b"beta"], b"beta");
@@ -115,7 +115,7 @@ fn strings_cut(rt: HostRuntime) {
 #[test]
 fn fonts_that_are_not_written(rt: HostRuntime) {
     let alloc = rt.alloc();
-    let mut bytes = joined(&rt, alloc, PLAIN, "00 02 4142");
+    let mut bytes = join_bytes(&rt, alloc, PLAIN, "00 02 4142");
     let none = subset(alloc, bytes.as_slice(), &[]);
     holds(&rt, matches!(none, Err(Error::NoGlyphs)), "no glyphs");
     let past = subset_keeping(alloc, bytes.as_slice(), &[1, 5]);
@@ -252,7 +252,7 @@ fn glyphs_kept_within_a_limit(rt: HostRuntime) {
 #[test]
 fn glyphs_that_fail_within_a_limit(rt: HostRuntime) {
     let alloc = rt.alloc();
-    let mut bytes = joined(&rt, alloc, PLAIN, "00 02 4142");
+    let mut bytes = join_bytes(&rt, alloc, PLAIN, "00 02 4142");
     // the code of glyph 2 returns
     if let Some(code) = bytes.get_mut(69) {
         *code = 0x0b;
@@ -440,10 +440,10 @@ const CALLERS: [&str; 2] = [
 #[test]
 fn long_charstrings(rt: HostRuntime) {
     let alloc = rt.alloc();
-    let bytes = joined(&rt, alloc, CALLS, CALLERS[0]);
+    let bytes = join_bytes(&rt, alloc, CALLS, CALLERS[0]);
     let flat = flat_font(alloc, bytes.as_slice()).expect(&rt, "a flat font");
     has_glyphs(&rt, alloc, flat.as_slice(), 1);
-    let bytes = joined(&rt, alloc, CALLS, CALLERS[1]);
+    let bytes = join_bytes(&rt, alloc, CALLS, CALLERS[1]);
     let flat = flat_font(alloc, bytes.as_slice());
     holds(&rt, matches!(flat, Err(Error::LongGlyph(0))), "too long");
     let kept = subset_keeping(alloc, bytes.as_slice(), &[0]);

@@ -59,7 +59,7 @@ fn set(marks: &mut Vec<bool>, number: usize)
 }
 
 /// Returns this number of marks. None of them is set.
-fn unmarked(alloc: Global, count: usize) -> Result<Vec<bool>>
+fn no_marks(alloc: Global, count: usize) -> Result<Vec<bool>>
     ensures many { IfOk result (λ marks. length marks.items ≡ count) }
     ensures none { IfOk result (λ marks. (n : ℕ) → n < count → slice_index_or marks.items n false ≡ false) }
     ensures memory { IfErr result (λ e. e ≡ errors.Memory) }
@@ -72,7 +72,7 @@ fn marked_chars(alloc: Global, chars: &[u32], count: usize) -> Result<Vec<bool>>
     ensures marks { IfOk result (λ marks. AreMarks chars.now count marks.items) }
     ensures memory { IfErr result (λ e. e ≡ errors.Memory) }
 {
-    let mut marks = unmarked(alloc, count)?;
+    let mut marks = no_marks(alloc, count)?;
     for char in chars {
         set(&mut marks, *char as usize);
     }
@@ -84,7 +84,7 @@ fn marked_glyphs(alloc: Global, glyphs: &[usize], count: usize) -> Result<Vec<bo
     ensures marks { IfOk result (λ marks. AreMarks glyphs.now count marks.items) }
     ensures memory { IfErr result (λ e. e ≡ errors.Memory) }
 {
-    let mut marks = unmarked(alloc, count)?;
+    let mut marks = no_marks(alloc, count)?;
     for glyph in glyphs {
         set(&mut marks, *glyph);
     }
@@ -122,7 +122,7 @@ fn push_if(pairs: &mut Vec<Mapping>, kept: bool, pair: &(u32, u16)) -> Result<()
 }
 
 /// Returns the characters that are kept, of a list with their glyphs.
-fn filtered(
+fn kept_of_list(
     alloc: Global,
     all: &[(u32, u16)],
     chars: &[bool],
@@ -141,14 +141,14 @@ fn filtered(
 }
 
 /// Returns the characters of a face that are kept, each with its glyph, by a walk through all characters.
-fn walked(alloc: Global, map: &CharacterMap<'_>, choice: &Choice<'_>) -> Result<Vec<Mapping>>
+fn kept_by_walk(alloc: Global, map: &CharacterMap<'_>, choice: &Choice<'_>) -> Result<Vec<Mapping>>
     ensures kept { IfOk result (λ pairs. AreKeptPairs choice.now map.now pairs.items) }
     ensures memory { IfErr result (λ e. e ≡ errors.Memory) }
 {
     let chars = marked_chars(alloc, choice.chars, CHARS)?;
     let glyphs = marked_glyphs(alloc, choice.glyphs, GLYPHS)?;
     let all = map.characters(alloc)?;
-    filtered(alloc, &all, &chars, &glyphs)
+    kept_of_list(alloc, &all, &chars, &glyphs)
 }
 
 /// Returns the characters of a face that are kept, each with its glyph, in ascending order. Few characters are looked up,
@@ -164,7 +164,7 @@ pub(crate) fn kept_pairs(
     if choice.glyphs.is_empty() && choice.chars.len() <= FEW {
         looked_up(alloc, map, choice.chars)
     } else {
-        walked(alloc, map, choice)
+        kept_by_walk(alloc, map, choice)
     }
 }
 
@@ -189,7 +189,7 @@ pub(crate) fn refuse_missing(map: &CharacterMap<'_>, chars: &[u32]) -> Result<()
 }
 
 /// Returns the chosen glyphs.
-fn chosen(alloc: Global, choice: &Choice<'_>) -> Result<Vec<usize>>
+fn chosen_glyphs(alloc: Global, choice: &Choice<'_>) -> Result<Vec<usize>>
     ensures chosen { IfOk result (λ chosen. chosen.items ≡ glyphs_of choice.now) }
     ensures memory { IfErr result (λ e. e ≡ errors.Memory) }
 {
@@ -199,11 +199,15 @@ fn chosen(alloc: Global, choice: &Choice<'_>) -> Result<Vec<usize>>
 }
 
 /// Returns the chosen glyphs, and the glyphs of characters.
-pub(crate) fn named(alloc: Global, choice: &Choice<'_>, pairs: &[Mapping]) -> Result<Vec<usize>>
+pub(crate) fn glyphs_of_choice(
+    alloc: Global,
+    choice: &Choice<'_>,
+    pairs: &[Mapping],
+) -> Result<Vec<usize>>
     ensures named { IfOk result (λ named. named.items ≡ named_of (glyphs_of choice.now) pairs.now) }
     ensures memory { IfErr result (λ e. e ≡ errors.Memory) }
 {
-    let mut named = chosen(alloc, choice)?;
+    let mut named = chosen_glyphs(alloc, choice)?;
     for pair in pairs {
         named.push(usize::from(pair.glyph))?;
     }

@@ -31,7 +31,7 @@ pub struct Face<'l> {
 }
 
 /// Returns a required table.
-pub(crate) fn needed<'l>(file: &FontFile<'l>, tag: [u8; 4]) -> Result<&'l [u8]>
+pub(crate) fn required_table<'l>(file: &FontFile<'l>, tag: [u8; 4]) -> Result<&'l [u8]>
     ensures { MatchResult result
         (λ table. IsTableOf file.now (big_endian tag) table.now)
         (λ e. (e ≡ errors.MissingTable (big_endian tag)) × HasNoTable file.now (big_endian tag)) }
@@ -76,15 +76,15 @@ impl<'l> Face<'l> {
     pub fn open(bytes: &'l [u8], number: usize) -> Result<Face<'l>>
         // The face is the one of this number, with its own tables, best map and advance widths.
         ensures found { IfOk result (λ face. IsFaceIn bytes.now number face) }
-        // An error is justified by the file, a missing table, the character maps or the advance widths.
+        // The file, a missing table, the character maps or the advances justify an error.
         ensures why { IfErr result (λ e. NoFaceIn e bytes.now number) }
     {
         let file = FontFile::read(bytes, number)?;
-        let cff = needed(&file, *b"CFF ")?;
-        let cmap = needed(&file, *b"cmap")?;
-        let hhea = needed(&file, *b"hhea")?;
-        let hmtx = needed(&file, *b"hmtx")?;
-        let maxp = needed(&file, *b"maxp")?;
+        let cff = required_table(&file, *b"CFF ")?;
+        let cmap = required_table(&file, *b"cmap")?;
+        let hhea = required_table(&file, *b"hhea")?;
+        let hmtx = required_table(&file, *b"hmtx")?;
+        let maxp = required_table(&file, *b"maxp")?;
         let map = best_map(cmap)?;
         let advances = advances_of(hhea, hmtx)?;
         Ok(Face {

@@ -9,7 +9,7 @@ ghost use Rattle.postscript_files.specs.Others.{AreListedTo, AreOthers, Has, IsF
 ghost use Rattle.postscript_files.specs.declared.error.Error.TheVariants as errors;
 
 use crate::error::{Error, Result};
-use crate::face::needed;
+use crate::face::required_table;
 use crate::tables::{file_with, table_of};
 use postscript_sfnt::FontFile;
 use postscript_sfnt_write::Table;
@@ -153,7 +153,7 @@ pub fn flat_file(alloc: Global, file: &[u8], number: usize) -> Result<Vec<u8>>
     ensures refused { IfErr result (λ e. NoFlatOf file.now number e) }
 {
     let face = FontFile::read(file, number)?;
-    let cff = needed(&face, *b"CFF ")?;
+    let cff = required_table(&face, *b"CFF ")?;
     let font = font_of(alloc, cff)?;
     with_font(alloc, file.len(), &face, &font)
 }

@@ -4,7 +4,7 @@ ghost use Rattle.postscript_files.specs.Origins.{AreAllNamed, AreFew, AreOrigins
 ghost use Rattle.postscript_files.specs.Subsets.{AreSequenceGlyphs};
 ghost use Rattle.postscript_files.specs.declared.error.Error.TheVariants as errors;
 
-use crate::choice::{Choice, kept_pairs, named};
+use crate::choice::{Choice, glyphs_of_choice, kept_pairs};
 use crate::error::{Error, Result};
 use crate::face::Face;
 use crate::sequences::sequence_glyphs;
@@ -44,7 +44,7 @@ impl Face<'_> {
         ensures memory { IfErr result (λ e. e ≡ errors.Memory) }
     {
         let pairs = kept_pairs(alloc, &self.map, choice)?;
-        named(alloc, choice, &pairs)
+        glyphs_of_choice(alloc, choice, &pairs)
     }
 
     /// Returns the glyphs of the variation sequences of all kept characters (`cmap` format 14), with any selector. A glyph can
@@ -57,7 +57,7 @@ impl Face<'_> {
     ///
     /// - `Memory`: out of memory.
     pub fn sequence_glyphs(&self, alloc: Global, choice: &Choice<'_>) -> Result<Vec<usize>>
-        // A glyph is in the list exactly if the sequence of a kept character has it, unless the limit is exceeded.
+        // The list has exactly the glyphs of sequences of kept characters, if the limit suffices.
         ensures glyphs { IfOk result (λ glyphs. AreSequenceGlyphs choice.now self.now glyphs.items) }
         // Each is below 65,536.
         ensures small { IfOk result (λ glyphs. AreSmall glyphs.items) }
@@ -81,7 +81,7 @@ impl Face<'_> {
     ///   the charstring of a kept glyph fails.
     /// - `Memory`: out of memory.
     pub fn origins(&self, alloc: Global, choice: &Choice<'_>) -> Result<Vec<usize>>
-        // These are the old glyphs that the new glyphs are made of, in the order of the new numbers.
+        // The old glyphs that the new glyphs are made of, in the order of the new numbers.
         ensures are { IfOk result (λ origins. AreOriginsOf choice.now self.now origins.items) }
         // There are fewer than 65,536, each below 65,536.
         ensures few { IfOk result (λ origins. AreFew origins.items) }
@@ -89,7 +89,7 @@ impl Face<'_> {
         ensures refused { IfErr result (λ e. NoOriginsOf choice.now self.now e) }
     {
         let pairs = kept_pairs(alloc, &self.map, choice)?;
-        let named = named(alloc, choice, &pairs)?;
+        let named = glyphs_of_choice(alloc, choice, &pairs)?;
         let Choice {
             retain_gids,
             limit,

@@ -12,6 +12,6 @@ pub fn kept_are_the_same()
 /// States that two readings of one face have the same tables, characters and advance widths. So what a contract says of one of
 /// them holds for the other.
 pub fn readings_agree()
-    // Two readings of a face have the same tables, the same glyph for each character, and the same advance for each glyph.
+    // Two readings of a face have the same tables, glyphs of characters, and advances.
     ensures law { ReadingsAgree }
 {}

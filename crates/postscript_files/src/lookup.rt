@@ -24,7 +24,7 @@ fn glyph_for(map: &CharacterMap<'_>, char: u32) -> u16
 }
 
 /// Returns characters in ascending order, each once.
-fn ascending(alloc: Global, chars: &[u32]) -> Result<Vec<u32>>
+fn sorted_chars(alloc: Global, chars: &[u32]) -> Result<Vec<u32>>
     ensures rise { IfOk result (λ all. IsStrictlyIncreasing all.items) }
     ensures same { IfOk result (λ all. (char : ℕ) → Contains all.items char ↔ Contains chars.now char) }
     ensures memory { IfErr result (λ e. e ≡ errors.Memory) }
@@ -69,6 +69,6 @@ pub(crate) fn looked_up(
     ensures found { IfOk result (λ pairs. AreLookedUp map.now chars.now pairs.items) }
     ensures memory { IfErr result (λ e. e ≡ errors.Memory) }
 {
-    let all = ascending(alloc, chars)?;
+    let all = sorted_chars(alloc, chars)?;
     each_looked_up(alloc, map, &all)
 }

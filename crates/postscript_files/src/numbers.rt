@@ -9,7 +9,7 @@ use postscript_sfnt_write::Mapping;
 use std::alloc::Global;
 
 /// Returns the least number above all origins.
-fn above(origins: &[usize]) -> usize
+fn least_above(origins: &[usize]) -> usize
     requires few { AreFew origins.now }
     ensures { AreBelow origins.now result }
 {
@@ -26,7 +26,7 @@ pub(crate) fn numbers_of(alloc: Global, origins: &[usize]) -> Result<Vec<u16>>
     ensures numbers { IfOk result (λ numbers. AreNumbersOf origins.now numbers.items) }
     ensures memory { IfErr result (λ e. e ≡ errors.Memory) }
 {
-    let mut numbers = vec![in alloc; 0u16; above(origins)]?;
+    let mut numbers = vec![in alloc; 0u16; least_above(origins)]?;
     for i in 0..origins.len() {
         numbers[origins[i]] = i as u16;
     }
@@ -46,7 +46,11 @@ fn number_of(numbers: &[u16], glyph: u16) -> u16
 }
 
 /// Returns characters with the new numbers of their glyphs.
-pub(crate) fn renumbered(alloc: Global, pairs: &[Mapping], numbers: &[u16]) -> Result<Vec<Mapping>>
+pub(crate) fn with_new_numbers(
+    alloc: Global,
+    pairs: &[Mapping],
+    numbers: &[u16],
+) -> Result<Vec<Mapping>>
     ensures renumbered { IfOk result (λ all. AreRenumbered pairs.now numbers.now all.items) }
     ensures memory { IfErr result (λ e. e ≡ errors.Memory) }
 {

@@ -62,7 +62,7 @@ fn narrow(alloc: Global, glyphs: &[usize]) -> Result<Vec<u16>>
 }
 
 /// Finds the sequences of a `cmap` table.
-fn found(cmap: &[u8]) -> Option<Sequences<'_>>
+fn find_sequences(cmap: &[u8]) -> Option<Sequences<'_>>
     ensures { MatchOption result (HasNoSequences cmap.now) (λ sequences. IsSequencesOf cmap.now (table_of sequences)) }
 {
     Sequences::find(cmap)
@@ -70,11 +70,11 @@ fn found(cmap: &[u8]) -> Option<Sequences<'_>>
 
 /// Finds the sequences of a `cmap` table, unless the search for these characters exceeds the limit.
 #[tactic(auto, using(crate::proofs::Varied::not_long))]
-fn within<'l>(cmap: &'l [u8], chars: &[u32]) -> Option<Sequences<'l>>
+fn find_within<'l>(cmap: &'l [u8], chars: &[u32]) -> Option<Sequences<'l>>
     ensures some { IfSome result (λ sequences. IsSequencesOf cmap.now (table_of sequences) × (IsTooLong cmap.now chars.now → ⊥)) }
     ensures none { IfNone result (HasNoSequences cmap.now ⊎ IsTooLong cmap.now chars.now) }
 {
-    let sequences = found(cmap)?;
+    let sequences = find_sequences(cmap)?;
     if sequences.is_enough(LIMIT, chars) {
         Some(sequences)
     } else {
@@ -112,14 +112,19 @@ pub(crate) fn sequence_glyphs(alloc: Global, cmap: &[u8], pairs: &[Mapping]) -> 
     ensures memory { IfErr result (λ e. e ≡ errors.Memory) }
 {
     let chars = chars_of(alloc, pairs)?;
-    match within(cmap, &chars) {
+    match find_within(cmap, &chars) {
         Some(sequences) => glyphs_of(alloc, &sequences, &chars),
         None => Ok(Vec::new(alloc)),
     }
 }
 
 /// Returns the subtable of the sequences of characters under new numbers.
-fn kept(alloc: Global, sequences: &Sequences<'_>, chars: &[u32], glyphs: &[u16]) -> Result<Vec<u8>>
+fn kept_subtable(
+    alloc: Global,
+    sequences: &Sequences<'_>,
+    chars: &[u32],
+    glyphs: &[u16],
+) -> Result<Vec<u8>>
     requires { AreAscending chars.now }
     ensures exact { IfOk result (λ new. Keeps (table_of sequences.now) chars.now glyphs.now new.items) }
     ensures memory { IfErr result (λ e. e ≡ errors.Memory) }
@@ -141,17 +146,17 @@ fn subtable_of(alloc: Global, cmap: &[u8], pairs: &[Mapping], origins: &[usize])
     ensures memory { IfErr result (λ e. e ≡ errors.Memory) }
 {
     let chars = chars_of(alloc, pairs)?;
-    match within(cmap, &chars) {
+    match find_within(cmap, &chars) {
         Some(sequences) => {
             let glyphs = narrow(alloc, origins)?;
-            kept(alloc, &sequences, &chars, &glyphs)
+            kept_subtable(alloc, &sequences, &chars, &glyphs)
         }
         None => Ok(Vec::new(alloc)),
     }
 }
 
 /// Adds a subtable to a written `cmap` table, if it has room for a record.
-fn added(alloc: Global, plain: Vec<u8>, subtable: &[u8]) -> Result<Vec<u8>>
+fn add_subtable(alloc: Global, plain: Vec<u8>, subtable: &[u8]) -> Result<Vec<u8>>
     requires closed { AreClosed plain.items }
     requires format { 21 ≤ length subtable.now → number_at subtable.now 0 2 ≡ 14 }
     ensures added { IfOk result (λ cmap. IsAdded plain.items subtable.now cmap.items) }
@@ -190,5 +195,5 @@ pub(crate) fn with_kept(
     ensures memory { IfErr result (λ e. e ≡ errors.Memory) }
 {
     let subtable = subtable_of(alloc, old, pairs, glyphs)?;
-    added(alloc, plain, &subtable)
+    add_subtable(alloc, plain, &subtable)
 }

@@ -17,11 +17,11 @@ ghost use Rattle.postscript_files.specs.Renumbered.{ArePlaced};
 ghost use Rattle.postscript_files.specs.Subsets.{IsCopied, IsGivenTag, IsSubsetFile, IsSubsetFont, IsSubsetOf, NoSubsetBy, NoSubsetFrom, NoSubsetOf};
 ghost use Rattle.postscript_files.specs.declared.error.Error.TheVariants as errors;
 
-use crate::choice::{Choice, Given, kept_pairs, named, refuse_missing};
+use crate::choice::{Choice, Given, glyphs_of_choice, kept_pairs, refuse_missing};
 use crate::error::{Error, Result};
 use crate::face::Face;
 use crate::metrics::metrics;
-use crate::numbers::{numbers_of, renumbered, spread};
+use crate::numbers::{numbers_of, spread, with_new_numbers};
 use crate::sequences::with_kept;
 use crate::tables::{file_with, table_of};
 use postscript_sfnt::FontFile;
@@ -94,7 +94,7 @@ pub(crate) fn origins_of(
     if retain_gids {
         every(alloc, cff)
     } else {
-        kept(alloc, cff, named, limit)
+        kept_glyphs_of(alloc, cff, named, limit)
     }
 }
 
@@ -121,7 +121,12 @@ fn origins_by(
 }
 
 /// Returns the kept glyphs, each at its new number, with `.notdef` between them. `count` is the number of new glyphs.
-fn placed(alloc: Global, kept: Vec<usize>, count: usize, retain_gids: bool) -> Result<Vec<usize>>
+fn glyphs_in_order(
+    alloc: Global,
+    kept: Vec<usize>,
+    count: usize,
+    retain_gids: bool,
+) -> Result<Vec<usize>>
     ensures placed { IfOk result (λ glyphs. ArePlaced retain_gids kept.items count glyphs.items) }
     ensures memory { IfErr result (λ e. e ≡ errors.Memory) }
 {
@@ -133,7 +138,12 @@ fn placed(alloc: Global, kept: Vec<usize>, count: usize, retain_gids: bool) -> R
 }
 
 /// Returns the glyphs that are kept.
-fn kept(alloc: Global, cff: &[u8], named: &[usize], limit: Option<u64>) -> Result<Vec<usize>>
+fn kept_glyphs_of(
+    alloc: Global,
+    cff: &[u8],
+    named: &[usize],
+    limit: Option<u64>,
+) -> Result<Vec<usize>>
     ensures are { IfOk result (λ origins. AreOrigins false named.now cff.now origins.items) }
     ensures refused { IfErr result (λ e. (fault : Refusal) × (e ≡ errors.Font fault)
         × (IsChoiceRefusedBy named.now cff.now fault ⊎ StopsIn cff.now named.now limit fault)) }
@@ -166,7 +176,7 @@ fn plain_map_of(alloc: Global, pairs: &[Mapping], origins: &[usize]) -> Result<V
     ensures memory { IfErr result (λ e. e ≡ errors.Memory) }
 {
     let numbers = numbers_of(alloc, origins)?;
-    let all = renumbered(alloc, pairs, &numbers)?;
+    let all = with_new_numbers(alloc, pairs, &numbers)?;
     match cmap(alloc, &all) {
         Ok(cmap) => Ok(cmap),
         // The characters are in ascending order, and there are at most 1,114,112.
@@ -343,7 +353,7 @@ fn made_tables<'t>(alloc: Global, cff: &'t [u8], made: &'t Made) -> Result<Vec<T
 }
 
 /// Writes the file of the tables that are made, given and copied.
-fn written(
+fn write_file(
     alloc: Global,
     face: &Face<'_>,
     choice: &Choice<'_>,
@@ -379,13 +389,13 @@ fn subset_of(alloc: Global, face: &Face<'_>, choice: &Choice<'_>) -> Result<Vec<
     ensures refused { IfErr result (λ e. NoSubsetFrom choice.now face.now e) }
 {
     let pairs = kept_pairs(alloc, &face.map, choice)?;
-    let named = named(alloc, choice, &pairs)?;
+    let named = glyphs_of_choice(alloc, choice, &pairs)?;
     let cut = cut_of(alloc, face.cff, &named, choice.retain_gids, choice.limit)?;
     let FontSubset { font, kept } = cut;
     let origins = origins_by(alloc, face.cff, &named, &kept, choice.retain_gids)?;
-    let placed = placed(alloc, kept, origins.len(), choice.retain_gids)?;
+    let placed = glyphs_in_order(alloc, kept, origins.len(), choice.retain_gids)?;
     let made = made_of(alloc, face, &pairs, &origins, &placed)?;
-    written(alloc, face, choice, &font, &made)
+    write_file(alloc, face, choice, &font, &made)
 }
 
 /// Writes a file with only some characters and glyphs of a face, desubroutinized.
@@ -420,7 +430,7 @@ pub fn subset_file(
 ) -> Result<Vec<u8>>
     // The new file is sound and opens, and has exactly the kept characters, glyphs and tables.
     ensures subset { IfOk result (λ new. IsSubsetOf choice.now file.now number new.items) }
-    // An error is justified by the file, the face, a missing character, the font, a repeated tag, or the sizes of the tables.
+    // The file, the face, a character, the font, a repeated tag or the sizes justify the error.
     ensures refused { IfErr result (λ e. NoSubsetOf choice.now file.now number e) }
 {
     let face = Face::open(file, number)?;
@@ -436,7 +446,7 @@ impl Face<'_> {
     pub fn subset(&self, alloc: Global, choice: &Choice<'_>) -> Result<Vec<u8>>
         // The new file is sound and opens, and has exactly the kept characters, glyphs and tables.
         ensures subset { IfOk result (λ new. IsSubsetFile choice.now self.now new.items) }
-        // An error is justified by a missing character, the font, a truncated table, a repeated tag, or the sizes of the tables.
+        // A character, the font, a truncated table, a repeated tag or the sizes justify the error.
         ensures refused { IfErr result (λ e. NoSubsetBy choice.now self.now e) }
     {
         if self.hhea.len() < 36 {

@@ -33,7 +33,7 @@ fn twice(tables: &[Table<'_>]) -> Option<u32>
 }
 
 /// Writes a file of tables whose tags are in ascending order.
-fn written(alloc: Global, tables: &[Table<'_>]) -> Result<Vec<u8>>
+fn write_sorted(alloc: Global, tables: &[Table<'_>]) -> Result<Vec<u8>>
     requires { TagsRise tables.now }
     ensures opens { IfOk result (λ file. Opens file.items (length tables.now)) }
     ensures lent { IfOk result (λ file. AreLent file.items tables.now) }
@@ -59,6 +59,6 @@ pub(crate) fn file_with(alloc: Global, tables: &[Table<'_>]) -> Result<Vec<u8>>
     sorted.sort_by_key(|table: &Table<'_>| table.tag)?;
     match twice(sorted.as_slice()) {
         Some(tag) => Err(Error::SameTag(tag)),
-        None => written(alloc, sorted.as_slice()),
+        None => write_sorted(alloc, sorted.as_slice()),
     }
 }

@@ -22,7 +22,7 @@ pub struct AdvancesAt<'l> {
 
 impl<'l> AdvancesAt<'l> {
     /// The variation of the advance width of a glyph.
-    fn added(&self, glyph: usize) -> i64
+    fn variation_of(&self, glyph: usize) -> i64
         ensures { IsAdded self.now.variations glyph self.now.coordinates.now result }
     {
         match self.variations {
@@ -42,7 +42,7 @@ impl<'l> AdvancesAt<'l> {
         // The result is the advance in `hmtx` plus the rounded variation of the glyph, if any.
         ensures { IsAdvanceAt self.now glyph result }
     {
-        let added = self.added(usize::from(glyph));
+        let added = self.variation_of(usize::from(glyph));
         i128::from(self.default.of(glyph)) + i128::from(added)
     }
 

@@ -18,7 +18,7 @@ pub(crate) struct Step {
 }
 
 /// The step of an operand along an axis.
-pub(crate) fn along(axis: Axis, operand: Operand) -> Step
+pub(crate) fn step_along(axis: Axis, operand: Operand) -> Step
     ensures { result ≡ so_far axis operand }
 {
     Step {
@@ -34,7 +34,7 @@ fn put_in_turn(out: &mut Vec<Step>, axis: Axis, operands: &[Operand]) -> Result<
 {
     let mut axis = axis;
     for operand in operands {
-        out.push(along(axis, *operand))?;
+        out.push(step_along(axis, *operand))?;
         axis = axis.other();
     }
     Ok(())
@@ -77,16 +77,16 @@ fn put_bows(out: &mut Vec<Step>, begin: Axis, end: Axis, operands: &[Operand]) -
     let mut ahead = operands;
     while let Some(bow) = four(ahead) {
         out.extend_from_slice(&[
-            along(begin, bow.begin),
-            along(Axis::Horizontal, bow.dx),
-            along(Axis::Vertical, bow.dy),
-            along(end, bow.end),
+            step_along(begin, bow.begin),
+            step_along(Axis::Horizontal, bow.dx),
+            step_along(Axis::Vertical, bow.dy),
+            step_along(end, bow.end),
         ])?;
         (begin, end) = (end, begin);
         ahead = bow.rest;
     }
     if let [de] = ahead {
-        out.push(along(end, *de))?;
+        out.push(step_along(end, *de))?;
     }
     Ok(())
 }
@@ -99,7 +99,7 @@ fn put_level(out: &mut Vec<Step>, axis: Axis, operands: &[Operand]) -> Result<()
 {
     match operands {
         [first, rest @ ..] if rest.len() % 2 == 0 => {
-            out.push(along(axis.other(), *first))?;
+            out.push(step_along(axis.other(), *first))?;
             put_bows(out, axis, axis, rest)
         }
         _ => put_bows(out, axis, axis, operands),

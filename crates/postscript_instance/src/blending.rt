@@ -6,7 +6,7 @@ ghost use Rattle.postscript_variable.specs.Blending.{scaled as the_scaled, sum_o
 use postscript_type2::Operand;
 
 /// A delta times the scalar of its region, rounded to the nearest number, and away from zero if it is halfway.
-fn scaled(delta: i32, scalar: u32) -> i64
+fn scale_delta(delta: i32, scalar: u32) -> i64
     ensures value { result ≡ the_scaled delta scalar }
     ensures room { unsigned_abs result < 2 ^ 48 }
 {
@@ -22,7 +22,7 @@ fn total(default: Operand, deltas: &[Operand], scalars: &[u32]) -> i128
 {
     let mut sum = i128::from(default.bits());
     for i in 0..scalars.len() {
-        sum += i128::from(scaled(deltas[i].bits(), scalars[i]));
+        sum += i128::from(scale_delta(deltas[i].bits(), scalars[i]));
     }
     sum
 }

@@ -147,7 +147,7 @@ fn dictionaries(alloc: Global, privates: &[Vec<u8>], place: usize) -> Result<Vec
 }
 
 /// Private DICTs one after the other.
-fn joined(alloc: Global, privates: &[Vec<u8>]) -> Result<Vec<u8>>
+fn join_privates(alloc: Global, privates: &[Vec<u8>]) -> Result<Vec<u8>>
     ensures text { IfOk result (λ out. out.items ≡ concat (texts privates.now)) }
     ensures memory { IfErr result (λ e. IsMemory e) }
 {
@@ -291,7 +291,7 @@ pub(crate) fn laid_out_by_numbers(
     let set = keyed_set(alloc, codes.len())?;
     let select = select(alloc, font, codes.len())?;
     let char_strings = char_strings_of(alloc, codes)?;
-    let private = joined(alloc, privates)?;
+    let private = join_privates(alloc, privates)?;
     let start = keyed_head(alloc, name, matrix, codes.len(), Places::NONE)?.len();
     let places = keyed_places(start, &set, &select, &char_strings, &private);
     let array = dictionaries(alloc, privates, places.private)?;

@@ -10,7 +10,7 @@ ghost use Rattle.postscript_instance.specs.Whole.{AreShortened, IsDict, IsMatrix
 
 use crate::error::Result;
 use crate::parts::operation_in;
-use crate::privates::{between, is_among};
+use crate::privates::{bytes_between, is_among};
 use crate::reals::put_real;
 use postscript_base::compact1::Operator;
 use postscript_base::index::number::number_at;
@@ -34,7 +34,7 @@ fn put_operand(
         × ((rest : List ℕ) → AreShortened operands.now end rest → AreShortened operands.now place (more ++ rest))) }
     ensures memory { IfErr result (λ e. IsMemory e) }
 {
-    let operand = between(operands, place, end);
+    let operand = bytes_between(operands, place, end);
     if number_at(operands, place, 1) == 30 {
         put_real(alloc, out, operand)?;
         return Ok(());
@@ -44,7 +44,7 @@ fn put_operand(
 }
 
 /// The operands of a DICT, with at most 18 significant digits in each real.
-fn shortened(alloc: Global, operands: &[u8]) -> Result<Vec<u8>>
+fn shorten_operands(alloc: Global, operands: &[u8]) -> Result<Vec<u8>>
     ensures are { IfOk result (λ text. AreShortened operands.now 0 text.items) }
     ensures memory { IfErr result (λ e. IsMemory e) }
 {
@@ -93,11 +93,11 @@ pub(crate) fn matrix_text(alloc: Global, font: &Font<'_>) -> Result<Vec<u8>>
     let Some(entry) = font.dictionary.last(FONT_MATRIX) else {
         return Ok(Vec::new(alloc));
     };
-    let operands = between(font.dictionary.bytes, entry.start, entry.place);
+    let operands = bytes_between(font.dictionary.bytes, entry.start, entry.place);
     if let Some(text) = matrix_with(alloc, operands)? {
         return Ok(text);
     }
-    let shortened = shortened(alloc, operands)?;
+    let shortened = shorten_operands(alloc, operands)?;
     match matrix_with(alloc, &shortened)? {
         Some(text) => Ok(text),
         None => Ok(Vec::new(alloc)),

@@ -182,7 +182,7 @@ impl Identifiers {
     }
 
     /// The SIDs of names.
-    pub(crate) fn of(alloc: Global, names: &[&[u8]]) -> Result<Identifiers>
+    pub(crate) fn of_names(alloc: Global, names: &[&[u8]]) -> Result<Identifiers>
         requires { length names.now ≤ 64609 }
         ensures are { IfOk result (λ identifiers. AreCustom names.now (texts identifiers.strings.items)) }
         ensures identified { IfOk result (λ identifiers.

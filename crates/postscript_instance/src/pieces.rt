@@ -69,7 +69,7 @@ fn first_count(operator: Operator, count: usize) -> usize
 
 impl<'l> Piece<'l> {
     /// A whole operation.
-    pub(crate) fn of(saying: &'l Saying<'_>) -> Piece<'l>
+    pub(crate) fn whole_operation(saying: &'l Saying<'_>) -> Piece<'l>
         ensures { said_by result ≡ said_of saying.now }
     {
         Piece {

@@ -72,8 +72,8 @@ impl Number {
         ensures memory { IfErr result (λ e. IsMemory e) }
     {
         match self {
-            Number::Whole(_, from, to) => out.extend_from_slice(between(bytes, from, to))?,
-            Number::Real(from, to) => put_real(alloc, out, between(bytes, from, to))?,
+            Number::Whole(_, from, to) => out.extend_from_slice(bytes_between(bytes, from, to))?,
+            Number::Real(from, to) => put_real(alloc, out, bytes_between(bytes, from, to))?,
             Number::Blended(_) | Number::Unknown => {}
         }
         Ok(())
@@ -81,7 +81,7 @@ impl Number {
 }
 
 /// The bytes from one offset to another, up to the end.
-pub(crate) fn between(bytes: &[u8], from: usize, to: usize) -> &[u8]
+pub(crate) fn bytes_between(bytes: &[u8], from: usize, to: usize) -> &[u8]
     ensures { result.now ≡ slice_range bytes.now from to }
 {
     let end = to.min(bytes.len());
@@ -171,7 +171,7 @@ fn are_encoded(numbers: &[Number]) -> bool
 }
 
 /// The operands as they are in the DICT, with at most 18 significant digits in each real.
-fn encoded(alloc: Global, bytes: &[u8], numbers: &[Number]) -> Result<Vec<u8>>
+fn encode_operands(alloc: Global, bytes: &[u8], numbers: &[Number]) -> Result<Vec<u8>>
     ensures text { IfOk result (λ text. text.items ≡ flat_map (text_of bytes.now) numbers.now) }
     ensures memory { IfErr result (λ e. IsMemory e) }
 {
@@ -222,7 +222,7 @@ fn operands_of(alloc: Global, bytes: &[u8], numbers: &[Number]) -> Result<Option
     ensures memory { IfErr result (λ e. IsMemory e) }
 {
     if are_encoded(numbers) {
-        let text = encoded(alloc, bytes, numbers)?;
+        let text = encode_operands(alloc, bytes, numbers)?;
         return Ok(Some(text));
     }
     match all_bits(alloc, numbers)? {
@@ -264,7 +264,12 @@ fn put_hint(
 }
 
 /// A default with its deltas, each times the scalar of its region.
-fn blended(alloc: Global, default: Number, deltas: &[Number], scalars: &[u32]) -> Result<Number>
+fn blend_number(
+    alloc: Global,
+    default: Number,
+    deltas: &[Number],
+    scalars: &[u32],
+) -> Result<Number>
     requires { length deltas.now ≡ length scalars.now }
     ensures number { IfOk result (λ number. number ≡ the_blended default deltas.now scalars.now) }
     ensures memory { IfErr result (λ e. IsMemory e) }
@@ -296,7 +301,7 @@ fn blended_each(
     let mut rest = deltas;
     for default in defaults {
         let (mine, behind) = rest.split_at(scalars.len());
-        numbers.push(blended(alloc, *default, mine, scalars)?)?;
+        numbers.push(blend_number(alloc, *default, mine, scalars)?)?;
         rest = behind;
     }
     Ok(numbers)
@@ -349,7 +354,7 @@ fn blend(alloc: Global, numbers: &mut Vec<Number>, scalars: &[u32]) -> Result<()
 }
 
 /// The item variation data that `vsindex` chooses.
-fn chosen(index: usize, numbers: &[Number]) -> usize
+fn chosen_data(index: usize, numbers: &[Number]) -> usize
     ensures { result ≡ the_chosen index numbers.now }
 {
     match numbers {
@@ -392,7 +397,7 @@ fn act(
         return Ok(());
     }
     if is_operator(operator, VS_INDEX) {
-        state.index = chosen(state.index, &state.numbers);
+        state.index = chosen_data(state.index, &state.numbers);
         state.numbers.truncate(0);
         return Ok(());
     }

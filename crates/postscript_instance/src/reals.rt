@@ -35,7 +35,7 @@ struct Digits {
 impl Digits {
     /// The nibble to write for a nibble of the real. A digit after the last significant one becomes 0 before the point,
     /// and is left out after it.
-    fn kept(&mut self, nibble: u8) -> Option<u8>
+    fn kept_nibble(&mut self, nibble: u8) -> Option<u8>
         requires { nibble ≢ 15 }
         ensures { (rest : List ℕ) → cut self.old.count self.old.is_fraction self.old.is_exponent (nibble ∷ rest)
             ≡ one_or_none result ++ cut self.new.count self.new.is_fraction self.new.is_exponent rest }
@@ -66,7 +66,7 @@ fn nibbles_of(alloc: Global, bytes: &[u8]) -> Result<Vec<u8>>
 }
 
 /// The nibbles of a real up to its end, with at most 18 significant digits.
-fn shortened(alloc: Global, nibbles: &[u8]) -> Result<Vec<u8>>
+fn shorten_real(alloc: Global, nibbles: &[u8]) -> Result<Vec<u8>>
     ensures are { IfOk result (λ kept. kept.items ≡ cut 0 false false nibbles.now) }
     ensures memory { IfErr result (λ e. IsMemory e) }
 {
@@ -80,7 +80,7 @@ fn shortened(alloc: Global, nibbles: &[u8]) -> Result<Vec<u8>>
         if *nibble == END {
             return Ok(kept);
         }
-        if let Some(nibble) = digits.kept(*nibble) {
+        if let Some(nibble) = digits.kept_nibble(*nibble) {
             kept.push(nibble)?;
         }
     }
@@ -125,7 +125,7 @@ pub(crate) fn put_real(alloc: Global, out: &mut Vec<u8>, real: &[u8]) -> Result<
     ensures memory { IfErr result (λ e. IsMemory e) }
 {
     let nibbles = nibbles_of(alloc, digits_of(real))?;
-    let kept = shortened(alloc, &nibbles)?;
+    let kept = shorten_real(alloc, &nibbles)?;
     out.push(REAL)?;
     put_nibbles(out, &kept)
 }

@@ -6,7 +6,7 @@ use crate::naming::Naming;
 use postscript_cff2::Font;
 
 /// The sum of two sizes, if it is below 2,000,000,000 bytes.
-fn added(sum: usize, more: usize) -> Option<usize>
+fn sum_within(sum: usize, more: usize) -> Option<usize>
     requires { sum < 2000000000 }
     ensures some { IfSome result (λ all. (all ≡ sum + more) × (all < 2000000000)) }
     ensures none { IfNone result (2000000000 ≤ sum + more) }
@@ -26,7 +26,7 @@ fn with_names(sum: usize, names: &[&[u8]]) -> Option<usize>
 {
     let mut all = sum;
     for i in 0..names.len() {
-        all = added(all, names[i].len())?;
+        all = sum_within(all, names[i].len())?;
     }
     Some(all)
 }
@@ -51,13 +51,13 @@ fn with_codes(sum: usize, codes: &[Vec<u8>]) -> Option<usize>
 {
     let mut all = sum;
     for i in 0..codes.len() {
-        all = added(all, codes[i].len())?;
+        all = sum_within(all, codes[i].len())?;
     }
     Some(all)
 }
 
 /// The size of names, charstrings, Private DICTs and FontMatrix, if it is below 2,000,000,000 bytes.
-fn counted(
+fn size_of_table(
     naming: &Naming<'_>,
     codes: &[Vec<u8>],
     privates: &[Vec<u8>],
@@ -69,11 +69,11 @@ fn counted(
         + codes_size privates.now + length matrix.now) }
     ensures few { IfSome result (λ all. all < 2000000000) }
 {
-    let font = added(0, naming.font.len())?;
+    let font = sum_within(0, naming.font.len())?;
     let names = with_glyphs(font, naming)?;
     let charstrings = with_codes(names, codes)?;
     let dictionaries = with_codes(charstrings, privates)?;
-    added(dictionaries, matrix.len())
+    sum_within(dictionaries, matrix.len())
 }
 
 /// Whether there are more names than SIDs, or more Font DICTs than FDSelect can number.
@@ -99,5 +99,5 @@ pub(crate) fn is_too_large(
 {
     codes.len() > 0xffff
         || is_crowded(font, naming)
-        || counted(naming, codes, privates, matrix).is_none()
+        || size_of_table(naming, codes, privates, matrix).is_none()
 }

@@ -7,7 +7,7 @@ ghost use Rattle.postscript_instance.specs.Private.{IsFar, rounded_edges};
 ghost use Rattle.postscript_instance.specs.Nearest.{nearest as the_nearest, rounded};
 ghost use Rattle.postscript_type2.specs.Program.StackRules.{IsHeld};
 
-use crate::axes::{Step, along};
+use crate::axes::{Step, step_along};
 use crate::error::{Error, Result};
 use postscript_drawing::Axis;
 use postscript_outline::Point;
@@ -51,7 +51,7 @@ fn rounded_step(from: i32, distance: i64) -> Option<(Operand, i32)>
 }
 
 /// A step in whole units, and the point after it. `None` if something is out of range.
-fn stepped(from: Point, step: Step) -> Option<(Operand, Point)>
+fn round_step(from: Point, step: Step) -> Option<(Operand, Point)>
     ensures { let here = at step.axis from in
         MatchOption result (¬ IsStep here step.distance)
         (λ r. (r.0 ≡ rounded here step.distance) × (r.1 ≡ moved step.axis from step.distance) × IsStep here step.distance) }
@@ -69,7 +69,11 @@ fn stepped(from: Point, step: Step) -> Option<(Operand, Point)>
 }
 
 /// Steps in whole units from a point on, and the point after them. The errors are `TooFar` and `Font` with `Memory`.
-pub(crate) fn walked(alloc: Global, from: Point, steps: &[Step]) -> Result<(Vec<Operand>, Point)>
+pub(crate) fn round_steps(
+    alloc: Global,
+    from: Point,
+    steps: &[Step],
+) -> Result<(Vec<Operand>, Point)>
     ensures ok { IfOk result (λ r. (r.0.items ≡ rounded_steps from steps.now) × (r.1 ≡ behind_steps from steps.now)) }
     ensures near { OnOk result (AreSteps from steps.now) }
     ensures far { IfErr result (λ e. IsFar (¬ AreSteps from steps.now) e) }
@@ -77,7 +81,7 @@ pub(crate) fn walked(alloc: Global, from: Point, steps: &[Step]) -> Result<(Vec<
     let mut operands = Vec::with_capacity(alloc, steps.len())?;
     let mut place = from;
     for step in steps {
-        let Some((operand, to)) = stepped(place, *step) else {
+        let Some((operand, to)) = round_step(place, *step) else {
             return Err(Error::TooFar);
         };
         operands.push(operand)?;
@@ -97,7 +101,7 @@ pub(crate) fn edges(alloc: Global, operands: &[Operand]) -> Result<Vec<Operand>>
     // one axis is as good as the other
     let mut place = Point::ORIGIN;
     for operand in operands {
-        let Some((edge, to)) = stepped(place, along(Axis::Horizontal, *operand)) else {
+        let Some((edge, to)) = round_step(place, step_along(Axis::Horizontal, *operand)) else {
             return Err(Error::TooFar);
         };
         edges.push(edge)?;

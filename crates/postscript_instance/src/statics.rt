@@ -4,7 +4,7 @@ ghost use Rattle.postscript_instance.specs.Refusals.{NotWritten};
 ghost use Rattle.postscript_instance.specs.Statics.{IsStaticOf};
 
 use crate::error::Result;
-use crate::texts::written;
+use crate::texts::write_charstring;
 use postscript_type2::Operand;
 use postscript_variable::Charstring;
 use std::alloc::Global;
@@ -35,6 +35,6 @@ pub fn charstring(
     ensures refused { IfErr result (λ e. NotWritten charstring.entry width e) }
 {
     let sayings = charstring.sayings(alloc)?;
-    let code = written(alloc, width, &sayings)?;
+    let code = write_charstring(alloc, width, &sayings)?;
     Ok(code)
 }

@@ -95,7 +95,7 @@ fn codes_of(
 
 /// Checks that there are no names, or one for each glyph of a font with one Font DICT. The errors are `OtherNames` and
 /// `NotOneDictionary`.
-fn counted(font: &Font<'_>, naming: &Naming<'_>) -> Result<()>
+fn check_names(font: &Font<'_>, naming: &Naming<'_>) -> Result<()>
     ensures counted { OnOk result (IsCounted font.now naming.now (length (varying_shown font.now).char_strings)) }
     ensures refused { IfErr result (λ e. IsMiscounted font.now naming.now e) }
 {
@@ -123,7 +123,7 @@ fn widths_of(
     ensures counted { OnOk result (IsCounted font.now naming.now (length (varying_shown font.now).char_strings)) }
     ensures refused { IfErr result (λ e. LacksWidths font.now naming.now advances.now e) }
 {
-    counted(font, naming)?;
+    check_names(font, naming)?;
     advances.operands(alloc, font.char_strings.len())
 }
 
@@ -147,7 +147,7 @@ fn laid_out(
 {
     match naming.glyphs {
         Some(names) => {
-            let identifiers = Identifiers::of(alloc, names)?;
+            let identifiers = Identifiers::of_names(alloc, names)?;
             laid_out_by_names(
                 alloc,
                 naming.font,

@@ -97,7 +97,7 @@ fn has_room(width: Option<Operand>, saying: &Saying<'_>) -> bool
 
 /// Checks that each operator that cannot be split has few enough numbers before it. The only error is
 /// `TooManyOperands`.
-fn counted(width: &Option<Operand>, sayings: &[Saying<'_>]) -> Result<()>
+fn check_operands(width: &Option<Operand>, sayings: &[Saying<'_>]) -> Result<()>
     ensures fits { OnOk result (AreHeldOrCut width.now (map said_of sayings.now)) }
     ensures refused { IfErr result (λ e. (e ≡ errors.TooManyOperands) × HasMoreUncut width.now (map said_of sayings.now)) }
 {
@@ -112,7 +112,7 @@ fn counted(width: &Option<Operand>, sayings: &[Saying<'_>]) -> Result<()>
 }
 
 /// Checks that the first operator may have the width before its operands. The only error is `NoMove`.
-fn begun(width: &Option<Operand>, sayings: &[Saying<'_>]) -> Result<()>
+fn check_first(width: &Option<Operand>, sayings: &[Saying<'_>]) -> Result<()>
     ensures bears { OnOk result (BearsWidth width.now (map said_of sayings.now)) }
     ensures refused { IfErr result (λ e. (e ≡ errors.NoMove) × LacksMove width.now (map said_of sayings.now)) }
 {
@@ -158,7 +158,7 @@ fn put_saying(out: &mut Vec<u8>, width: Option<Operand>, saying: &Saying<'_>) ->
     ensures err { IfErr result (λ e. e ≡ errors.Font causes.Memory) }
 {
     let mut width = width;
-    let mut rest = Piece::of(saying);
+    let mut rest = Piece::whole_operation(saying);
     while let Some((first, behind)) = rest.cut() {
         put_piece(out, width, first)?;
         width = None;
@@ -184,7 +184,7 @@ fn put_sayings(out: &mut Vec<u8>, width: Option<Operand>, sayings: &[Saying<'_>]
 
 /// The operations as a Type 2 charstring, with a width before the first operator. The errors are `NoMove`,
 /// `TooManyOperands`, and `Font` with `Memory`.
-pub(crate) fn written(
+pub(crate) fn write_charstring(
     alloc: Global,
     width: Option<Operand>,
     sayings: &[Saying<'_>],
@@ -194,8 +194,8 @@ pub(crate) fn written(
     ensures bears { OnOk result (BearsWidth width (map said_of sayings.now)) }
     ensures refused { IfErr result (λ e. IsUnwritten width (map said_of sayings.now) e) }
 {
-    begun(&width, sayings)?;
-    counted(&width, sayings)?;
+    check_first(&width, sayings)?;
+    check_operands(&width, sayings)?;
     let mut code = Vec::new(alloc);
     put_sayings(&mut code, width, sayings)?;
     Ok(code)

@@ -11,8 +11,8 @@ ghost use Rattle.postscript_variable.specs.Told.{said_of};
 
 use crate::axes::steps_of;
 use crate::error::{Error, Result};
-use crate::rounding::{edges, walked};
-use crate::texts::written;
+use crate::rounding::{edges, round_steps};
+use crate::texts::write_charstring;
 use postscript_cff2::Font;
 use postscript_outline::Point;
 use postscript_type2::{Operand, Operator};
@@ -73,7 +73,7 @@ fn in_whole_units<'l>(
     ensures far { IfErr result (λ e. IsFar (¬ IsNear place (said_of saying.now)) e) }
 {
     let steps = steps_of(alloc, saying.operator, &saying.operands)?;
-    let (mut operands, behind) = walked(alloc, place, &steps)?;
+    let (mut operands, behind) = round_steps(alloc, place, &steps)?;
     if is_hint(saying.operator) {
         operands = edges(alloc, &saying.operands)?;
     } else {
@@ -130,7 +130,7 @@ pub fn rounded(alloc: Global, charstring: Charstring<'_>, width: Option<Operand>
 {
     let sayings = charstring.sayings(alloc)?;
     let whole = all_in_whole_units(alloc, &sayings)?;
-    let code = written(alloc, width, &whole)?;
+    let code = write_charstring(alloc, width, &whole)?;
     Ok(code)
 }
 

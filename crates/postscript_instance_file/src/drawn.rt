@@ -293,7 +293,7 @@ impl Drawn {
 
     /// Draws and measures each glyph at a location, with rounded points if `is_rounded` is true. It fails at the first
     /// glyph whose advance a charstring cannot hold, and then at the first glyph with an error.
-    pub(crate) fn of<W: Watch>(
+    pub(crate) fn draw_all<W: Watch>(
         alloc: Global,
         face: &VariableFace<'_>,
         location: &Location,

@@ -51,7 +51,7 @@ pub(crate) fn read_as<T>(name: &'static str, read: postscript_variation::Result<
 }
 
 /// Returns a required table.
-fn needed<'l>(file: &FontFile<'l>, tag: [u8; 4], name: &'static str) -> Result<&'l [u8]>
+fn required_table<'l>(file: &FontFile<'l>, tag: [u8; 4], name: &'static str) -> Result<&'l [u8]>
     requires { IsNeeded name.now (big_endian tag) }
     ensures found { IfOk result (λ table. IsTableOf file.now (big_endian tag) table.now) }
     ensures why { IfErr result (λ e. IsUnopened file.now e) }
@@ -67,8 +67,8 @@ fn advances_of<'l>(file: &FontFile<'l>) -> Result<Advances<'l>>
     ensures found { IfOk result (λ advances. HasAdvances file.now advances) }
     ensures why { IfErr result (λ e. IsUnopened file.now e) }
 {
-    let hhea = needed(file, *b"hhea", "hhea")?;
-    let hmtx = needed(file, *b"hmtx", "hmtx")?;
+    let hhea = required_table(file, *b"hhea", "hhea")?;
+    let hmtx = required_table(file, *b"hmtx", "hmtx")?;
     match Advances::read(hhea, hmtx) {
         Some(advances) => Ok(advances),
         None => Err(Error::Cut("hmtx")),
@@ -79,7 +79,7 @@ fn advances_of<'l>(file: &FontFile<'l>) -> Result<Advances<'l>>
 fn glyphs_of(file: &FontFile<'_>) -> Result<u16>
     ensures { IfErr result (λ e. IsUnopened file.now e) }
 {
-    match glyphs(needed(file, *b"maxp", "maxp")?) {
+    match glyphs(required_table(file, *b"maxp", "maxp")?) {
         Some(glyphs) => Ok(glyphs),
         None => Err(Error::Cut("maxp")),
     }

@@ -37,7 +37,7 @@ fn places_of(alloc: Global, bytes: &[Byte]) -> Result<Vec<u32>, AllocError> {
 }
 
 /// Returns an offset from a base, adjusted to the new offsets. An offset out of the table is unchanged, and so is 0.
-fn moved(places: &[u32], base: u32, offset: u32) -> u32 {
+fn new_offset(places: &[u32], base: u32, offset: u32) -> u32 {
     let target = base.saturating_add(offset) as usize;
     match (places.get(base as usize), places.get(target)) {
         (Some(from), Some(to)) if offset != 0 => to.saturating_sub(*from),
@@ -94,13 +94,13 @@ impl Gaps {
             match self.bytes[place] {
                 Byte::Kept | Byte::Gone => {}
                 Byte::Offset(base) => {
-                    let offset = moved(places, base, u32::from(word(table, place)));
+                    let offset = new_offset(places, base, u32::from(word(table, place)));
                     set_word(table, place, u16::try_from(offset).unwrap_or(0));
                 }
                 Byte::LongOffset(base) => {
                     let high = u32::from(word(table, place));
                     let low = u32::from(word(table, place.saturating_add(2)));
-                    let offset = moved(places, base, high * 65536 + low);
+                    let offset = new_offset(places, base, high * 65536 + low);
                     set_word(table, place, (offset / 65536) as u16);
                     set_word(table, place.saturating_add(2), (offset % 65536) as u16);
                 }

@@ -81,7 +81,7 @@ fn width_of(drawn: &Drawn, glyph: usize) -> Option<Operand>
 }
 
 /// Returns the error of the first glyph that cannot be written.
-fn unwritten(
+fn first_fault(
     alloc: Global,
     face: &VariableFace<'_>,
     location: &Location,
@@ -117,7 +117,7 @@ fn error_of(
     ensures { NamesUnwritten is_rounded face.now location.now result ⊎ (result ≡ errors.Table error) }
 {
     match error {
-        Unwritten::TooManyOperands | Unwritten::NoMove | Unwritten::TooFar => match unwritten(
+        Unwritten::TooManyOperands | Unwritten::NoMove | Unwritten::TooFar => match first_fault(
             alloc, face, location, drawn, is_rounded,
         ) {
             Some(of_glyph) => of_glyph,
@@ -191,7 +191,7 @@ fn made_of(
 ) -> Result<Made, Error>
     ensures { IfErr result (λ e. NoTables face.now e) }
 {
-    let metrics = metrics::of(&face.file)?;
+    let metrics = metrics::metric_variations(&face.file)?;
     let mut made = Made::new(alloc);
     if let Err(unmade) = metrics::put(&mut made, alloc, face, location, drawn, style, metrics) {
         return Err(error_of_table(unmade));
@@ -231,7 +231,7 @@ fn file_with(alloc: Global, tables: &[Table<'_>]) -> Result<Vec<u8>, Error>
 }
 
 /// Returns the file of a `CFF ` table, the made tables and the copied ones.
-fn written(
+fn write_file(
     alloc: Global,
     face: &VariableFace<'_>,
     font: &[u8],
@@ -247,7 +247,7 @@ fn written(
 }
 
 /// Returns the static font of an instance with measured glyphs and a style.
-fn styled(
+fn font_in_style(
     alloc: Global,
     face: &VariableFace<'_>,
     location: &Location,
@@ -263,7 +263,7 @@ fn styled(
     let names = names_of(alloc, face)?;
     let font = font_of(alloc, face, location, drawn, style, &names, is_rounded)?;
     let made = made_of(alloc, face, location, drawn, style)?;
-    let file = written(alloc, face, &font, &made)?;
+    let file = write_file(alloc, face, &font, &made)?;
     Ok(StaticFont {
         file,
         lost_names: names.lost(),
@@ -304,11 +304,11 @@ pub fn static_font<W: Watch>(
     ensures why { IfErr result (λ e. IsUnmade is_rounded limit left.old face.now location.now e) }
 {
     let mut budget = Budget { limit, left: *left };
-    let drawn = Drawn::of(alloc, face, location, &mut budget, is_rounded, watch);
+    let drawn = Drawn::draw_all(alloc, face, location, &mut budget, is_rounded, watch);
     *left = budget.left;
     let drawn = drawn?;
     let style = Style::of(alloc, face, location)?;
-    let made = styled(alloc, face, location, &drawn, &style, is_rounded)?;
+    let made = font_in_style(alloc, face, location, &drawn, &style, is_rounded)?;
     Ok(made)
 }
 

@@ -52,7 +52,7 @@ fn has_no_store(file: &FontFile<'_>) -> bool {
 }
 
 /// Returns a table if it is copied.
-fn kept<'l>(file: &FontFile<'l>, tag: [u8; 4], condition: Where) -> Option<&'l [u8]> {
+fn copied_table<'l>(file: &FontFile<'l>, tag: [u8; 4], condition: Where) -> Option<&'l [u8]> {
     let table = file.table(tag)?;
     let stays = match condition {
         Where::Always => true,
@@ -69,7 +69,7 @@ fn kept<'l>(file: &FontFile<'l>, tag: [u8; 4], condition: Where) -> Option<&'l [
 /// Adds the tables that are copied.
 pub(crate) fn put<'l>(tables: &mut Vec<Table<'l>>, file: &FontFile<'l>) -> Result<(), AllocError> {
     for (tag, condition) in &SAME {
-        if let Some(bytes) = kept(file, *tag, *condition) {
+        if let Some(bytes) = copied_table(file, *tag, *condition) {
             let tag = u32::from_be_bytes(*tag);
             tables.push(Table { tag, bytes })?;
         }

@@ -1,14 +1,13 @@
 //! Locations in the design space.
-ghost use Rattle.std.specs.Prelude.{◌≡◌, IfErr, IfOk, slice_get};
+ghost use Rattle.std.specs.Prelude.{◌≡◌, IfErr, IfOk};
 ghost use Rattle.postscript_instance_file.specs.Faces.{AreNormalized, IsAt, value_along};
 ghost use Rattle.postscript_instance_file.specs.Refusals.{IsUnplaced, NoPlaceIn};
 ghost use Rattle.postscript_instance_file.specs.declared.error.Error.TheVariants as errors;
-ghost use Rattle.postscript_variation.specs.Asked.{asked as the_asked, chosen as the_chosen};
 
 use crate::error::Result;
 use crate::face::VariableFace;
 use postscript_variable_font::Place;
-use postscript_variation::{Axis, Setting};
+use postscript_variation::{Axis, Setting, value_of};
 use std::alloc::Global;
 
 /// A location of a variable font.
@@ -25,7 +24,11 @@ pub struct Location {
 }
 
 /// Returns the normalized coordinates of user coordinates, one for each axis.
-fn normalized(alloc: Global, face: &VariableFace<'_>, settings: &[Setting]) -> Result<Vec<i16>>
+fn normalized_coordinates(
+    alloc: Global,
+    face: &VariableFace<'_>,
+    settings: &[Setting],
+) -> Result<Vec<i16>>
     ensures found { IfOk result (λ all. AreNormalized face.now.axes face.now.maps settings.now all.items) }
     ensures memory { IfErr result (λ e. e ≡ errors.Memory) }
 {
@@ -49,34 +52,6 @@ fn scalars(
         Some(store) => Place::of(alloc, Some(store), coordinates),
         None => Place::of(alloc, None, coordinates),
     }
-}
-
-/// Returns the value of a setting if it has the tag, otherwise `value`.
-fn chosen(settings: &[Setting], k: usize, tag: u32, value: i32) -> i32
-    ensures { result ≡ the_chosen (slice_get settings.now k) tag value }
-{
-    match settings.get(k) {
-        Some(setting) => {
-            if setting.tag == tag {
-                setting.value
-            } else {
-                value
-            }
-        }
-        None => value,
-    }
-}
-
-/// Returns the value of the last setting with the tag of an axis, or the default of the axis.
-#[tactic(auto, using(postscript_variation::proofs::Asking::by_one_more))]
-fn asked(settings: &[Setting], axis: &Axis) -> i32
-    ensures { result ≡ the_asked settings.now axis.now.tag axis.now.default }
-{
-    let mut value = axis.default;
-    for k in 0..settings.len() {
-        value = chosen(settings, k, axis.tag, value);
-    }
-    value
 }
 
 impl Location {
@@ -104,7 +79,7 @@ impl Location {
         // An error is `Memory`, or the item variation store of the font lacks data.
         ensures why { IfErr result (λ e. IsUnplaced face.now e) }
     {
-        let coordinates = normalized(alloc, face, settings.as_slice())?;
+        let coordinates = normalized_coordinates(alloc, face, settings.as_slice())?;
         let place = scalars(alloc, face, coordinates.as_slice())?;
         Ok(Location {
             place,
@@ -120,7 +95,7 @@ impl Location {
         // The last value that was given with the tag of the axis, or its default, clamped to it.
         ensures { result ≡ value_along axis.now self.now.settings.items }
     {
-        let asked = asked(self.settings.as_slice(), axis);
+        let asked = value_of(self.settings.as_slice(), axis);
         asked.max(axis.minimum).min(axis.maximum)
     }
 }

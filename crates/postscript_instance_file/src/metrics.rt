@@ -97,7 +97,7 @@ impl<'m, 'l> Maker<'m, 'l> {
     }
 
     /// Returns a copy of a table with its varied numbers.
-    fn varied(&self, table: &[u8], entries: &[Entry]) -> Result<Vec<u8>, AllocError>
+    fn vary_table(&self, table: &[u8], entries: &[Entry]) -> Result<Vec<u8>, AllocError>
         ensures { IfOk result (λ new. length new.items ≡ length table.now) }
     {
         let mut new = Vec::from_slice(self.alloc, table)?;
@@ -112,7 +112,7 @@ impl<'m, 'l> Maker<'m, 'l> {
 
     /// Returns the `head` table, with the bounding box and the bold and italic bits.
     fn head(&self) -> Result<Vec<u8>, AllocError> {
-        let mut head = self.varied(self.old(*b"head"), &[])?;
+        let mut head = self.vary_table(self.old(*b"head"), &[])?;
         let frame = self.drawn.frame.unwrap_or(Frame::NONE);
         set_signed(&mut head, 36, frame.left);
         set_signed(&mut head, 38, frame.bottom);
@@ -132,7 +132,7 @@ impl<'m, 'l> Maker<'m, 'l> {
     fn hhea(&self) -> Result<Vec<u8>, Unmade>
         ensures { IfErr result (λ e. IsUnmadeBy self.now.face.now e) }
     {
-        let mut hhea = self.varied(self.old(*b"hhea"), &HHEA)?;
+        let mut hhea = self.vary_table(self.old(*b"hhea"), &HHEA)?;
         let frame = self.drawn.frame.unwrap_or(Frame::NONE);
         set_word(&mut hhea, 10, widest(&self.drawn.metrics));
         set_signed(&mut hhea, 12, frame.left);
@@ -143,7 +143,7 @@ impl<'m, 'l> Maker<'m, 'l> {
 
     /// Returns the `OS/2` table, with the weight, the width, and the bold, italic and regular bits.
     fn os2(&self, old: &[u8]) -> Result<Vec<u8>, AllocError> {
-        let mut table = self.varied(old, &OS2)?;
+        let mut table = self.vary_table(old, &OS2)?;
         if let Some(weight) = value_along(self.face, self.location, *b"wght") {
             let weight = weight.saturating_add(32768).div_euclid(65536);
             set_unsigned(&mut table, 4, weight.max(1).min(1000));
@@ -167,7 +167,7 @@ impl<'m, 'l> Maker<'m, 'l> {
             old if old.len() >= 32 => old,
             _ => &[0; 32],
         };
-        let mut post = self.varied(old, &POST)?;
+        let mut post = self.vary_table(old, &POST)?;
         if let Some(slant) = value_along(self.face, self.location, *b"slnt") {
             let slant = slant.max(-90 * 65536).min(90 * 65536);
             set_signed(&mut post, 4, slant.div_euclid(65536));
@@ -203,14 +203,16 @@ impl<'m, 'l> Maker<'m, 'l> {
             made.put(*b"OS/2", self.os2(table)?)?;
         }
         if let (Some(table), None) = (file.table(*b"vhea"), file.table(*b"VVAR")) {
-            made.put(*b"vhea", self.varied(table, &VHEA)?)?;
+            made.put(*b"vhea", self.vary_table(table, &VHEA)?)?;
         }
         Ok(())
     }
 }
 
 /// Returns the variations of the metrics of a face, if it has them.
-pub(crate) fn of<'l>(file: &FontFile<'l>) -> Result<Option<MetricVariations<'l>>, Error>
+pub(crate) fn metric_variations<'l>(
+    file: &FontFile<'l>,
+) -> Result<Option<MetricVariations<'l>>, Error>
     ensures { IfErr result (λ e. HasBadMetrics file.now e) }
 {
     match file.table(*b"MVAR") {

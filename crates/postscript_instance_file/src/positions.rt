@@ -20,7 +20,7 @@ const VARIATIONS: usize = 0x8000;
 const PARTS: [(u16, u16); 4] = [(0x01, 0x10), (0x02, 0x20), (0x04, 0x40), (0x08, 0x80)];
 
 /// Returns the sum of two offsets.
-fn behind(place: usize, more: usize) -> usize {
+fn add_offsets(place: usize, more: usize) -> usize {
     place.saturating_add(more)
 }
 
@@ -31,7 +31,7 @@ fn words(place: usize, count: usize) -> usize {
 
 /// Returns the offset of the offset field of a record with a tag, in a list that begins with a count.
 fn record(list: usize, i: usize) -> usize {
-    behind(list, i.saturating_mul(6).saturating_add(6))
+    add_offsets(list, i.saturating_mul(6).saturating_add(6))
 }
 
 /// Returns the size of the fields of a value format before the field of a bit.
@@ -67,11 +67,11 @@ impl<'v> Varied<'v> {
     }
 
     /// Returns the offset of the table that is named at `place`. Returns `None` if there is none.
-    fn named(&mut self, parent: usize, place: usize) -> Option<usize> {
+    fn table_at(&mut self, parent: usize, place: usize) -> Option<usize> {
         self.gaps.offset(parent, place);
         match self.word(place) {
             0 => None,
-            offset => Some(behind(parent, offset)),
+            offset => Some(add_offsets(parent, offset)),
         }
     }
 
@@ -90,15 +90,15 @@ impl<'v> Varied<'v> {
         if self.is_over {
             return None;
         }
-        self.named(parent, place)
+        self.table_at(parent, place)
     }
 
     /// Returns the delta of a device table, rounded to the nearest unit. Returns `None` if it has no variations.
-    fn added(&mut self, device: usize) -> Option<i64> {
-        if self.word(behind(device, 4)) != VARIATIONS {
+    fn rounded_delta(&mut self, device: usize) -> Option<i64> {
+        if self.word(add_offsets(device, 4)) != VARIATIONS {
             return None;
         }
-        let (outer, inner) = (self.word(device), self.word(behind(device, 2)));
+        let (outer, inner) = (self.word(device), self.word(add_offsets(device, 2)));
         let regions = match self.store.table(outer) {
             Some(data) => data.len() as u64,
             None => 0,
@@ -116,10 +116,10 @@ impl<'v> Varied<'v> {
     /// Adds the delta of the device table that is named at `place` to a number.
     fn vary(&mut self, parent: usize, number: Option<usize>, place: usize) {
         self.take(1);
-        let Some(device) = self.named(parent, place) else {
+        let Some(device) = self.table_at(parent, place) else {
             return;
         };
-        let Some(added) = self.added(device) else {
+        let Some(added) = self.rounded_delta(device) else {
             return;
         };
         match number {
@@ -141,11 +141,11 @@ impl<'v> Varied<'v> {
         for (bit, device) in &PARTS {
             if format & *device != 0 {
                 let number = if format & *bit != 0 {
-                    Some(behind(place, room(format, *bit)))
+                    Some(add_offsets(place, room(format, *bit)))
                 } else {
                     None
                 };
-                self.vary(parent, number, behind(place, room(format, *device)));
+                self.vary(parent, number, add_offsets(place, room(format, *device)));
             }
         }
     }
@@ -155,11 +155,11 @@ impl<'v> Varied<'v> {
         if self.word(place) != 3 {
             return;
         }
-        self.vary(place, Some(behind(place, 2)), behind(place, 6));
-        self.vary(place, Some(behind(place, 4)), behind(place, 8));
-        if self.word(behind(place, 6)) == 0 && self.word(behind(place, 8)) == 0 {
+        self.vary(place, Some(add_offsets(place, 2)), add_offsets(place, 6));
+        self.vary(place, Some(add_offsets(place, 4)), add_offsets(place, 8));
+        if self.word(add_offsets(place, 6)) == 0 && self.word(add_offsets(place, 8)) == 0 {
             set_word(&mut self.bytes, place, 1);
-            self.gaps.take_out(behind(place, 6), 4);
+            self.gaps.take_out(add_offsets(place, 6), 4);
         }
     }
 
@@ -191,9 +191,9 @@ impl<'v> Varied<'v> {
             if self.is_over {
                 return;
             }
-            let at = behind(behind(place, i.saturating_mul(size)), skip);
+            let at = add_offsets(add_offsets(place, i.saturating_mul(size)), skip);
             self.value(parent, at, first);
-            self.value(parent, behind(at, left), second);
+            self.value(parent, add_offsets(at, left), second);
         }
     }
 
@@ -204,12 +204,12 @@ impl<'v> Varied<'v> {
 
     /// Processes a single adjustment.
     fn single(&mut self, table: usize) {
-        let formats = [self.format(behind(table, 4)), 0];
+        let formats = [self.format(add_offsets(table, 4)), 0];
         match self.word(table) {
-            1 => self.values(table, behind(table, 6), 1, formats, 0),
+            1 => self.values(table, add_offsets(table, 6), 1, formats, 0),
             2 => {
-                let count = self.word(behind(table, 6));
-                self.values(table, behind(table, 8), count, formats, 0);
+                let count = self.word(add_offsets(table, 6));
+                self.values(table, add_offsets(table, 8), count, formats, 0);
             }
             _ => self.gaps.keep_all(),
         }
@@ -217,7 +217,10 @@ impl<'v> Varied<'v> {
 
     /// Processes a pair adjustment.
     fn pairs(&mut self, table: usize) {
-        let formats = [self.format(behind(table, 4)), self.format(behind(table, 6))];
+        let formats = [
+            self.format(add_offsets(table, 4)),
+            self.format(add_offsets(table, 6)),
+        ];
         match self.word(table) {
             1 => self.pair_sets(table, formats),
             2 => self.pair_classes(table, formats),
@@ -227,19 +230,19 @@ impl<'v> Varied<'v> {
 
     /// Processes a pair adjustment by classes.
     fn pair_classes(&mut self, table: usize, formats: [u16; 2]) {
-        self.gaps.offset(table, behind(table, 8));
-        self.gaps.offset(table, behind(table, 10));
-        let classes = self.word(behind(table, 12));
-        let count = classes.saturating_mul(self.word(behind(table, 14)));
-        self.values(table, behind(table, 16), count, formats, 0);
+        self.gaps.offset(table, add_offsets(table, 8));
+        self.gaps.offset(table, add_offsets(table, 10));
+        let classes = self.word(add_offsets(table, 12));
+        let count = classes.saturating_mul(self.word(add_offsets(table, 14)));
+        self.values(table, add_offsets(table, 16), count, formats, 0);
     }
 
     /// Processes a pair adjustment by glyphs.
     fn pair_sets(&mut self, table: usize, formats: [u16; 2]) {
-        for i in 0..self.word(behind(table, 8)) {
-            if let Some(set) = self.follow(table, words(behind(table, 10), i)) {
+        for i in 0..self.word(add_offsets(table, 8)) {
+            if let Some(set) = self.follow(table, words(add_offsets(table, 10), i)) {
                 let count = self.word(set);
-                self.values(set, behind(set, 2), count, formats, 2);
+                self.values(set, add_offsets(set, 2), count, formats, 2);
             }
         }
     }
@@ -247,7 +250,10 @@ impl<'v> Varied<'v> {
     /// Processes marks and their anchors.
     fn marks(&mut self, table: usize) {
         for i in 0..self.word(table) {
-            if let Some(anchor) = self.follow(table, words(behind(table, 4), i.saturating_mul(2))) {
+            if let Some(anchor) = self.follow(
+                table,
+                words(add_offsets(table, 4), i.saturating_mul(2)),
+            ) {
                 self.anchor(anchor);
             }
         }
@@ -256,26 +262,26 @@ impl<'v> Varied<'v> {
     /// Processes bases, or components of a ligature, with an anchor for each mark class.
     fn bases(&mut self, table: usize, classes: usize) {
         let count = classes.saturating_mul(self.word(table));
-        self.anchors(table, behind(table, 2), count);
+        self.anchors(table, add_offsets(table, 2), count);
     }
 
     /// Processes ligatures and their anchors.
     fn ligatures(&mut self, table: usize, classes: usize) {
         for i in 0..self.word(table) {
-            if let Some(ligature) = self.follow(table, words(behind(table, 2), i)) {
+            if let Some(ligature) = self.follow(table, words(add_offsets(table, 2), i)) {
                 self.bases(ligature, classes);
             }
         }
     }
 
     /// Processes an attachment of marks to glyphs.
-    fn attached(&mut self, table: usize, to_ligatures: bool) {
-        self.gaps.offset(table, behind(table, 4));
-        let classes = self.word(behind(table, 6));
-        if let Some(marks) = self.named(table, behind(table, 8)) {
+    fn vary_attachments(&mut self, table: usize, to_ligatures: bool) {
+        self.gaps.offset(table, add_offsets(table, 4));
+        let classes = self.word(add_offsets(table, 6));
+        if let Some(marks) = self.table_at(table, add_offsets(table, 8)) {
             self.marks(marks);
         }
-        if let Some(others) = self.named(table, behind(table, 10)) {
+        if let Some(others) = self.table_at(table, add_offsets(table, 10)) {
             if to_ligatures {
                 self.ligatures(others, classes);
             } else {
@@ -285,18 +291,18 @@ impl<'v> Varied<'v> {
     }
 
     /// Processes a subtable of a lookup that is not an extension.
-    fn adjusted(&mut self, kind: usize, table: usize) {
+    fn vary_subtable(&mut self, kind: usize, table: usize) {
         // The coverage table.
-        self.gaps.offset(table, behind(table, 2));
+        self.gaps.offset(table, add_offsets(table, 2));
         match kind {
             1 => self.single(table),
             2 => self.pairs(table),
             3 => {
-                let count = self.word(behind(table, 4)).saturating_mul(2);
-                self.anchors(table, behind(table, 6), count);
+                let count = self.word(add_offsets(table, 4)).saturating_mul(2);
+                self.anchors(table, add_offsets(table, 6), count);
             }
-            4 | 6 => self.attached(table, false),
-            5 => self.attached(table, true),
+            4 | 6 => self.vary_attachments(table, false),
+            5 => self.vary_attachments(table, true),
             _ => self.gaps.keep_all(),
         }
     }
@@ -304,20 +310,20 @@ impl<'v> Varied<'v> {
     /// Processes a subtable of a lookup.
     fn subtable(&mut self, kind: usize, table: usize) {
         if kind != 9 {
-            self.adjusted(kind, table);
+            self.vary_subtable(kind, table);
             return;
         }
-        let place = behind(table, 4);
+        let place = add_offsets(table, 4);
         self.gaps.long_offset(table, place);
         let offset = number_within(&self.bytes, place, 4).unwrap_or(0);
-        self.adjusted(self.word(behind(table, 2)), behind(table, offset));
+        self.vary_subtable(self.word(add_offsets(table, 2)), add_offsets(table, offset));
     }
 
     /// Processes a lookup.
     fn lookup(&mut self, table: usize) {
         let kind = self.word(table);
-        for i in 0..self.word(behind(table, 4)) {
-            if let Some(subtable) = self.follow(table, words(behind(table, 6), i)) {
+        for i in 0..self.word(add_offsets(table, 4)) {
+            if let Some(subtable) = self.follow(table, words(add_offsets(table, 6), i)) {
                 self.subtable(kind, subtable);
             }
         }
@@ -325,7 +331,7 @@ impl<'v> Varied<'v> {
 
     /// Records the scripts of a `GPOS` table, and their languages.
     fn scripts(&mut self) {
-        let Some(list) = self.named(0, 4) else {
+        let Some(list) = self.table_at(0, 4) else {
             return;
         };
         for i in 0..self.word(list) {
@@ -338,18 +344,18 @@ impl<'v> Varied<'v> {
 
     /// Records the languages of a script, except the default one.
     fn languages(&mut self, script: usize) {
-        for i in 0..self.word(behind(script, 2)) {
+        for i in 0..self.word(add_offsets(script, 2)) {
             self.take(1);
             if self.is_over {
                 return;
             }
-            self.gaps.offset(script, record(behind(script, 2), i));
+            self.gaps.offset(script, record(add_offsets(script, 2), i));
         }
     }
 
     /// Records the features of a `GPOS` table.
     fn features(&mut self) {
-        let Some(list) = self.named(0, 6) else {
+        let Some(list) = self.table_at(0, 6) else {
             return;
         };
         for i in 0..self.word(list) {
@@ -361,11 +367,11 @@ impl<'v> Varied<'v> {
 
     /// Processes the lookups of a `GPOS` table.
     fn lookups(&mut self) {
-        let Some(list) = self.named(0, 8) else {
+        let Some(list) = self.table_at(0, 8) else {
             return;
         };
         for i in 0..self.word(list) {
-            if let Some(lookup) = self.follow(list, words(behind(list, 2), i)) {
+            if let Some(lookup) = self.follow(list, words(add_offsets(list, 2), i)) {
                 self.lookup(lookup);
             }
         }
@@ -374,9 +380,9 @@ impl<'v> Varied<'v> {
     /// Processes the carets of a ligature.
     fn carets(&mut self, table: usize) {
         for i in 0..self.word(table) {
-            if let Some(caret) = self.follow(table, words(behind(table, 2), i)) {
+            if let Some(caret) = self.follow(table, words(add_offsets(table, 2), i)) {
                 if self.word(caret) == 3 {
-                    self.vary(caret, Some(behind(caret, 2)), behind(caret, 4));
+                    self.vary(caret, Some(add_offsets(caret, 2)), add_offsets(caret, 4));
                 }
             }
         }
@@ -389,9 +395,9 @@ impl<'v> Varied<'v> {
         if sets == 0 {
             return 0;
         }
-        for i in 0..self.word(behind(sets, 2)) {
-            let place = words(behind(sets, 4), i.saturating_mul(2));
-            last = last.max(behind(sets, number_within(&self.bytes, place, 4).unwrap_or(0)));
+        for i in 0..self.word(add_offsets(sets, 2)) {
+            let place = words(add_offsets(sets, 4), i.saturating_mul(2));
+            last = last.max(add_offsets(sets, number_within(&self.bytes, place, 4).unwrap_or(0)));
         }
         last
     }
@@ -414,11 +420,11 @@ impl<'v> Varied<'v> {
         self.take_store_out();
         set_word(&mut self.bytes, 14, 0);
         set_word(&mut self.bytes, 16, 0);
-        let Some(list) = self.named(0, 8) else {
+        let Some(list) = self.table_at(0, 8) else {
             return;
         };
-        for i in 0..self.word(behind(list, 2)) {
-            if let Some(ligature) = self.follow(list, words(behind(list, 4), i)) {
+        for i in 0..self.word(add_offsets(list, 2)) {
+            if let Some(ligature) = self.follow(list, words(add_offsets(list, 4), i)) {
                 self.carets(ligature);
             }
         }
@@ -445,7 +451,7 @@ fn store_of(table: &[u8]) -> Option<Store<'_>> {
 }
 
 /// Begins to process a table.
-fn begun<'v>(
+fn begin_table<'v>(
     alloc: Global,
     table: &[u8],
     store: Store<'v>,
@@ -468,7 +474,7 @@ fn gdef_of(
     store: Store<'_>,
     coordinates: &[i16],
 ) -> Result<Option<Vec<u8>>, AllocError> {
-    let mut gdef = begun(alloc, table, store, coordinates)?;
+    let mut gdef = begin_table(alloc, table, store, coordinates)?;
     gdef.definitions();
     gdef.end(alloc)
 }
@@ -480,7 +486,7 @@ fn gpos_of(
     store: Store<'_>,
     coordinates: &[i16],
 ) -> Result<Option<Vec<u8>>, AllocError> {
-    let mut gpos = begun(alloc, table, store, coordinates)?;
+    let mut gpos = begin_table(alloc, table, store, coordinates)?;
     gpos.scripts();
     gpos.features();
     gpos.lookups();

@@ -125,7 +125,7 @@ fn text_by(
 ) -> Result<String, AllocError> {
     match identifier {
         1 => linked_family(alloc, style),
-        2 => String::from_str(alloc, style.linked()),
+        2 => String::from_str(alloc, style.linked_name()),
         3 => unique(alloc, face, style),
         4 => full(alloc, style),
         6 => String::from_str(alloc, style.postscript.as_str()),

@@ -256,7 +256,7 @@ impl Style {
     }
 
     /// Returns the name among the four styles that a family links.
-    pub(crate) fn linked(&self) -> &'static str {
+    pub(crate) fn linked_name(&self) -> &'static str {
         match (self.is_bold(), self.is_italic) {
             (true, true) => "Bold Italic",
             (true, false) => "Bold",
@@ -268,7 +268,7 @@ impl Style {
     /// Returns the whole style name, such as `Light Italic`.
     pub(crate) fn full(&self, alloc: Global) -> Result<String, AllocError> {
         if self.is_linked() {
-            return String::from_str(alloc, self.linked());
+            return String::from_str(alloc, self.linked_name());
         }
         let mut text = String::from_str(alloc, self.weight.as_str())?;
         if self.is_italic {

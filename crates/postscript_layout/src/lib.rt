@@ -8,7 +8,7 @@ mod features;
 mod glyph_set;
 pub mod laws;
 mod lookups;
-mod numbers;
+pub mod numbers;
 mod substitutions;
 #[cfg(test)]
 mod tests;

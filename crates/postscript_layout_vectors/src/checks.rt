@@ -1,7 +1,7 @@
 //! How a test fails, and the bytes that tests compare.
 ghost use Rattle.std.specs.Prelude.{IsTrue};
 
-use postscript_vectors::common::decoded;
+use postscript_vectors::common::decode_digits;
 use std::alloc::Global;
 use std::process::Abort;
 
@@ -17,5 +17,5 @@ pub fn holds_at<R: Abort>(rt: &R, is_so: bool, place: &str, number: usize)
 
 /// The bytes that hex digits with spaces spell.
 pub fn bytes_of<R: Abort>(rt: &R, alloc: Global, digits: &str) -> Vec<u8> {
-    decoded(alloc, digits).expect(rt, "hex digits")
+    decode_digits(alloc, digits).expect(rt, "hex digits")
 }

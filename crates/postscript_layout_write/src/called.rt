@@ -14,6 +14,7 @@ ghost use Rattle.postscript_layout_write.specs.declared.error.Error.TheVariants 
 use crate::applying::{context_applies, rule_applies};
 use crate::context_rules::{rule_of, rule_parts, set_of, sets_of};
 use crate::contexts::{Parts, Source, is_contextual, parts_of};
+use crate::coverages::unset_marks;
 use crate::error::Result;
 use crate::labels::{Labels, labels_of, with_label};
 use crate::limit::{pay, pay_all};
@@ -31,23 +32,13 @@ pub(crate) struct Lookups {
     ghost once: { AllPairs (λ x y. x ≢ y) lookups.items },
 }
 
-/// Returns this number of marks. None of them is set.
-fn unmarked(alloc: Global, count: usize) -> Result<Vec<bool>>
-    ensures many { IfOk result (λ marks. length marks.items ≡ count) }
-    ensures none { IfOk result (λ marks. (m : ℕ) → slice_index_or marks.items m false ≡ false) }
-    ensures memory { IfErr result (λ e. e ≡ errors.Memory) }
-{
-    let marks = vec![in alloc; false; count]?;
-    Ok(marks)
-}
-
 impl Lookups {
     /// Returns no lookups.
     pub(crate) fn new(alloc: Global) -> Result<Lookups>
         ensures none { IfOk result (λ found. found.lookups.items ≡ []) }
         ensures memory { IfErr result (λ e. e ≡ errors.Memory) }
     {
-        let marks = unmarked(alloc, 65536)?;
+        let marks = unset_marks(alloc, 65536)?;
         Ok(Lookups {
             marks,
             lookups: Vec::new(alloc),

@@ -15,9 +15,9 @@ use std::alloc::Global;
 const MARKS: usize = 1000;
 
 /// Returns this number of marks. None of them is set.
-fn unmarked(alloc: Global, count: usize) -> Result<Vec<bool>>
+pub(crate) fn unset_marks(alloc: Global, count: usize) -> Result<Vec<bool>>
     ensures many { IfOk result (λ marks. length marks.items ≡ count) }
-    ensures none { IfOk result (λ marks. (glyph : ℕ) → glyph < count → slice_index_or marks.items glyph false ≡ false) }
+    ensures none { IfOk result (λ marks. (m : ℕ) → slice_index_or marks.items m false ≡ false) }
     ensures memory { IfErr result (λ e. e ≡ errors.Memory) }
 {
     let marks = vec![in alloc; false; count]?;
@@ -29,12 +29,12 @@ fn no_marks(alloc: Global) -> Result<Vec<bool>>
     ensures none { IfOk result (λ marks. AreMarked (λ glyph. false) marks.items) }
     ensures memory { IfErr result (λ e. e ≡ errors.Memory) }
 {
-    let marks = unmarked(alloc, 65536)?;
+    let marks = unset_marks(alloc, 65536)?;
     Ok(marks)
 }
 
 /// Returns marks for the glyphs in the list of a coverage table (format 1).
-fn listed(alloc: Global, table: &[u8], coverage: usize, limit: &mut u64) -> Result<Vec<bool>>
+fn marks_of_list(alloc: Global, table: &[u8], coverage: usize, limit: &mut u64) -> Result<Vec<bool>>
     requires near { coverage < 2 ^ 36 }
     ensures exact { IfOk result (λ marks. AreListed table.now coverage (the_word table.now (coverage + 2)) marks.items) }
     ensures spends { limit.new ≤ limit.old }
@@ -66,7 +66,12 @@ fn mark_range(marks: &mut Vec<bool>, first: usize, last: usize)
 }
 
 /// Returns marks for the glyphs in the ranges of a coverage table (format 2).
-fn ranged(alloc: Global, table: &[u8], coverage: usize, limit: &mut u64) -> Result<Vec<bool>>
+fn marks_of_ranges(
+    alloc: Global,
+    table: &[u8],
+    coverage: usize,
+    limit: &mut u64,
+) -> Result<Vec<bool>>
     requires near { coverage < 2 ^ 36 }
     ensures exact { IfOk result (λ marks. AreRanged table.now coverage (the_word table.now (coverage + 2)) marks.items) }
     ensures spends { limit.new ≤ limit.old }
@@ -85,15 +90,15 @@ fn ranged(alloc: Global, table: &[u8], coverage: usize, limit: &mut u64) -> Resu
 }
 
 /// Returns marks for the glyphs of a coverage table.
-fn marked(alloc: Global, table: &[u8], coverage: usize, limit: &mut u64) -> Result<Vec<bool>>
+fn marks_of(alloc: Global, table: &[u8], coverage: usize, limit: &mut u64) -> Result<Vec<bool>>
     requires near { coverage < 2 ^ 36 }
     ensures exact { IfOk result (λ marks. AreCovered table.now coverage marks.items) }
     ensures spends { limit.new ≤ limit.old }
     ensures why { IfErr result (λ e. (e ≡ errors.Memory) ⊎ IsUsedUp limit.new e) }
 {
     match word(table, coverage) {
-        1 => listed(alloc, table, coverage, limit),
-        2 => ranged(alloc, table, coverage, limit),
+        1 => marks_of_list(alloc, table, coverage, limit),
+        2 => marks_of_ranges(alloc, table, coverage, limit),
         _ => no_marks(alloc),
     }
 }
@@ -113,7 +118,7 @@ pub(crate) fn covered_of(
     ensures why { IfErr result (λ e. (e ≡ errors.Memory) ⊎ IsUsedUp limit.new e) }
 {
     pay_all(limit, MARKS + kept.len())?;
-    let marks = marked(alloc, table, coverage, limit)?;
+    let marks = marks_of(alloc, table, coverage, limit)?;
     let mut numbers = Vec::new(alloc);
     for k in 0..kept.len() {
         if marks[kept[k] as usize] {

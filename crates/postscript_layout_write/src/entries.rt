@@ -78,7 +78,7 @@ fn list(entries: &mut Vec<Entry>, second: u16, adjustment: Adjustment) -> Result
 }
 
 /// Returns the pairs of a first glyph with the kept glyphs that a lookup adjusts, by the new numbers of the second glyphs.
-fn tried(
+fn adjusted_pairs(
     alloc: Global,
     gpos: &[u8],
     lookup: usize,
@@ -128,6 +128,6 @@ pub(crate) fn entries_of(
     if !has_index(&indices) {
         return Ok(Vec::new(alloc));
     }
-    let entries = tried(alloc, gpos, lookup, &indices, first, kept, limit)?;
+    let entries = adjusted_pairs(alloc, gpos, lookup, &indices, first, kept, limit)?;
     Ok(entries)
 }

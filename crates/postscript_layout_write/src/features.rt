@@ -14,7 +14,7 @@ use crate::numbers::{long, word};
 use crate::records::{Records, put_records};
 use crate::renumbering::new_numbers;
 use crate::rules::read_glyphs;
-use crate::script_lists::{named, parameters_size};
+use crate::script_lists::{parameters_size, table_at};
 use crate::subtables::put_glyphs;
 use std::alloc::{AllocError, Global};
 
@@ -124,7 +124,7 @@ fn features_of(alloc: Global, table: &[u8], kept: &[u16], limit: &mut u64) -> Re
         pay(limit)?;
         let i = kept[j] as usize;
         let tag = long(table, list + 2 + i * 6);
-        let feature = named(table, list, list + 2, i);
+        let feature = table_at(table, list, list + 2, i);
         let mut text = Vec::new(alloc);
         put_feature(alloc, &mut text, table, tag, feature, limit)?;
         records.add(tag, 2 + count * 6, &text)?;
@@ -163,7 +163,7 @@ fn put_lookups(out: &mut Vec<u8>, table: &[u8]) -> std::result::Result<(), Alloc
 
 /// Returns a table with a script list, a feature list, and the bytes of an old table from its lookup list on.
 #[tactic(auto, unfolding(crate::specs::Records::table_text))]
-fn joined(alloc: Global, scripts: &[u8], features: &[u8], table: &[u8]) -> Result<Vec<u8>>
+fn join_lists(alloc: Global, scripts: &[u8], features: &[u8], table: &[u8]) -> Result<Vec<u8>>
     ensures text { IfOk result (λ new. new.items ≡ table_text scripts.now features.now (drop (the_word table.now 8) table.now)) }
     ensures small { OnOk result (10 + length scripts.now + length features.now < 65536) }
     ensures why { IfErr result (λ e. (e ≡ errors.Memory) ⊎ (e ≡ errors.TooLarge)) }
@@ -217,6 +217,6 @@ pub fn with_features(alloc: Global, table: &[u8], tags: &[u32], limit: &mut u64)
     put_scripts(alloc, &mut scripts, table, &kept, &numbers, limit)?;
     let mut features = Vec::new(alloc);
     put_features(alloc, &mut features, table, &kept, limit)?;
-    let new = joined(alloc, &scripts, &features, table)?;
+    let new = join_lists(alloc, &scripts, &features, table)?;
     Ok(new)
 }

@@ -12,7 +12,7 @@ use crate::error::{Error, Result};
 use crate::limit::pay;
 use crate::numbers::{long, word};
 use crate::records::{Records, put_records};
-use crate::script_lists::named;
+use crate::script_lists::table_at;
 use crate::subtables::put_glyphs;
 use std::alloc::Global;
 
@@ -133,7 +133,7 @@ fn languages_of(
     for j in 0..count {
         pay(limit)?;
         let tag = long(table, script + 4 + j * 6);
-        let language = named(table, script, script + 4, j);
+        let language = table_at(table, script, script + 4, j);
         let mut text = Vec::new(alloc);
         put_language(alloc, &mut text, table, language, kept, numbers, limit)?;
         records.add(tag, 4 + count * 6, &text)?;
@@ -192,7 +192,7 @@ fn scripts_of(
     for i in 0..count {
         pay(limit)?;
         let tag = long(table, list + 2 + i * 6);
-        let script = named(table, list, list + 2, i);
+        let script = table_at(table, list, list + 2, i);
         let mut text = Vec::new(alloc);
         put_script(alloc, &mut text, table, script, kept, numbers, limit)?;
         records.add(tag, 2 + count * 6, &text)?;

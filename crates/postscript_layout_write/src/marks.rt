@@ -84,7 +84,7 @@ fn put_subtable(
 }
 
 /// Returns the kept ligatures of a subtable.
-fn ligated(
+fn kept_ligatures(
     alloc: Global,
     gpos: &[u8],
     subtable: Option<usize>,
@@ -127,7 +127,7 @@ fn seconds_of(
         return Ok(array);
     }
     if kind == 5 {
-        let array = ligated(alloc, gpos, subtable, kept, limit)?;
+        let array = kept_ligatures(alloc, gpos, subtable, kept, limit)?;
         Ok(array)
     } else {
         let array = array_in(alloc, gpos, subtable, Side::Bases, kept, limit)?;

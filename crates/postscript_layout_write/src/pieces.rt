@@ -111,7 +111,7 @@ fn put_extensions(out: &mut Vec<u8>, distance: usize, offsets: &[usize]) -> Resu
 }
 
 /// Returns a lookup whose subtables follow it.
-fn near(
+fn near_piece(
     alloc: Global,
     gpos: &[u8],
     lookup: usize,
@@ -132,7 +132,7 @@ fn near(
 }
 
 /// Returns a lookup with extensions, whose subtables begin at a distance after it.
-fn far(
+fn far_piece(
     alloc: Global,
     gpos: &[u8],
     lookup: usize,
@@ -179,8 +179,8 @@ pub(crate) fn pairs_piece(
 {
     let large = subtables.bytes.len() > NEAR || distance > FAR;
     if large && !subtables.offsets.is_empty() {
-        far(alloc, gpos, lookup, flag, subtables, distance)
+        far_piece(alloc, gpos, lookup, flag, subtables, distance)
     } else {
-        near(alloc, gpos, lookup, flag, subtables)
+        near_piece(alloc, gpos, lookup, flag, subtables)
     }
 }

@@ -301,7 +301,7 @@ pub(crate) fn put_front(
 }
 
 /// Returns a `GPOS` table with the positions of the kept glyphs that are in a scope.
-fn written(
+fn write_table(
     alloc: Global,
     gpos: &[u8],
     scope: Scope,
@@ -347,10 +347,10 @@ pub fn kerning(alloc: Global, gpos: &[u8], kept: &[u16], limit: &mut u64) -> Res
     ensures kept { IfOk result (λ new. KeepsKerning gpos.now kept.now new.items) }
     // The limit never grows.
     ensures spends { limit.new ≤ limit.old }
-    // `TooLong` leaves nothing of the limit. `ListsTooLong` means that the lists do not end in time.
+    // `TooLong` leaves nothing of the limit. With `ListsTooLong`, the lists do not end in time.
     ensures why { IfErr result (λ e. Refuses e gpos.now limit.new) }
 {
-    let new = written(alloc, gpos, Scope::Pairs, kept, limit)?;
+    let new = write_table(alloc, gpos, Scope::Pairs, kept, limit)?;
     Ok(new)
 }
 
@@ -376,14 +376,14 @@ pub fn kerning(alloc: Global, gpos: &[u8], kept: &[u16], limit: &mut u64) -> Res
 /// - `TooLong`: the table costs more than the limit.
 /// - `Memory`: out of memory.
 pub fn positions(alloc: Global, gpos: &[u8], kept: &[u16], limit: &mut u64) -> Result<Vec<u8>>
-    // Each lookup positions the kept glyphs as before, in the same contexts, for the same scripts and features.
+    // Each lookup positions kept glyphs as before, in the same contexts, scripts and features.
     ensures kept { IfOk result (λ new. KeepsPositions gpos.now kept.now new.items) }
     // The limit never grows.
     ensures spends { limit.new ≤ limit.old }
-    // `TooLong` leaves nothing of the limit. `ListsTooLong` means that the lists do not end in time.
+    // `TooLong` leaves nothing of the limit. With `ListsTooLong`, the lists do not end in time.
     ensures why { IfErr result (λ e. Refuses e gpos.now limit.new) }
 {
-    let new = written(alloc, gpos, Scope::Marks, kept, limit)?;
+    let new = write_table(alloc, gpos, Scope::Marks, kept, limit)?;
     Ok(new)
 }
 
@@ -412,9 +412,9 @@ pub fn flagged_positions(
     ensures kept { IfOk result (λ new. KeepsFlaggedPositions gpos.now kept.now new.items) }
     // The limit never grows.
     ensures spends { limit.new ≤ limit.old }
-    // `TooLong` leaves nothing of the limit. `ListsTooLong` means that the lists do not end in time.
+    // `TooLong` leaves nothing of the limit. With `ListsTooLong`, the lists do not end in time.
     ensures why { IfErr result (λ e. Refuses e gpos.now limit.new) }
 {
-    let new = written(alloc, gpos, Scope::Flags, kept, limit)?;
+    let new = write_table(alloc, gpos, Scope::Flags, kept, limit)?;
     Ok(new)
 }

@@ -32,7 +32,7 @@ pub(crate) fn new_numbers(alloc: Global, kept: &[u16]) -> Result<Vec<Option<usiz
 }
 
 /// Returns glyphs under their new numbers, if all of them are kept.
-pub(crate) fn renumbered(
+pub(crate) fn renumber(
     alloc: Global,
     kept: &[u16],
     numbers: &[Option<usize>],

@@ -13,7 +13,7 @@ use crate::error::Result;
 use crate::limit::pay;
 use crate::numbers::{long, word};
 use crate::ranges::coverage_index;
-use crate::renumbering::renumbered;
+use crate::renumbering::renumber;
 use std::alloc::Global;
 
 /// Returns the type of a lookup. An extension has the type of its first subtable.
@@ -118,7 +118,7 @@ fn add_rule(
     ensures added { OnOk result (lists rules.new.items ≡ lists rules.old.items ++ kept_rules kept.now (rule.now ∷ [])) }
     ensures memory { IfErr result (λ e. e ≡ errors.Memory) }
 {
-    if let Some(new) = renumbered(alloc, kept, numbers, rule)? {
+    if let Some(new) = renumber(alloc, kept, numbers, rule)? {
         rules.push(new)?;
     }
     Ok(())

@@ -18,7 +18,7 @@ fn later(a: usize, b: usize) -> usize
 }
 
 /// Returns the offset of the table that record `i` of a list names.
-pub(crate) fn named(gpos: &[u8], from: usize, records: usize, i: usize) -> usize
+pub(crate) fn table_at(gpos: &[u8], from: usize, records: usize, i: usize) -> usize
     requires from { from < 2 ^ 30 }
     requires records { records < 2 ^ 30 }
     requires few { i < 65536 }
@@ -60,7 +60,10 @@ fn script_end(gpos: &[u8], script: usize, limit: &mut u64) -> Result<usize>
     let mut end = later(script + 4 + count * 6, default_end(gpos, script));
     for j in 0..count {
         pay(limit)?;
-        end = later(end, language_end(gpos, named(gpos, script, script + 4, j)));
+        end = later(
+            end,
+            language_end(gpos, table_at(gpos, script, script + 4, j)),
+        );
     }
     Ok(end)
 }
@@ -76,7 +79,7 @@ fn scripts_end(gpos: &[u8], limit: &mut u64) -> Result<usize>
     let mut end = list + 2 + count * 6;
     for i in 0..count {
         pay(limit)?;
-        let script = script_end(gpos, named(gpos, list, list + 2, i), limit)?;
+        let script = script_end(gpos, table_at(gpos, list, list + 2, i), limit)?;
         end = later(end, script);
     }
     Ok(end)
@@ -133,7 +136,10 @@ fn features_end(gpos: &[u8], limit: &mut u64) -> Result<usize>
     for i in 0..count {
         pay(limit)?;
         let tag = long(gpos, list + 2 + i * 6);
-        end = later(end, feature_end(gpos, tag, named(gpos, list, list + 2, i)));
+        end = later(
+            end,
+            feature_end(gpos, tag, table_at(gpos, list, list + 2, i)),
+        );
     }
     Ok(end)
 }

@@ -427,7 +427,7 @@ fn put_list(
 }
 
 /// Returns a `GSUB` table with the rules and the contexts of chosen lookups, with or without whole flags.
-fn written(
+fn write_table(
     alloc: Global,
     whole: bool,
     gsub: &[u8],
@@ -484,14 +484,14 @@ pub fn substitutions(
     kept: &[u16],
     limit: &mut u64,
 ) -> Result<Vec<u8>>
-    // Each chosen lookup substitutes kept glyphs in the same contexts, for the same scripts and features.
+    // Each chosen lookup substitutes kept glyphs in the same contexts, scripts and features.
     ensures kept { IfOk result (λ new. KeepsSubstitutions gsub.now lookups.now kept.now new.items) }
     // The limit never grows.
     ensures spends { limit.new ≤ limit.old }
-    // `TooLong` leaves nothing of the limit. `ListsTooLong` means that the lists do not end in time.
+    // `TooLong` leaves nothing of the limit. With `ListsTooLong`, the lists do not end in time.
     ensures why { IfErr result (λ e. Refuses e gsub.now limit.new) }
 {
-    let new = written(alloc, false, gsub, lookups, kept, limit)?;
+    let new = write_table(alloc, false, gsub, lookups, kept, limit)?;
     Ok(new)
 }
 
@@ -518,13 +518,13 @@ pub fn flagged_substitutions(
     kept: &[u16],
     limit: &mut u64,
 ) -> Result<Vec<u8>>
-    // Each chosen lookup has its flag, and substitutes kept glyphs in the same contexts, for the same features.
+    // Each chosen lookup has its flag, and substitutes kept glyphs in the same contexts.
     ensures kept { IfOk result (λ new. KeepsFlaggedSubstitutions gsub.now lookups.now kept.now new.items) }
     // The limit never grows.
     ensures spends { limit.new ≤ limit.old }
-    // `TooLong` leaves nothing of the limit. `ListsTooLong` means that the lists do not end in time.
+    // `TooLong` leaves nothing of the limit. With `ListsTooLong`, the lists do not end in time.
     ensures why { IfErr result (λ e. Refuses e gsub.now limit.new) }
 {
-    let new = written(alloc, true, gsub, lookups, kept, limit)?;
+    let new = write_table(alloc, true, gsub, lookups, kept, limit)?;
     Ok(new)
 }

@@ -24,7 +24,7 @@ struct Span {
 
 impl Span {
     /// The extent of both.
-    fn joined(self, other: Span) -> Span
+    fn with_span(self, other: Span) -> Span
         ensures { result ≡ joined self other }
     {
         Span {
@@ -96,7 +96,7 @@ impl Curve {
         }
         let front = self.front().span(8 * unit, halvings - 1);
         let back = self.back().span(8 * unit, halvings - 1);
-        front.joined(back)
+        front.with_span(back)
     }
 }
 
@@ -105,17 +105,17 @@ pub(crate) fn extent(from: i32, first: i32, second: i32, to: i32) -> (i32, i32)
     ensures { Reaches result.0 result.1 from first second to }
 {
     let curve = Curve {
-        from: raised(from),
-        first: raised(first),
-        second: raised(second),
-        to: raised(to),
+        from: distance_from_least(from),
+        first: distance_from_least(first),
+        second: distance_from_least(second),
+        to: distance_from_least(to),
     };
     let Span { low, high } = curve.span(1, HALVINGS);
-    (lowered(low), lowered(high))
+    (coordinate_at(low), coordinate_at(high))
 }
 
 /// The distance from the least coordinate.
-fn raised(coordinate: i32) -> u128
+fn distance_from_least(coordinate: i32) -> u128
     ensures is { coordinate +ℤ pos (2 ^ 31) ≡ pos result }
     ensures room { result ≤ 2 ^ 32 - 1 }
 {
@@ -123,7 +123,7 @@ fn raised(coordinate: i32) -> u128
 }
 
 /// The coordinate at a distance from the least one.
-fn lowered(number: u128) -> i32
+fn coordinate_at(number: u128) -> i32
     requires { number ≤ 2 ^ 32 - 1 }
     ensures { result +ℤ pos (2 ^ 31) ≡ pos number }
 {

@@ -52,7 +52,7 @@ impl TightBounds {
         ensures { TakesIn self segment result }
     {
         TightBounds {
-            bounds: joined(self.bounds, of_segment(self.at, segment)),
+            bounds: union_of(self.bounds, of_segment(self.at, segment)),
             at: end(self.at, segment),
         }
     }
@@ -93,7 +93,7 @@ fn of_curve(from: Point, first: Point, second: Point, to: Point) -> Bounds
 }
 
 /// The bounds of both.
-fn joined(bounds: Option<Bounds>, more: Option<Bounds>) -> Option<Bounds>
+fn union_of(bounds: Option<Bounds>, more: Option<Bounds>) -> Option<Bounds>
     ensures { result ≡ both bounds more }
 {
     match (bounds, more) {

@@ -98,7 +98,7 @@ impl<'l> GlyphNames<'l> {
     }
 
     /// The name with an index. `None` if there is no such string, or if it is truncated.
-    fn numbered(&self, number: usize) -> Option<&'l [u8]>
+    fn name_at(&self, number: usize) -> Option<&'l [u8]>
         ensures { MatchOption result
             ((name : List ℕ) → HasNumberedName (post_of self.now) number name → ⊥)
             (λ name. HasNumberedName (post_of self.now) number name.now) }
@@ -122,6 +122,6 @@ impl<'l> GlyphNames<'l> {
         if glyph >= self.count {
             return None;
         }
-        self.numbered(number_at(self.table, 34 + glyph * 2, 2))
+        self.name_at(number_at(self.table, 34 + glyph * 2, 2))
     }
 }

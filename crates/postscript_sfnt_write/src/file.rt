@@ -87,7 +87,7 @@ fn zeros(size: usize) -> &'static [u8]
 }
 
 /// The checksum of a table, with 0 as the checksum adjustment.
-fn recorded(table: &Table<'_>) -> u32
+fn table_checksum(table: &Table<'_>) -> u32
     ensures { result ≡ the_checksum (in_file 0 table.now) }
 {
     if adjusts(table) {
@@ -125,7 +125,7 @@ fn put_record(
     ensures sum { IfOk result (λ sum. sum ≡ the_checksum (in_file 0 table.now)) }
     ensures tagged { table.now.tag < 2 ^ 32 }
 {
-    let sum = recorded(table);
+    let sum = table_checksum(table);
     put_uint32(out, table.tag)?;
     put_uint32(out, sum)?;
     put_uint32(out, place)?;
@@ -195,7 +195,7 @@ fn selector_of(count: u16) -> u32
 }
 
 /// Writes a file of tables.
-fn written(alloc: Global, tables: &[Table<'_>]) -> std::result::Result<Vec<u8>, AllocError>
+fn write_tables(alloc: Global, tables: &[Table<'_>]) -> std::result::Result<Vec<u8>, AllocError>
     requires counted { length tables.now < 4096 }
     requires fits { size_of tables.now < 2 ^ 32 }
     ensures { IfOk result (λ file. IsWritten tables.now file.items) }
@@ -253,6 +253,6 @@ pub fn file_of(alloc: Global, tables: &[Table<'_>]) -> Result<Vec<u8>>
     if !fits(tables) {
         return Err(Error::TooLarge);
     }
-    let file = written(alloc, tables)?;
+    let file = write_tables(alloc, tables)?;
     Ok(file)
 }

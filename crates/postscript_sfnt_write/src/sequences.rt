@@ -102,7 +102,7 @@ fn put_records(
 
 /// Writes the table with a new record at an index.
 #[tactic(auto, unfolding(crate::specs::Moving::with_text))]
-fn written(
+fn write_with_record(
     alloc: Global,
     cmap: &[u8],
     subtable: &[u8],
@@ -140,19 +140,19 @@ fn written(
 /// - `TooLarge`: the table has 65,535 records, or the new table would have 2^32 bytes or more.
 /// - `Memory`: out of memory.
 pub fn with_sequences(alloc: Global, cmap: &[u8], subtable: &[u8]) -> Result<Vec<u8>>
-    // The new table has one more record, and the subtable at its end. All other records, and their subtables, are the old ones.
+    // The new table has one more record, and the subtable at its end. All else is the old table.
     ensures added { IfOk result (λ new. IsWith cmap.now subtable.now new.items) }
     // If a reader finds a whole subtable in the old table, it finds one in the new table.
     ensures read { IfOk result (λ new. IsReadable cmap.now → IsReadable new.items) }
-    // If the old subtables read nothing past the end, the best subtable maps each character to the same glyph as before.
+    // The best subtable maps characters as before, if the old ones read nothing past the end.
     ensures told { IfOk result (λ new. (mappings : List Mapping) → AreClosed cmap.now →
         AreTold cmap.now mappings → AreTold new.items mappings) }
-    // If the old table has a subtable of format 4 for the first plane of Unicode on Windows, so has the new one.
+    // The new table has a subtable of format 4 for Unicode on Windows, if the old one has.
     ensures format4 { IfOk result (λ new. HasFormat4 cmap.now → HasFormat4 new.items) }
-    // If the old subtables read nothing past the end and the added one has format 14, each one of format 4 maps characters as before.
+    // So does each one of format 4, if the new subtable has format 14.
     ensures told_in_4 { IfOk result (λ new. (mappings : List Mapping) → AreClosed cmap.now → the_number subtable.now 0 2 ≡ 14 →
         AreToldIn4 cmap.now mappings → AreToldIn4 new.items mappings) }
-    // If the old subtables read nothing past the end and the added one has format 14, segments and groups that ascend still do.
+    // Segments and groups that ascend still do, under the same conditions.
     ensures ascend { IfOk result (λ new. AreClosed cmap.now → the_number subtable.now 0 2 ≡ 14 →
         AllAscend cmap.now → AllAscend new.items) }
     // `Cut` and `TooLarge` come only for such tables. Other errors, except `Memory`, never come.
@@ -163,6 +163,6 @@ pub fn with_sequences(alloc: Global, cmap: &[u8], subtable: &[u8]) -> Result<Vec
         return Err(Error::TooLarge);
     }
     let at = index_in(cmap, count);
-    let new = written(alloc, cmap, subtable, at, count)?;
+    let new = write_with_record(alloc, cmap, subtable, at, count)?;
     Ok(new)
 }

@@ -29,7 +29,7 @@ pub(crate) fn narrow(alloc: Global, glyphs: &[usize]) -> Result<Vec<u16>>
 }
 
 /// Returns the glyphs below a number.
-pub(crate) fn below(alloc: Global, glyphs: &[u16], count: usize) -> Result<Vec<usize>>
+pub(crate) fn glyphs_below(alloc: Global, glyphs: &[u16], count: usize) -> Result<Vec<usize>>
     ensures below { IfOk result (λ found. found.items ≡ the_below count glyphs.now) }
     ensures memory { IfErr result (λ e. e ≡ errors.File causes.Memory) }
 {
@@ -66,7 +66,7 @@ fn put_notdef(named: &mut Vec<u16>) -> Result<()>
 }
 
 /// Returns lookups of a `GSUB` table with those that their contexts call, and the glyphs that all of these can make.
-fn reached(
+fn called_lookups(
     alloc: Global,
     gsub: &[u8],
     lookups: &[u16],
@@ -103,13 +103,13 @@ pub(crate) fn close(
     let mut glyphs = narrow(alloc, &named)?;
     put_varied(&mut glyphs, &varied)?;
     put_notdef(&mut glyphs)?;
-    let chosen = features.named(alloc, gsub, limit)?;
-    let all = reached(alloc, gsub, &chosen, &glyphs, limit)?;
+    let chosen = features.lookups_in(alloc, gsub, limit)?;
+    let all = called_lookups(alloc, gsub, &chosen, &glyphs, limit)?;
     Ok(all)
 }
 
 /// Returns the further glyphs of a choice, and those of a list that a face has.
-pub(crate) fn extended(
+pub(crate) fn with_further_glyphs(
     alloc: Global,
     face: &Face<'_>,
     choice: &Choice<'_>,
@@ -119,7 +119,7 @@ pub(crate) fn extended(
     ensures why { IfErr result (λ e. IsUnopenedFace face.now e) }
 {
     let count = face.number_of_glyphs(alloc)?;
-    let added = below(alloc, glyphs, count)?;
+    let added = glyphs_below(alloc, glyphs, count)?;
     let mut all = Vec::from_slice(alloc, choice.unmapped)?;
     all.extend_from_slice(&added)?;
     Ok(all)

@@ -27,7 +27,7 @@ pub enum Features<'t> {
 
 impl Features<'_> {
     /// Returns the lookups of a `GSUB` table that these features name.
-    pub(crate) fn named(&self, alloc: Global, gsub: &[u8], limit: &mut u64) -> Result<Vec<u16>>
+    pub(crate) fn lookups_in(&self, alloc: Global, gsub: &[u8], limit: &mut u64) -> Result<Vec<u16>>
         ensures exact { IfOk result (λ lookups. AreNamedBy self.now gsub.now lookups.items) }
         ensures spends { limit.new ≤ limit.old }
         ensures why { IfErr result (λ e. IsSearched limit.new e) }

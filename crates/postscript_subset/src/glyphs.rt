@@ -2,7 +2,7 @@
 ghost use Rattle.std.specs.Prelude.{◌≡◌, ◌≤◌, IfOk, IfErr};
 ghost use Rattle.postscript_subset.specs.Subsets.{AreMade, NoneAreMade, features_by};
 
-use crate::closing::{below, close};
+use crate::closing::{close, glyphs_below};
 use crate::error::Result;
 use crate::features::Features;
 use crate::subset::gsub_in;
@@ -10,7 +10,7 @@ use postscript_files::{Choice, Face};
 use std::alloc::Global;
 
 /// Returns the features that count: all of them if glyphs keep their numbers.
-fn counted<'t>(retain_gids: bool, features: Features<'t>) -> Features<'t>
+fn counted_features<'t>(retain_gids: bool, features: Features<'t>) -> Features<'t>
     ensures { result ≡ features_by retain_gids features.entry }
 {
     if retain_gids { Features::All } else { features }
@@ -34,17 +34,17 @@ pub fn glyphs_with_layout(
     features: Features<'_>,
     limit: &mut u64,
 ) -> Result<Vec<usize>>
-    // The glyphs of the face that the lookups of the features can make of named glyphs and of glyphs of variation sequences.
+    // The glyphs that the features can make of named glyphs and of those of variation sequences.
     ensures made { IfOk result (λ glyphs. AreMade choice.now features.entry face.now glyphs.items) }
     // The limit never grows.
     ensures spends { limit.new ≤ limit.old }
     // An error is justified by the limit, the choice or the face.
     ensures why { IfErr result (λ e. NoneAreMade choice.now face.now limit.new e) }
 {
-    let features = counted(choice.retain_gids, features);
+    let features = counted_features(choice.retain_gids, features);
     let gsub = gsub_in(&face.file);
     let closed = close(alloc, face, choice, &features, gsub, limit)?;
     let count = face.number_of_glyphs(alloc)?;
-    let glyphs = below(alloc, &closed.glyphs, count)?;
+    let glyphs = glyphs_below(alloc, &closed.glyphs, count)?;
     Ok(glyphs)
 }

@@ -7,7 +7,7 @@ ghost use Rattle.postscript_subset.specs.Planning.{IsPlaced, NoCutFace};
 ghost use Rattle.postscript_subset.specs.Subsets.{copied_by};
 ghost use Rattle.postscript_subset.specs.declared.error.Error.TheVariants as errors;
 
-use crate::closing::{close, extended};
+use crate::closing::{close, with_further_glyphs};
 use crate::error::Result;
 use crate::features::Features;
 use crate::layers::Outcome;
@@ -52,7 +52,7 @@ pub(crate) fn cut_in_place(
 {
     let gsub = gsub_in(&face.file);
     let closed = close(alloc, face, choice, &Features::All, gsub, limit)?;
-    let unmapped = extended(alloc, face, choice, &closed.glyphs)?;
+    let unmapped = with_further_glyphs(alloc, face, choice, &closed.glyphs)?;
     let copied = with_layout(alloc, choice.copied)?;
     let by = Choice {
         unmapped: &unmapped,

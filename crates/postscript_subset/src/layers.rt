@@ -58,7 +58,7 @@ pub(crate) struct Layers {
 }
 
 /// Returns an outcome without a table.
-fn without(alloc: Global, outcome: Outcome) -> Layer
+fn empty_layer(alloc: Global, outcome: Outcome) -> Layer
     ensures outcome { result.outcome ≡ outcome }
     ensures none { result.table.items ≡ [] }
 {
@@ -79,7 +79,7 @@ fn layer_of(alloc: Global, written: std::result::Result<Vec<u8>, Fault>) -> Resu
             table,
         }),
         Err(Fault::Memory) => Err(Error::File(postscript_files::Error::Memory)),
-        Err(fault) => Ok(without(alloc, Outcome::Lost(fault))),
+        Err(fault) => Ok(empty_layer(alloc, Outcome::Lost(fault))),
     }
 }
 
@@ -126,7 +126,7 @@ pub(crate) fn has_marks(origins: &[u16], gdef: Outcome) -> bool
 }
 
 /// Returns a table with only the chosen features.
-fn chosen(
+fn with_chosen_features(
     alloc: Global,
     features: &Features<'_>,
     whole: Vec<u8>,
@@ -197,7 +197,7 @@ fn chosen_positions(
     ensures why { IfErr result (λ e. Refuses e gpos.now limit.new) }
 {
     let whole = positions_of(alloc, gpos, origins, gdef, limit)?;
-    chosen(alloc, features, whole, limit)
+    with_chosen_features(alloc, features, whole, limit)
 }
 
 /// Writes a `GSUB` table for the origins, with only the chosen features.
@@ -215,7 +215,7 @@ fn chosen_substitutions(
     ensures why { IfErr result (λ e. Refuses e gsub.now limit.new) }
 {
     let whole = substitutions_of(alloc, gsub, lookups, origins, gdef, limit)?;
-    chosen(alloc, features, whole, limit)
+    with_chosen_features(alloc, features, whole, limit)
 }
 
 /// Returns the `GDEF` table with the classes of the origins.
@@ -225,12 +225,12 @@ fn gdef_of(alloc: Global, file: &FontFile<'_>, origins: &[u16], limit: &mut u64)
     ensures memory { IfErr result (λ e. e ≡ errors.File causes.Memory) }
 {
     match file.table(*b"GDEF") {
-        None => Ok(without(alloc, Outcome::Absent)),
+        None => Ok(empty_layer(alloc, Outcome::Absent)),
         Some(gdef) => {
             if classes_at(gdef) > 0 {
                 layer_of(alloc, definitions_of(alloc, gdef, origins, limit))
             } else {
-                Ok(without(alloc, Outcome::Absent))
+                Ok(empty_layer(alloc, Outcome::Absent))
             }
         }
     }
@@ -251,9 +251,9 @@ fn gsub_of(
     ensures memory { IfErr result (λ e. e ≡ errors.File causes.Memory) }
 {
     match file.table(*b"GSUB") {
-        None => Ok(without(alloc, Outcome::Absent)),
+        None => Ok(empty_layer(alloc, Outcome::Absent)),
         Some(gsub) => match gdef {
-            Outcome::Lost(fault) => Ok(without(alloc, Outcome::Lost(fault))),
+            Outcome::Lost(fault) => Ok(empty_layer(alloc, Outcome::Lost(fault))),
             _ => layer_of(
                 alloc,
                 chosen_substitutions(alloc, gsub, features, lookups, origins, gdef, limit),
@@ -276,13 +276,13 @@ fn gpos_of(
     ensures memory { IfErr result (λ e. e ≡ errors.File causes.Memory) }
 {
     match file.table(*b"GPOS") {
-        None => Ok(without(alloc, Outcome::Absent)),
+        None => Ok(empty_layer(alloc, Outcome::Absent)),
         Some(gpos) => {
             if !features.has_positions() {
-                return Ok(without(alloc, Outcome::NotChosen));
+                return Ok(empty_layer(alloc, Outcome::NotChosen));
             }
             match gdef {
-                Outcome::Lost(fault) => Ok(without(alloc, Outcome::Lost(fault))),
+                Outcome::Lost(fault) => Ok(empty_layer(alloc, Outcome::Lost(fault))),
                 _ => layer_of(
                     alloc,
                     chosen_positions(alloc, gpos, features, origins, gdef, limit),
@@ -327,8 +327,8 @@ fn pairs_of(alloc: Global, kern: &[u8], origins: &[u16], limit: &mut u64) -> Res
             outcome: Outcome::Kept,
             table,
         }),
-        Ok(None) => Ok(without(alloc, Outcome::Absent)),
-        Err(fault) => Ok(without(alloc, Outcome::Lost(kern_fault(fault)?))),
+        Ok(None) => Ok(empty_layer(alloc, Outcome::Absent)),
+        Err(fault) => Ok(empty_layer(alloc, Outcome::Lost(kern_fault(fault)?))),
     }
 }
 
@@ -347,15 +347,15 @@ fn kern_of(
     ensures memory { IfErr result (λ e. e ≡ errors.File causes.Memory) }
 {
     let Some(kern) = file.table(*b"kern") else {
-        return Ok(without(alloc, Outcome::Absent));
+        return Ok(empty_layer(alloc, Outcome::Absent));
     };
     if !features.has_kerning() {
-        return Ok(without(alloc, Outcome::NotChosen));
+        return Ok(empty_layer(alloc, Outcome::NotChosen));
     }
     match is_kerned(gpos, limit) {
-        Ok(true) => Ok(without(alloc, Outcome::NotChosen)),
+        Ok(true) => Ok(empty_layer(alloc, Outcome::NotChosen)),
         Ok(false) => pairs_of(alloc, kern, origins, limit),
-        Err(_) => Ok(without(alloc, Outcome::Lost(Fault::TooLong))),
+        Err(_) => Ok(empty_layer(alloc, Outcome::Lost(Fault::TooLong))),
     }
 }
 

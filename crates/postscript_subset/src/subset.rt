@@ -11,7 +11,7 @@ ghost use Rattle.postscript_subset.specs.Subsets.{IsCutInPlace, IsCutWithLayout,
 ghost use Rattle.postscript_subset.specs.Layering.{tables_of};
 ghost use Rattle.postscript_subset.specs.declared.error.Error.TheVariants as errors;
 
-use crate::closing::{close, extended, narrow};
+use crate::closing::{close, narrow, with_further_glyphs};
 use crate::error::{Error, Result};
 use crate::features::Features;
 use crate::in_place::cut_in_place;
@@ -228,7 +228,7 @@ fn cut(
 {
     let gsub = gsub_in(&face.file);
     let closed = close(alloc, face, choice, features, gsub, limit)?;
-    let unmapped = extended(alloc, face, choice, &closed.glyphs)?;
+    let unmapped = with_further_glyphs(alloc, face, choice, &closed.glyphs)?;
     let by = Choice {
         unmapped: &unmapped,
         ..*choice
@@ -278,7 +278,7 @@ pub fn subset_with_layout(
 ) -> Result<Subset>
     // The file is a subset of the face, has its layout tables, and keeps the glyphs of shaped text.
     ensures subset { choice.now.retain_gids ≡ false → IfOk result (λ subset. IsCutWithLayout choice.now features.entry file.now number limit.new subset) }
-    // If glyphs keep their numbers, the file has copies of the layout tables, and keeps the glyphs of shaped text.
+    // If glyphs keep their numbers, layout tables are copied, with all glyphs of shaped text.
     ensures in_place { choice.now.retain_gids ≡ true → IfOk result (λ subset. IsCutInPlace choice.now features.entry file.now number subset) }
     // The limit never grows.
     ensures spends { limit.new ≤ limit.old }

@@ -22,7 +22,7 @@ pub(crate) enum Token {
 
 /// The operator of a code that ends just before an offset.
 #[inline(always)]
-fn known(code: u16, place: usize) -> Result<At<Command>>
+fn operator_at(code: u16, place: usize) -> Result<At<Command>>
     ensures { result ≡ ok_or (option_map (λ command. (command, place)) (command_of code)) cases.UnknownOperator }
 {
     match Command::of(code) {
@@ -39,10 +39,10 @@ fn command_at(code: &[u8], first: u8, place: usize) -> Result<At<Command>>
     ensures room { IfOk result (λ read. read.1 ≤ length code.now) }
 {
     if first != 0x0c {
-        return known(u16::from(first), place);
+        return operator_at(u16::from(first), place);
     }
     match code.get(place) {
-        Some(second) => known(0x0c00 + u16::from(*second), place + 1),
+        Some(second) => operator_at(0x0c00 + u16::from(*second), place + 1),
         None => Err(Refused::UnexpectedEof),
     }
 }

@@ -35,7 +35,7 @@ pub struct Saying<'l> {
 
 impl<'l> Machine<'l> {
     /// Copies the last `count` operands on the stack.
-    fn copied(&self, alloc: Global, count: usize) -> shared::Result<Vec<Operand>>
+    fn copy_operands(&self, alloc: Global, count: usize) -> shared::Result<Vec<Operand>>
         ensures ok { IfOk result (λ operands. operands.items ≡ last_of self.now.state.stack.items count) }
         ensures err { IfErr result (λ e. e ≡ cases.Memory) }
     {
@@ -50,7 +50,7 @@ impl<'l> Machine<'l> {
     {
         let count = self.state.stack.len();
         match operator {
-            Operator::HintMask | Operator::CntrMask => self.copied(alloc, count - count % 2),
+            Operator::HintMask | Operator::CntrMask => self.copy_operands(alloc, count - count % 2),
             _ => Ok(Vec::new(alloc)),
         }
     }
@@ -70,7 +70,7 @@ impl<'l> Machine<'l> {
         Ok(Saying {
             operator,
             stems: self.stems(alloc, operator)?,
-            operands: self.copied(alloc, count)?,
+            operands: self.copy_operands(alloc, count)?,
             mask,
         })
     }

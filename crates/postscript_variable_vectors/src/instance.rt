@@ -17,7 +17,7 @@ use std::alloc::Global;
 use std::process::Abort;
 
 /// A charstring with these scalars.
-fn over<'l>(code: &'l [u8], tables: &'l [Vec<u32>]) -> Charstring<'l> {
+fn charstring_with<'l>(code: &'l [u8], tables: &'l [Vec<u32>]) -> Charstring<'l> {
     Charstring {
         code,
         subroutines: Subroutines::lists(&[], &[]),
@@ -67,7 +67,10 @@ fn rows(rt: HostRuntime) {
     ];
     for (code, width, wanted) in rows {
         let width = width.map(|number: i16| Operand::from_int(number));
-        let found = charstring(rt.alloc(), over(code, &tables), width).expect(&rt, "a charstring");
+        let found = charstring(rt.alloc(), charstring_with(code, &tables), width).expect(
+            &rt,
+            "a charstring",
+        );
         holds(&rt, found.as_slice() == wanted, "a charstring");
     }
 }
@@ -78,16 +81,16 @@ fn refusals(rt: HostRuntime) {
     let tables = tables(&rt, rt.alloc());
     let width = Some(Operand::from_int(1));
     // an operator that CFF2 does not have
-    let found = charstring(rt.alloc(), over(&[0x0e], &tables), None);
+    let found = charstring(rt.alloc(), charstring_with(&[0x0e], &tables), None);
     holds(
         &rt,
         matches!(found, Err(Error::Font(Cause::UnknownOperator))),
         "endchar",
     );
     // a line before a move, with a width and without one
-    let found = charstring(rt.alloc(), over(&[0x95, 0x06], &tables), width);
+    let found = charstring(rt.alloc(), charstring_with(&[0x95, 0x06], &tables), width);
     holds(&rt, matches!(found, Err(Error::NoMove)), "hlineto");
-    let found = charstring(rt.alloc(), over(&[0x95, 0x06], &tables), None);
+    let found = charstring(rt.alloc(), charstring_with(&[0x95, 0x06], &tables), None);
     holds(&rt, matches!(found, Ok(_)), "hlineto");
     // the operands of 24 stems, and of 25, with a width and the 24, implied by a mask, with its four bytes
     let rows: [(usize, &[u8], Option<i16>, bool); 5] = [
@@ -102,7 +105,7 @@ fn refusals(rt: HostRuntime) {
         put_ones(&rt, &mut code, count);
         code.extend_from_slice(operator).expect(&rt, "memory");
         let width = width.map(|number: i16| Operand::from_int(number));
-        let found = charstring(rt.alloc(), over(&code, &tables), width);
+        let found = charstring(rt.alloc(), charstring_with(&code, &tables), width);
         holds(
             &rt,
             matches!(found, Ok(_)) == is_written,
@@ -187,10 +190,12 @@ fn pieces(rt: HostRuntime) {
         let mut wanted = Vec::from_array(rt.alloc(), [0x8c, 0x8d, 0x16]).expect(&rt, "memory");
         put_pieces(&rt, &mut wanted, parts);
         wanted.push(0x0e).expect(&rt, "memory");
-        let found = charstring(rt.alloc(), over(&code, &tables), Some(Operand::from_int(1))).expect(
-            &rt,
-            "a charstring",
-        );
+        let found = charstring(
+            rt.alloc(),
+            charstring_with(&code, &tables),
+            Some(Operand::from_int(1)),
+        )
+        .expect(&rt, "a charstring");
         holds(
             &rt,
             found.as_slice() == wanted.as_slice(),
@@ -234,7 +239,7 @@ fn advances_at<'l, R: Abort>(
 }
 
 /// The table at a location, with advances and no names.
-fn numbered<R: Abort>(
+fn table_without_names<R: Abort>(
     rt: &R,
     alloc: Global,
     table_of: &[u8],
@@ -262,7 +267,7 @@ fn a_table_at_places(rt: HostRuntime) {
         (-16384, [0xf8, 0xec, 0x0e], [0xf8, 0x88, 0xdb]),
     ];
     for (coordinate, first, begin) in rows {
-        let bytes = numbered(&rt, rt.alloc(), TABLE, Some(VARIED), coordinate);
+        let bytes = table_without_names(&rt, rt.alloc(), TABLE, Some(VARIED), coordinate);
         let view = FontView::read(rt.alloc(), &bytes).expect(&rt, "a font");
         holds(
             &rt,
@@ -364,7 +369,7 @@ const TWO: &[u8] = &[
 /// ROS.
 #[test]
 fn matrix_and_font_dictionaries(rt: HostRuntime) {
-    let bytes = numbered(&rt, rt.alloc(), TWO, None, 0);
+    let bytes = table_without_names(&rt, rt.alloc(), TWO, None, 0);
     let matrix = bytes.get(28..42);
     holds(
         &rt,
@@ -410,7 +415,7 @@ fn with_long_matrix<R: Abort>(rt: &R, alloc: Global) -> Vec<u8> {
 #[test]
 fn long_matrix(rt: HostRuntime) {
     let source = with_long_matrix(&rt, rt.alloc());
-    let bytes = numbered(&rt, rt.alloc(), &source, None, 0);
+    let bytes = table_without_names(&rt, rt.alloc(), &source, None, 0);
     let wanted = [
         0x1e, 0xa0, 0x00, 0x51, 0x23, 0x45, 0x67, 0x89, 0x01, 0x23, 0x45, 0x67, 0xff, 0x8b, 0x8b,
         0x1e, 0xa0, 0x00, 0x5f, 0x8b, 0x8b, 0x0c, 0x07,
@@ -440,7 +445,7 @@ const HINTED: &[u8] = &[
 const NAMES: [&[u8]; 2] = [b".notdef", b"alpha"];
 
 /// The table of a font at a location, with these glyph names.
-fn called<R: Abort>(
+fn table_with_names<R: Abort>(
     rt: &R,
     alloc: Global,
     table_of: &[u8],
@@ -458,8 +463,8 @@ fn called<R: Abort>(
 }
 
 /// The table at a location, with names.
-fn named<R: Abort>(rt: &R, alloc: Global, coordinate: i16) -> Vec<u8> {
-    called(rt, alloc, HINTED, &NAMES, coordinate)
+fn named_table<R: Abort>(rt: &R, alloc: Global, coordinate: i16) -> Vec<u8> {
+    table_with_names(rt, alloc, HINTED, &NAMES, coordinate)
 }
 
 /// The hints at locations. At 1/2 the zone is from -8.5 to 1.5, and so from -8 to 2, and the stem is 90 wide. At -1 the
@@ -474,7 +479,7 @@ fn hints_at_places(rt: HostRuntime) {
         (-16384, [0x81, 0x95, 0x06], 0xdb),
     ];
     for (coordinate, zone, stem) in rows {
-        let bytes = named(&rt, rt.alloc(), coordinate);
+        let bytes = named_table(&rt, rt.alloc(), coordinate);
         let mut wanted = Vec::from_array(rt.alloc(), zone).expect(&rt, "memory");
         let rest = [
             stem, 0x0b, 0x1e, 0xa0, 0x39, 0x62, 0x5f, 0x0c, 0x09, 0x8b, 0x14, 0x8b, 0x15,
@@ -506,7 +511,7 @@ fn with_long_real<R: Abort>(rt: &R, alloc: Global) -> Vec<u8> {
 #[test]
 fn long_reals(rt: HostRuntime) {
     let source = with_long_real(&rt, rt.alloc());
-    let bytes = called(&rt, rt.alloc(), &source, &NAMES, 0);
+    let bytes = table_with_names(&rt, rt.alloc(), &source, &NAMES, 0);
     let wanted = [
         0xdb, 0x0b, 0x1e, 0xa0, 0x37, 0x12, 0x34, 0x56, 0x78, 0x91, 0x23, 0x45, 0x67, 0xff, 0x0c,
         0x09, 0x8b, 0x14, 0x8b, 0x15,
@@ -517,7 +522,7 @@ fn long_reals(rt: HostRuntime) {
 /// The names of glyphs, and the same table in whole units, since all its numbers are whole.
 #[test]
 fn names_of_glyphs(rt: HostRuntime) {
-    let bytes = named(&rt, rt.alloc(), 0);
+    let bytes = named_table(&rt, rt.alloc(), 0);
     let view = FontView::read(rt.alloc(), &bytes).expect(&rt, "a font");
     let set = view.char_set().expect(&rt, "a char set");
     holds(
@@ -636,7 +641,10 @@ fn whole_units(rt: HostRuntime) {
             put_eighths(&rt, &mut code, *operands);
             code.extend_from_slice(*operator).expect(&rt, "memory");
         }
-        let found = rounded(rt.alloc(), over(&code, &tables), None).expect(&rt, "in whole units");
+        let found = rounded(rt.alloc(), charstring_with(&code, &tables), None).expect(
+            &rt,
+            "in whole units",
+        );
         holds(&rt, found.as_slice() == wanted, "in whole units");
     }
 }
@@ -646,19 +654,21 @@ fn whole_units(rt: HostRuntime) {
 fn whole_units_in_range(rt: HostRuntime) {
     let tables = tables(&rt, rt.alloc());
     let half = Some(Operand::from_bits(32768));
-    let found = rounded(rt.alloc(), over(&[0x8b, 0x16], &tables), half).expect(&rt, "a width");
+    let found = rounded(rt.alloc(), charstring_with(&[0x8b, 0x16], &tables), half).expect(
+        &rt, "a width",
+    );
     holds(
         &rt,
         found.as_slice() == [0xff, 0, 0, 0x80, 0, 0x8b, 0x16, 0x0e].as_slice(),
         "a width",
     );
-    let found = rounded(rt.alloc(), over(&[0x8b, 0x06], &tables), half);
+    let found = rounded(rt.alloc(), charstring_with(&[0x8b, 0x06], &tables), half);
     holds(&rt, matches!(found, Err(Error::NoMove)), "no move");
     for (eighths, is_near) in [(262138, true), (262140, false), (-262144, true)] {
         let mut code = Vec::new(rt.alloc());
         put_eighths(&rt, &mut code, &[eighths]);
         code.push(0x16).expect(&rt, "memory");
-        let found = rounded(rt.alloc(), over(&code, &tables), None);
+        let found = rounded(rt.alloc(), charstring_with(&code, &tables), None);
         holds(&rt, matches!(found, Ok(_)) == is_near, "how far");
         holds(
             &rt,
@@ -695,7 +705,7 @@ fn char_sets(rt: HostRuntime) {
         (THREE, &short, &[0, 0, 34, 1, 0x87]),
     ];
     for (font, names, wanted) in rows {
-        let bytes = called(&rt, rt.alloc(), font, names, 0);
+        let bytes = table_with_names(&rt, rt.alloc(), font, names, 0);
         let view = FontView::read(rt.alloc(), &bytes).expect(&rt, "a font");
         let place = view.dictionary.get_single(Operator::CharSet);
         let place = place

@@ -7,7 +7,11 @@ use std::alloc::Global;
 use std::process::Abort;
 
 /// A charstring with these global subroutines and scalars.
-fn over<'l>(code: &'l [u8], global: &'l [Vec<u8>], tables: &'l [Vec<u32>]) -> Charstring<'l> {
+fn charstring_with<'l>(
+    code: &'l [u8],
+    global: &'l [Vec<u8>],
+    tables: &'l [Vec<u32>],
+) -> Charstring<'l> {
     Charstring {
         code,
         subroutines: Subroutines::lists(global, &[]),
@@ -66,7 +70,7 @@ fn first_operations(rt: HostRuntime) {
         ),
     ];
     for (i, (code, dx, dy)) in rows.iter().enumerate() {
-        let mut program = over(code, &[], &tables).program(rt.alloc());
+        let mut program = charstring_with(code, &[], &tables).program(rt.alloc());
         let is_so = match program.step() {
             Ok(Some((operator, operands))) => {
                 operator == Operator::RMoveTo && are(operands, *dx, *dy)
@@ -109,7 +113,7 @@ fn refusals(rt: HostRuntime) {
         (&[0x8c, 0x15], Error::MalformedOperands),
     ];
     for (i, (code, wanted)) in rows.iter().enumerate() {
-        let mut program = over(code, &[], &tables).program(rt.alloc());
+        let mut program = charstring_with(code, &[], &tables).program(rt.alloc());
         let found = refusal_of(&mut program);
         holds_at(&rt, found == wanted.code(), "a refusal", i);
         let after = refusal_of(&mut program);
@@ -135,7 +139,7 @@ fn operands_at_their_limit(rt: HostRuntime) {
     for (i, (count, wanted)) in rows.iter().enumerate() {
         let mut code = vec![in rt.alloc(); 0x8b; *count].expect(&rt, "memory");
         code.push(0x06).expect(&rt, "memory");
-        let mut program = over(&code, &[], &tables).program(rt.alloc());
+        let mut program = charstring_with(&code, &[], &tables).program(rt.alloc());
         let found = refusal_of(&mut program);
         holds_at(&rt, found == *wanted, "operands", i);
     }
@@ -152,7 +156,7 @@ fn calls(rt: HostRuntime) {
         (&[0x20, 0x95, 0x7b, 0x8c, 0x10, 0x1d], 0),
     ];
     for (i, (code, wanted)) in rows.iter().enumerate() {
-        let mut program = over(code, &global, &tables).program(rt.alloc());
+        let mut program = charstring_with(code, &global, &tables).program(rt.alloc());
         let found = refusal_of(&mut program);
         holds_at(&rt, found == *wanted, "a call", i);
     }
@@ -171,7 +175,7 @@ fn a_limit(rt: HostRuntime) {
     let code = [0xef, 0x95, 0x77, 0x8c, 0x10, 0xbd, 0x15];
     let rows = [(10, 0, false), (11, 0, true), (12, 1, true)];
     for (i, (given, left, comes)) in rows.iter().enumerate() {
-        let mut program = over(&code, &[], &tables).program(rt.alloc());
+        let mut program = charstring_with(&code, &[], &tables).program(rt.alloc());
         let mut limit = *given;
         let first = tells(&mut program, &mut limit);
         holds_at(&rt, first == *comes, "an operation", i);

@@ -66,7 +66,7 @@ const XHGT: u32 = 0x78686774;
 const PLACE: [i16; 2] = [8192, -8192];
 
 /// A value in units of 2 ^ -16.
-fn fixed(value: i16) -> i32 {
+fn to_fixed(value: i16) -> i32 {
     i32::from(value) * 65536
 }
 
@@ -82,7 +82,7 @@ fn axes_and_instances(rt: HostRuntime) {
     let values = [wdth.minimum, wdth.default, wdth.maximum];
     holds(
         &rt,
-        values == [fixed(75), fixed(100), fixed(125)],
+        values == [to_fixed(75), to_fixed(100), to_fixed(125)],
         "its values",
     );
     holds(
@@ -118,13 +118,13 @@ fn coordinates(rt: HostRuntime) {
     ];
     let wght = axes.get(0).expect(&rt, "wght");
     for (i, (value, normalized, mapped, short)) in rows.iter().enumerate() {
-        let at = wght.normalized(fixed(*value));
+        let at = wght.normalized(to_fixed(*value));
         holds_at(&rt, at == *normalized, "normalized", i);
         holds_at(&rt, maps.mapped(0, at) == *mapped, "mapped", i);
         let settings = [
             setting(WGHT, 0),
             setting(WDTH, 5734400),
-            setting(WGHT, fixed(*value)),
+            setting(WGHT, to_fixed(*value)),
         ];
         let mut found = [7i16; 3];
         axes.normalize(Some(maps), &settings, &mut found);
@@ -215,7 +215,13 @@ fn read(table: Table, bytes: &[u8]) -> Result<()> {
 }
 
 /// A table with one byte changed.
-fn changed<R: Abort>(rt: &R, alloc: Global, table: &[u8], place: usize, byte: u8) -> Vec<u8> {
+fn with_changed_byte<R: Abort>(
+    rt: &R,
+    alloc: Global,
+    table: &[u8],
+    place: usize,
+    byte: u8,
+) -> Vec<u8> {
     let mut bytes = Vec::new(alloc);
     bytes.extend_from_slice(table).expect(rt, "memory");
     *bytes.get_mut(place).expect(rt, "a place") = byte;
@@ -256,7 +262,7 @@ fn unknown_tables(rt: HostRuntime) {
         (Table::Mvar, MVAR, 7, 7),
     ];
     for (i, (table, bytes, place, byte)) in rows.iter().enumerate() {
-        let other = changed(&rt, rt.alloc(), bytes, *place, *byte);
+        let other = with_changed_byte(&rt, rt.alloc(), bytes, *place, *byte);
         let found = read(*table, &other);
         holds_at(&rt, found == Err(Error::UnknownFormat), "a format", i);
     }
@@ -266,16 +272,16 @@ fn unknown_tables(rt: HostRuntime) {
 #[test]
 fn other_counts_of_axes(rt: HostRuntime) {
     let axes = Axes::read(FVAR).expect(&rt, "axes");
-    let one = changed(&rt, rt.alloc(), AVAR, 7, 1);
+    let one = with_changed_byte(&rt, rt.alloc(), AVAR, 7, 1);
     let maps = Maps::read(&one).expect(&rt, "one map");
-    let settings = [setting(WGHT, fixed(525)), setting(WDTH, fixed(110))];
+    let settings = [setting(WGHT, to_fixed(525)), setting(WDTH, to_fixed(110))];
     let mut found = [0i16; 2];
     axes.normalize(Some(maps), &settings, &mut found);
     holds(&rt, found == [8192, 6554], "one map");
     let advances = AdvanceVariations::read(HVAR).expect(&rt, "advances");
     let short = advances.variation(0, &[8192]);
     holds(&rt, short == Some(3276800), "one coordinate");
-    let of_one = changed(&rt, rt.alloc(), HVAR, 33, 1);
+    let of_one = with_changed_byte(&rt, rt.alloc(), HVAR, 33, 1);
     let advances = AdvanceVariations::read(&of_one).expect(&rt, "advances");
     let none = advances.variation(0, &found);
     holds(&rt, none == Some(0), "regions of one axis");

@@ -6,7 +6,7 @@ ghost use Rattle.postscript_variation.specs.Coordinates.{coordinate_by, mapped_w
 
 use crate::axes::{Axes, Axis};
 use crate::maps::Maps;
-use crate::normalize::shortened;
+use crate::normalize::to_f2dot14;
 
 /// A user coordinate for the axes with a tag, as wght=700.
 #[derive(Clone, Copy, Debug, Drop, PartialEq, Eq)]
@@ -18,7 +18,7 @@ pub struct Setting {
 }
 
 /// The value of a setting if it has the tag, otherwise `value`.
-fn chosen(settings: &[Setting], k: usize, tag: u32, value: i32) -> i32
+fn setting_or(settings: &[Setting], k: usize, tag: u32, value: i32) -> i32
     ensures { result ≡ the_chosen (slice_get settings.now k) tag value }
 {
     match settings.get(k) {
@@ -33,20 +33,21 @@ fn chosen(settings: &[Setting], k: usize, tag: u32, value: i32) -> i32
     }
 }
 
-/// The requested value along an axis: the last setting with its tag, or its default.
+/// Returns the user coordinate along an axis, in units of 2 ^ -16: the last setting with its tag, or its default.
 #[tactic(auto, using(crate::proofs::Asking::by_one_more))]
-fn value_of(settings: &[Setting], axis: &Axis) -> i32
+pub fn value_of(settings: &[Setting], axis: &Axis) -> i32
+    // The value of the last setting with the tag of the axis, or its default.
     ensures { result ≡ asked settings.now axis.now.tag axis.now.default }
 {
     let mut value = axis.default;
     for k in 0..settings.len() {
-        value = chosen(settings, k, axis.tag, value);
+        value = setting_or(settings, k, axis.tag, value);
     }
     value
 }
 
 /// Applies `avar`, if there is one, to a normalized coordinate.
-fn mapped(maps: Option<Maps<'_>>, axis: usize, at: i32) -> i32
+fn map_coordinate(maps: Option<Maps<'_>>, axis: usize, at: i32) -> i32
     ensures exact { result ≡ mapped_with maps.entry axis at }
     ensures least { negsuc 131071 ≤ℤ at → negsuc 131071 ≤ℤ result }
     ensures most { at ≤ℤ pos 131068 → result ≤ℤ pos 131068 }
@@ -61,7 +62,7 @@ fn mapped(maps: Option<Maps<'_>>, axis: usize, at: i32) -> i32
 fn coordinate_of(found: &Axis, axis: usize, maps: Option<Maps<'_>>, settings: &[Setting]) -> i16
     ensures { result ≡ coordinate_by found.now axis maps.entry settings.now }
 {
-    shortened(mapped(maps, axis, found.normalized(value_of(settings, found))))
+    to_f2dot14(map_coordinate(maps, axis, found.normalized(value_of(settings, found))))
 }
 
 impl<'l> Axes<'l> {

@@ -7,7 +7,7 @@ pub const TWO_DICTIONARIES: &str =
     "010004010000 00020101060ba5118dab12a5118dab12 0000 0000 00010101020e8d130000";
 
 /// The bytes that hex digits with spaces spell. None if they are no hex digits, or if memory runs out.
-pub fn decoded(alloc: Global, digits: &str) -> Option<Vec<u8>> {
+pub fn decode_digits(alloc: Global, digits: &str) -> Option<Vec<u8>> {
     let mut plain = Vec::new(alloc);
     push_digits(&mut plain, digits).ok()?;
     hex::decode(alloc, plain.as_slice()).ok()

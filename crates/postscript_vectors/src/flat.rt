@@ -1,7 +1,7 @@
 //! Flattened code, and desubroutinized code (no calls).
 use crate::checks::{bytes_of, holds};
 use crate::common::code_of;
-use crate::programs::{DOUBLING, routines_of, told};
+use crate::programs::{DOUBLING, describe_run, routines_of};
 use postscript::Result;
 use postscript::type2::{Charstring, Program, Subroutines};
 use std::alloc::Global;
@@ -94,7 +94,7 @@ const LEAST: &[(&str, &str, u64)] = &[
 ];
 
 /// The code without calls.
-fn written(alloc: Global, form: Form, code: &[u8], local: &[Vec<u8>]) -> Result<Vec<u8>> {
+fn flat_code(alloc: Global, form: Form, code: &[u8], local: &[Vec<u8>]) -> Result<Vec<u8>> {
     match form {
         Form::Flat => Program::flatten(alloc, code, &[], local),
         Form::Inlined => Program::inlined(alloc, code, &[], local),
@@ -102,7 +102,7 @@ fn written(alloc: Global, form: Form, code: &[u8], local: &[Vec<u8>]) -> Result<
 }
 
 /// The length of the code without calls.
-fn measured(alloc: Global, form: Form, code: &[u8], local: &[Vec<u8>]) -> Result<usize> {
+fn flat_length(alloc: Global, form: Form, code: &[u8], local: &[Vec<u8>]) -> Result<usize> {
     match form {
         Form::Flat => Program::flat_len(alloc, code, &[], local),
         Form::Inlined => Program::inlined_len(alloc, code, &[], local),
@@ -111,14 +111,14 @@ fn measured(alloc: Global, form: Form, code: &[u8], local: &[Vec<u8>]) -> Result
 
 /// Whether a code without calls stays as it is.
 fn stays<R: Abort>(rt: &R, alloc: Global, form: Form, code: &[u8]) -> bool {
-    let again = written(alloc, form, code, &[]).expect(rt, "the code again");
+    let again = flat_code(alloc, form, code, &[]).expect(rt, "the code again");
     again.as_slice() == code
 }
 
 /// Whether the runs of a code and of one without calls have the same results.
 fn are_same<R: Abort>(rt: &R, alloc: Global, code: &[u8], local: &[Vec<u8>], flat: &[u8]) -> bool {
-    let before = told(rt, alloc, code, (&[], local));
-    let after = told(rt, alloc, flat, (&[], &[]));
+    let before = describe_run(rt, alloc, code, (&[], local));
+    let after = describe_run(rt, alloc, flat, (&[], &[]));
     after.as_str() == before.as_str()
 }
 
@@ -127,9 +127,9 @@ fn check<R: Abort>(rt: &R, alloc: Global, form: Form, row: &Row) {
     let bytes = bytes_of(rt, alloc, row.0);
     let local = routines_of(rt, alloc, row.1);
     let wanted = bytes_of(rt, alloc, row.2);
-    let found = written(alloc, form, &bytes, &local).expect(rt, "a code");
+    let found = flat_code(alloc, form, &bytes, &local).expect(rt, "a code");
     holds(rt, found.as_slice() == wanted.as_slice(), row.0);
-    let length = measured(alloc, form, &bytes, &local).expect(rt, "a length");
+    let length = flat_length(alloc, form, &bytes, &local).expect(rt, "a length");
     holds(rt, length == wanted.len(), row.0);
     holds(rt, stays(rt, alloc, form, &wanted), row.0);
     holds(rt, are_same(rt, alloc, &bytes, &local, &wanted), row.0);
@@ -139,9 +139,9 @@ fn check<R: Abort>(rt: &R, alloc: Global, form: Form, row: &Row) {
 fn check_faulty<R: Abort>(rt: &R, alloc: Global, form: Form, row: &Faulty) {
     let bytes = bytes_of(rt, alloc, row.0);
     let local = routines_of(rt, alloc, row.1);
-    let code = code_of(written(alloc, form, &bytes, &local));
+    let code = code_of(flat_code(alloc, form, &bytes, &local));
     holds(rt, code == row.2, row.0);
-    let code = code_of(measured(alloc, form, &bytes, &local));
+    let code = code_of(flat_length(alloc, form, &bytes, &local));
     holds(rt, code == row.2, row.0);
 }
 
@@ -170,9 +170,9 @@ fn is_told_within<R: Abort>(rt: &R, alloc: Global, row: &(&str, &str, u64), limi
 fn check_moves<R: Abort>(rt: &R, alloc: Global, form: Form, wanted: usize) {
     let local = routines_of(rt, alloc, DOUBLING);
     let code = [0x20, 0x0a, 0x0e];
-    let found = written(alloc, form, &code, &local).expect(rt, "a code");
+    let found = flat_code(alloc, form, &code, &local).expect(rt, "a code");
     holds(rt, found.len() == wanted, "many moves");
-    let length = measured(alloc, form, &code, &local).expect(rt, "a length");
+    let length = flat_length(alloc, form, &code, &local).expect(rt, "a length");
     holds(rt, length == wanted, "the length of many moves");
     holds(rt, stays(rt, alloc, form, &found), "many moves again");
 }

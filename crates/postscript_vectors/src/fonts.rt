@@ -1,5 +1,5 @@
 //! Fonts, their summaries and their errors.
-use crate::checks::{bytes_of, changed, holds, holds_at, is_text, put, put_shown, read};
+use crate::checks::{bytes_of, holds, holds_at, is_text, put, put_shown, read, with_changed_byte};
 use crate::common::{TWO_DICTIONARIES, code_of};
 use crate::tapes::{Trouble, TroubledTape};
 use postscript::compact1::{FontSet, Header};
@@ -129,7 +129,7 @@ fn summary<R: Abort>(rt: &R, alloc: Global, font: &FontSet) -> String {
 }
 
 /// The summary of a font, or the code of the error.
-pub fn told<R: Abort>(rt: &R, alloc: Global, read: &Result<FontSet>) -> String {
+pub fn describe_font<R: Abort>(rt: &R, alloc: Global, read: &Result<FontSet>) -> String {
     match read {
         Ok(font) => summary(rt, alloc, font),
         Err(e) => {
@@ -142,7 +142,7 @@ pub fn told<R: Abort>(rt: &R, alloc: Global, read: &Result<FontSet>) -> String {
 
 /// Describes the font on a tape.
 pub fn told_on<R: Abort, T: Tape>(rt: &R, alloc: Global, tape: &mut T) -> String {
-    told(rt, alloc, &Tape::take::<FontSet>(tape, alloc))
+    describe_font(rt, alloc, &Tape::take::<FontSet>(tape, alloc))
 }
 
 /// Describes the font at the start of bytes.
@@ -191,7 +191,7 @@ fn rows_of_fonts(rt: HostRuntime) {
 
 /// Whether the smallest font with a byte changed is read as wanted.
 fn is_changed<R: Abort>(rt: &R, alloc: Global, change: &Change) -> bool {
-    let bytes = changed(rt, alloc, FONT, change.0, change.1);
+    let bytes = with_changed_byte(rt, alloc, FONT, change.0, change.1);
     told_of(rt, alloc, bytes.as_slice()).as_str() == change.2
 }
 
@@ -214,7 +214,7 @@ fn changed_and_cut_fonts(rt: HostRuntime) {
 fn local_subroutines_among_the_strings(rt: HostRuntime) {
     let alloc = rt.alloc();
     // Nothing follows the charstrings: the list of local subroutines is that of the strings.
-    let mut bytes = changed(&rt, alloc, FONT, 30, 0x81);
+    let mut bytes = with_changed_byte(&rt, alloc, FONT, 30, 0x81);
     bytes.truncate(32);
     let text = told_of(&rt, alloc, bytes.as_slice());
     is_text(&rt, text.as_str(), OF_FONT, "a font cut to 32");
@@ -242,7 +242,7 @@ fn a_clone(rt: HostRuntime) {
     let alloc = rt.alloc();
     let bytes = bytes_of(&rt, alloc, FONT);
     let font: FontSet = read(alloc, bytes.as_slice()).expect(&rt, "a font");
-    let text = told(&rt, alloc, &font.clone());
+    let text = describe_font(&rt, alloc, &font.clone());
     is_text(&rt, text.as_str(), OF_FONT, "a clone");
 }
 

@@ -1,7 +1,7 @@
 //! Hostile fonts and tapes.
-use crate::checks::{bytes_of, changed, holds, read};
+use crate::checks::{bytes_of, holds, read, with_changed_byte};
 use crate::common::code_of;
-use crate::fonts::{FONT, OF_FONT, told, told_on};
+use crate::fonts::{FONT, OF_FONT, describe_font, told_on};
 use crate::tapes::{Trouble, TroubledTape};
 use postscript::Tape;
 use postscript::compact1::FontSet;
@@ -16,7 +16,7 @@ fn is_of_a_font(code: u8) -> bool {
 /// Reads the smallest font with each value at one offset.
 fn check_values<R: Abort>(rt: &R, alloc: Global, place: usize) {
     for value in 0..=255u8 {
-        let bytes = changed(rt, alloc, FONT, place, value);
+        let bytes = with_changed_byte(rt, alloc, FONT, place, value);
         if !is_of_a_font(code_of(read::<FontSet>(alloc, bytes.as_slice()))) {
             panic!(rt; "at {place} with {value}")
         }
@@ -35,7 +35,7 @@ fn fonts_with_a_byte_changed(rt: HostRuntime) {
 fn is_told<R: Abort>(rt: &R, alloc: Global, bytes: &[u8], trouble: Trouble, wanted: &str) -> bool {
     let strictly = told_on(rt, alloc, &mut TroubledTape::new(bytes, trouble));
     let found = FontSet::read_lenient(alloc, &mut TroubledTape::new(bytes, trouble));
-    let leniently = told(rt, alloc, &found);
+    let leniently = describe_font(rt, alloc, &found);
     strictly.as_str() == wanted && leniently.as_str() == wanted
 }
 

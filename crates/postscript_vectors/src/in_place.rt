@@ -69,7 +69,11 @@ fn put_items<R: Abort>(rt: &R, alloc: Global, text: &mut String, items: &IndexVi
 }
 
 /// Describes an INDEX.
-fn told<R: Abort>(rt: &R, alloc: Global, answer: Result<(IndexView<'_>, usize)>) -> String {
+fn describe_index<R: Abort>(
+    rt: &R,
+    alloc: Global,
+    answer: Result<(IndexView<'_>, usize)>,
+) -> String {
     let mut text = String::new(alloc);
     match answer {
         Ok((items, next)) => {
@@ -86,9 +90,9 @@ fn indices_in_place(rt: HostRuntime) {
     let alloc = rt.alloc();
     for (digits, opened, read) in ROWS {
         let bytes = bytes_of(&rt, alloc, digits);
-        let found = told(&rt, alloc, IndexView::open(&bytes, 0));
+        let found = describe_index(&rt, alloc, IndexView::open(&bytes, 0));
         is_text(&rt, found.as_str(), opened, digits);
-        let found = told(&rt, alloc, IndexView::read(&bytes, 0));
+        let found = describe_index(&rt, alloc, IndexView::read(&bytes, 0));
         is_text(&rt, found.as_str(), read, digits);
     }
 }
@@ -98,9 +102,9 @@ fn wide_indices_in_place(rt: HostRuntime) {
     let alloc = rt.alloc();
     for (digits, opened, read) in WIDE_ROWS {
         let bytes = bytes_of(&rt, alloc, digits);
-        let found = told(&rt, alloc, IndexView::open_wide(&bytes, 0));
+        let found = describe_index(&rt, alloc, IndexView::open_wide(&bytes, 0));
         is_text(&rt, found.as_str(), opened, digits);
-        let found = told(&rt, alloc, IndexView::read_wide(&bytes, 0));
+        let found = describe_index(&rt, alloc, IndexView::read_wide(&bytes, 0));
         is_text(&rt, found.as_str(), read, digits);
     }
 }

@@ -1,7 +1,7 @@
 //! Fonts that lack Private DICTs or local subroutines, by both readings.
-use crate::checks::{changed, holds_at, is_text, put_shown, read};
+use crate::checks::{holds_at, is_text, put_shown, read, with_changed_byte};
 use crate::common::TWO_DICTIONARIES;
-use crate::fonts::{FONT, is_told, told};
+use crate::fonts::{FONT, describe_font, is_told};
 use postscript::Result;
 use postscript::compact1::{FontSet, Operations, Operator};
 use std::alloc::Global;
@@ -66,7 +66,7 @@ fn put_locals<R: Abort>(rt: &R, text: &mut String, read: &Result<FontSet>) {
 /// The summary of a font, and for each Private DICT the number of its operators and its default width. Or the code of
 /// the error.
 fn told_long<R: Abort>(rt: &R, alloc: Global, read: &Result<FontSet>) -> String {
-    let mut text = told(rt, alloc, read);
+    let mut text = describe_font(rt, alloc, read);
     put_locals(rt, &mut text, read);
     text
 }
@@ -75,7 +75,7 @@ fn told_long<R: Abort>(rt: &R, alloc: Global, read: &Result<FontSet>) -> String 
 fn clone_of_a_font_with_empty_lists(rt: HostRuntime) {
     let alloc = rt.alloc();
     // The first of two dictionaries has no Private DICT, and so no local subroutines.
-    let bytes = changed(&rt, alloc, TWO_DICTIONARIES, 16, 0x13);
+    let bytes = with_changed_byte(&rt, alloc, TWO_DICTIONARIES, 16, 0x13);
     let found = FontSet::read_lenient(alloc, &mut Cursor::new(bytes.as_slice()));
     let copy = found.expect(&rt, "a font").clone();
     let text = told_long(&rt, alloc, &copy);
@@ -86,7 +86,7 @@ fn clone_of_a_font_with_empty_lists(rt: HostRuntime) {
 fn fonts_by_both_readings(rt: HostRuntime) {
     let alloc = rt.alloc();
     for (row, (digits, place, byte, strict, lenient)) in ROWS.iter().enumerate() {
-        let bytes = changed(&rt, alloc, digits, *place, *byte);
+        let bytes = with_changed_byte(&rt, alloc, digits, *place, *byte);
         let text = told_long(&rt, alloc, &read(alloc, bytes.as_slice()));
         holds_at(&rt, text.as_str() == *strict, "strict row", row);
         let found = FontSet::read_lenient(alloc, &mut Cursor::new(bytes.as_slice()));

@@ -93,14 +93,14 @@ fn run<R: Abort>(rt: &R, alloc: Global, code: &[u8], lists: Lists<'_>) -> Answer
 }
 
 /// The results of the run of a code, as a text.
-pub fn told<R: Abort>(rt: &R, alloc: Global, code: &[u8], lists: Lists<'_>) -> String {
+pub fn describe_run<R: Abort>(rt: &R, alloc: Global, code: &[u8], lists: Lists<'_>) -> String {
     text_of(rt, alloc, &run(rt, alloc, code, lists))
 }
 
 /// Runs a code in hex, and compares the results.
 fn check<R: Abort>(rt: &R, alloc: Global, code: &str, lists: Lists<'_>, wanted: &str) {
     let bytes = bytes_of(rt, alloc, code);
-    let text = told(rt, alloc, bytes.as_slice(), lists);
+    let text = describe_run(rt, alloc, bytes.as_slice(), lists);
     is_text(rt, text.as_str(), wanted, code);
 }
 
@@ -280,7 +280,7 @@ fn next_and_step_by_turns(rt: HostRuntime) {
 fn is_run_so<R: Abort>(rt: &R, alloc: Global, number: &[u8], operand: Operand) -> bool {
     let mut code = Vec::from_slice(alloc, number).expect(rt, "memory");
     code.push(0x06).expect(rt, "memory");
-    let text = told(rt, alloc, code.as_slice(), (&[], &[]));
+    let text = describe_run(rt, alloc, code.as_slice(), (&[], &[]));
     let mut wanted = String::new(alloc);
     put_shown(rt, &mut wanted, "HLineTo ", &operand);
     put(rt, &mut wanted, " | end");

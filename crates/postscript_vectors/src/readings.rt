@@ -170,7 +170,7 @@ const WRAPPINGS: &[(Wrapping, &str)] = &[
 ];
 
 /// Sends a request to a tape.
-fn asked<T: Tape>(alloc: Global, tape: &mut T, question: &Question) -> Result<u64> {
+fn send_request<T: Tape>(alloc: Global, tape: &mut T, question: &Question) -> Result<u64> {
     match question {
         Question::Each => Ok(u64::from(read_each(alloc, tape)?.1)),
         Question::Byte => Ok(u64::from(Tape::take::<u8>(tape, alloc)?)),
@@ -180,7 +180,7 @@ fn asked<T: Tape>(alloc: Global, tape: &mut T, question: &Question) -> Result<u6
 }
 
 /// Sends a request to a troubled tape in a wrapping. The buffer holds one byte, so that nothing is read ahead.
-fn wrapped<R: Abort>(
+fn send_in_wrapping<R: Abort>(
     rt: &R,
     alloc: Global,
     tape: &mut TroubledTape<'_>,
@@ -188,11 +188,11 @@ fn wrapped<R: Abort>(
     question: &Question,
 ) -> Result<u64> {
     match wrapping {
-        Wrapping::Bare => asked(alloc, tape, question),
-        Wrapping::Opaque => asked(alloc, &mut Opaque(tape), question),
+        Wrapping::Bare => send_request(alloc, tape, question),
+        Wrapping::Opaque => send_request(alloc, &mut Opaque(tape), question),
         Wrapping::Buffered => {
             let buffered = BufReader::with_capacity(alloc, 1, tape);
-            asked(alloc, &mut buffered.expect(rt, "memory"), question)
+            send_request(alloc, &mut buffered.expect(rt, "memory"), question)
         }
     }
 }
@@ -213,7 +213,7 @@ fn answer<R: Abort>(
     wrapping: &Wrapping,
     question: &Question,
 ) -> Wanted<u64> {
-    match wrapped(rt, alloc, tape, wrapping, question) {
+    match send_in_wrapping(rt, alloc, tape, wrapping, question) {
         Ok(number) => Ok(number),
         Err(refusal) => Err(number_of(refusal)),
     }

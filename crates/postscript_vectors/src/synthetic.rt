@@ -39,12 +39,12 @@ pub fn charstring(alloc: Global, operations: usize) -> Result<Vec<u8>, AllocErro
 /// Adds the operation of this number.
 fn push_operation(code: &mut Vec<u8>, seed: &mut u32, i: usize) -> Result<(), AllocError> {
     if i % 32 == 0 && i > 0 {
-        code.extend_from_slice(&[0x13, drawn(seed)])?;
+        code.extend_from_slice(&[0x13, next_byte(seed)])?;
     } else {
         let (operator, operands) = match i {
             0 => (0x12, 4),
             1 => (0x17, 4),
-            _ => SHAPES[usize::from(drawn(seed) % 16)],
+            _ => SHAPES[usize::from(next_byte(seed) % 16)],
         };
         push_numbers(code, seed, operands)?;
         code.push(operator)?;
@@ -53,7 +53,7 @@ fn push_operation(code: &mut Vec<u8>, seed: &mut u32, i: usize) -> Result<(), Al
 }
 
 /// The next byte of the linear congruence.
-fn drawn(seed: &mut u32) -> u8 {
+fn next_byte(seed: &mut u32) -> u8 {
     *seed = seed.wrapping_mul(1_664_525).wrapping_add(1_013_904_223);
     (*seed >> 24) as u8
 }
@@ -61,12 +61,12 @@ fn drawn(seed: &mut u32) -> u8 {
 /// Adds `count` numbers.
 fn push_numbers(code: &mut Vec<u8>, seed: &mut u32, count: u8) -> Result<(), AllocError> {
     for _ in 0..count {
-        let form = drawn(seed) % 16;
-        let byte = drawn(seed);
+        let form = next_byte(seed) % 16;
+        let byte = next_byte(seed);
         match form {
-            0 => code.extend_from_slice(&[0xff, 0x00, byte, byte, drawn(seed)])?,
-            1 => code.extend_from_slice(&[0x1c, byte % 4, drawn(seed)])?,
-            2..=5 => code.extend_from_slice(&[0xf7 + byte % 8, drawn(seed)])?,
+            0 => code.extend_from_slice(&[0xff, 0x00, byte, byte, next_byte(seed)])?,
+            1 => code.extend_from_slice(&[0x1c, byte % 4, next_byte(seed)])?,
+            2..=5 => code.extend_from_slice(&[0xf7 + byte % 8, next_byte(seed)])?,
             _ => code.push(0x20 + byte % 215)?,
         }
     }

@@ -113,7 +113,7 @@ pub fn kept_metrics(
     vmtx: &[u8],
     origins: &[u16],
 ) -> Result<(Vec<u8>, Vec<u8>)>
-    // Each new glyph has the advance height and the top side bearing of its origin. The header is otherwise unchanged.
+    // Each new glyph has the advance height and bearing of its origin. The rest is unchanged.
     ensures kept { IfOk result (λ new. KeepsMetrics vhea.now vmtx.now origins.now new.0.items new.1.items) }
     // There are at most 65,535 glyphs.
     ensures few { IfOk result (λ new. length origins.now < 65536) }

@@ -108,7 +108,7 @@ fn read(vorg: &[u8]) -> Result<()>
 /// - `UnknownVersion`: the major version is not 1.
 /// - `NotAscending`: the records are not in strictly ascending order of their glyphs.
 pub fn kept_origins(alloc: Global, vorg: &[u8], origins: &[u16]) -> Result<Vec<u8>>
-    // The new table has the old default, and exactly the records of the origins that have one, under the new numbers.
+    // The new table has the old default and the records of the origins, under their new numbers.
     ensures kept { IfOk result (λ new. KeepsOrigins vorg.now origins.now new.items) }
     // The vertical origin of each new glyph has the y coordinate of its origin's.
     ensures placed { IfOk result (λ new. (i y : ℕ) → i < length origins.now → (IsOrigin new.items i y ↔ IsOrigin vorg.now (slice_index origins.now i) y)) }

@@ -65,7 +65,7 @@ impl Marks {
 
     /// The marks before ranges. Only one range for each glyph is of use.
     #[tactic(auto, using(crate::proofs::Covering::covered_more, crate::proofs::Covering::covered_none))]
-    pub(crate) fn before(ranges: &[u8], size: usize, glyphs: usize) -> Marks
+    pub(crate) fn of_ranges(ranges: &[u8], size: usize, glyphs: usize) -> Marks
         requires low { 1 ≤ size }
         requires high { size ≤ 2 }
         ensures marked { AreBefore ranges.now size result }

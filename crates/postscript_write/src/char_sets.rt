@@ -15,7 +15,7 @@ use postscript_base::compact1::StringID;
 use std::alloc::Global;
 
 /// The new SIDs or CIDs.
-fn renewed(alloc: Global, identifiers: &[StringID], strings: &Strings) -> Result<Vec<usize>>
+fn new_identifiers(alloc: Global, identifiers: &[StringID], strings: &Strings) -> Result<Vec<usize>>
     ensures new { IfOk result (λ new. new.items ≡ new_identifiers strings.now identifiers.now) }
     ensures memory { IfErr result (λ e. e ≡ errors.Refused causes.Memory) }
 {
@@ -117,10 +117,14 @@ fn names(alloc: Global, identifiers: &[usize]) -> Result<Vec<u8>>
 }
 
 /// A charset with the new SIDs or CIDs.
-pub(crate) fn listed(alloc: Global, identifiers: &[StringID], strings: &Strings) -> Result<Vec<u8>>
+pub(crate) fn set_of_list(
+    alloc: Global,
+    identifiers: &[StringID],
+    strings: &Strings,
+) -> Result<Vec<u8>>
     ensures text { IfOk result (λ out. IsSetFor strings.now identifiers.now (Some out.items)) }
     ensures memory { IfErr result (λ e. e ≡ errors.Refused causes.Memory) }
 {
-    let new = renewed(alloc, identifiers, strings)?;
+    let new = new_identifiers(alloc, identifiers, strings)?;
     names(alloc, &new)
 }

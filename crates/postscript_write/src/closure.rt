@@ -13,7 +13,7 @@ ghost use Rattle.postscript_write.specs.declared.error.Error.TheVariants as erro
 
 use crate::components::{none_known, push_components};
 use crate::error::{Error, Result};
-use crate::sources::unmarked;
+use crate::sources::no_marks;
 use postscript_type2::laws::limit_is_cost;
 use postscript_view::FontView;
 use std::alloc::Global;
@@ -117,7 +117,7 @@ pub(crate) fn closed_over(
     ensures refused { IfErr result (λ e. IsNotClosed font.now named.now e ⊎ Stops font.now named.now limit e) }
 {
     let mut left = limit;
-    let mut marks = unmarked(alloc, font.char_strings.len())?;
+    let mut marks = no_marks(alloc, font.char_strings.len())?;
     let mut closed = Vec::new(alloc);
     reach_all(&mut marks, &mut closed, named)?;
     reach(&mut marks, &mut closed, 0)?;

@@ -242,7 +242,11 @@ fn put_unless(
 
 /// The whole operations of a DICT as they are encoded, without some operators. If an operator occurs several times, only
 /// its last operation counts, so only that one is kept.
-pub(crate) fn without(alloc: Global, text: &[u8], left_out: &[Operator]) -> Result<Vec<u8>>
+pub(crate) fn operations_without(
+    alloc: Global,
+    text: &[u8],
+    left_out: &[Operator],
+) -> Result<Vec<u8>>
     ensures left { IfOk result (λ out. IsWithout text.now left_out.now out.items) }
     ensures text { IfOk result (λ out. IsLeftText text.now left_out.now 0 out.items) }
     ensures refused { IfErr result (λ e. e ≢ errors.Memory → (dictionary : Dictionary) → IsDictionary text.now 0 dictionary → ⊥) }
@@ -332,8 +336,8 @@ pub(crate) fn ros_first(alloc: Global, text: &[u8], left_out: &[Operator]) -> Re
     ensures within { IfOk result (λ out. length out.items ≤ length text.now) }
     ensures refused { IfErr result (λ e. e ≢ errors.Memory → (dictionary : Dictionary) → IsDictionary text.now 0 dictionary → ⊥) }
 {
-    let mut out = without(alloc, text, &NOT_ROS)?;
-    let rest = without(alloc, text, left_out)?;
+    let mut out = operations_without(alloc, text, &NOT_ROS)?;
+    let rest = operations_without(alloc, text, left_out)?;
     out.extend_from_slice(&rest)?;
     Ok(out)
 }
@@ -374,6 +378,6 @@ pub(crate) fn with_places(alloc: Global, text: &[u8], places: &[Place]) -> Resul
         IsDictionary text.now 0 old → ⊥) }
 {
     let operators = operators_of(alloc, places)?;
-    let rest = without(alloc, text, &operators)?;
+    let rest = operations_without(alloc, text, &operators)?;
     followed_by(rest, places)
 }

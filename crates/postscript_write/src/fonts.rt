@@ -154,13 +154,13 @@ pub fn kept_glyphs_within(
 ) -> Result<Vec<usize>>
     // The list has `.notdef`, the named glyphs and all components of listed ones, ascending.
     ensures kept { IfOk result (λ kept. AreKept named.now bytes.now kept.items) }
-    // The run of each kept glyph ends within what those before it leave of the limit, in some order.
+    // In some order, the run of each kept glyph ends within what is left of the limit.
     ensures within { OnOk result (KeepsWithin limit named.now bytes.now) }
     // A success means that the font set has exactly one font.
     ensures one { OnOk result (the_fonts bytes.now 0 ≡ Got 1 0) }
     // With named glyphs and another number of fonts the error is `SeveralFonts`.
     ensures several { 0 < length named.now → HasOtherFonts bytes.now → result ≡ Err errors.SeveralFonts }
-    // An error is justified by the list, the font set or the font, by the limit or a glyph that fails, or it is `Memory`.
+    // The list, the font set, the font, the limit or a glyph justifies an error, or it is `Memory`.
     ensures refused { IfErr result (λ e. IsChoiceRefusedBy named.now bytes.now e ⊎ StopsIn bytes.now named.now limit e) }
     // A success means that the font has all named glyphs.
     ensures there { OnOk result ((font : View) → IsLaidOut bytes.now 0 font → AreThere named.now (length font.char_strings)) }
@@ -343,13 +343,13 @@ pub fn subset_within(
     ensures drawn { IfOk result (λ subset. DrawsKept (choice_by retain_gids) named.now bytes.now subset.font.items) }
     // Each kept glyph has its old code without calls, its advance width, and its name or CID.
     ensures same { IfOk result (λ subset. GlyphsKept (choice_by retain_gids) named.now bytes.now subset.font.items) }
-    // The new font is well formed. It has exactly the kept glyphs, ascending, or all glyph numbers if glyphs keep them.
+    // The new font is well formed. It has exactly the kept glyphs, or all glyph numbers.
     ensures written { IfOk result (λ subset. IsSubset (IsFontBy retain_gids) (choice_by retain_gids) named.now bytes.now subset.font.items) }
-    // Each glyph that `kept_glyphs` returns is in the new font, at its index, or under its number if glyphs keep these.
+    // Each glyph of `kept_glyphs` is in the font, at its index, or under its old number.
     ensures all { IfOk result (λ subset. HasAllBy retain_gids named.now bytes.now subset.font.items) }
     // The list has `.notdef`, the named glyphs and all components of listed ones, ascending.
     ensures kept { IfOk result (λ subset. AreKept named.now bytes.now subset.kept.items) }
-    // The run of each kept glyph ends within what those before it leave of the limit, in some order.
+    // In some order, the run of each kept glyph ends within what is left of the limit.
     ensures within { OnOk result (KeepsWithin limit named.now bytes.now) }
     // No bytes are outside the parts of the font, and a Private DICT has no operator twice.
     ensures whole { IfOk result (λ subset. IsWholeFont subset.font.items) }
@@ -369,7 +369,7 @@ pub fn subset_within(
     ensures one { OnOk result (the_fonts bytes.now 0 ≡ Got 1 0) }
     // With named glyphs and another number of fonts the error is `SeveralFonts`.
     ensures several { 0 < length named.now → HasOtherFonts bytes.now → result ≡ Err errors.SeveralFonts }
-    // An error is justified by the list, the font or the first bad kept glyph, by the limit or a glyph that fails, or is `Memory`.
+    // The list, the font, a bad kept glyph or the limit justifies an error, or it is `Memory`.
     ensures refused { IfErr result (λ e. IsSubsetRefusedBy named.now (choice_by retain_gids) bytes.now e ⊎ StopsIn bytes.now named.now limit e) }
     // The error is not `MissingName` if glyphs keep their numbers.
     ensures names { IfErr result (λ e. retain_gids ≡ true → NeedsNoName e) }

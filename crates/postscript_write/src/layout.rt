@@ -32,7 +32,7 @@ ghost use Rattle.postscript_write.specs.Room.{HasFew, HasRoom, IsRead, SelectsOn
 ghost use Rattle.postscript_write.specs.Strings.{identifier_in as the_identifier};
 ghost use Rattle.postscript_write.specs.Written.{IsPut, IsPutTogether};
 
-use crate::dictionaries::{Place, ros_first, with_places, without};
+use crate::dictionaries::{Place, operations_without, ros_first, with_places};
 use crate::indices::put_index;
 use crate::naming::{SID_OPERATORS, identifier_in};
 use crate::spans::{char_set_end, encoding_end};
@@ -47,7 +47,7 @@ use postscript_view::{FontView, PrivateDict};
 use std::alloc::Global;
 
 /// A copy of the items.
-pub(crate) fn copied(alloc: Global, items: &IndexView<'_>) -> Result<Vec<Vec<u8>>>
+pub(crate) fn copy_items(alloc: Global, items: &IndexView<'_>) -> Result<Vec<Vec<u8>>>
     ensures items { IfOk result (λ all. texts all.items ≡ items_of items.now) }
     ensures memory { IfErr result (λ e. e ≡ errors.Memory) }
 {
@@ -155,7 +155,7 @@ fn own_private(alloc: Global, bytes: &[u8], dictionary: &Operations) -> Result<O
     }
     let (size, _offset, place) = bounds(0, dictionary)?;
     let source = slice_at(bytes, place, size)?;
-    let text = without(alloc, source, &[Operator::Subrs])?;
+    let text = operations_without(alloc, source, &[Operator::Subrs])?;
     Ok(Some(Private { text }))
 }
 
@@ -507,7 +507,11 @@ fn place_renamed(
 }
 
 /// The operators with new SIDs.
-fn renamed(alloc: Global, dictionary: &Operations, strings: &Strings) -> Result<Vec<Place>>
+fn renamed_operators(
+    alloc: Global,
+    dictionary: &Operations,
+    strings: &Strings,
+) -> Result<Vec<Place>>
     ensures places { IfOk result (λ places. places.items ≡ all_renamed strings.now dictionary.now) }
     ensures memory { IfErr result (λ e. e ≡ errors.Memory) }
 {
@@ -549,7 +553,7 @@ fn dictionary_with(alloc: Global, font: &FontView<'_>, strings: &Strings) -> Res
         AreTables font.now.bytes.now (number_at font.now.bytes.now 2 1) 0 (view_shown font.now).tables →
         All IsHeld (all_renamed strings.now font.now.dictionary) → ⊥) }
 {
-    let places = renamed(alloc, &font.dictionary, strings)?;
+    let places = renamed_operators(alloc, &font.dictionary, strings)?;
     let first = first_dictionary(font.bytes)?;
     let kept = without_private(alloc, font, first)?;
     with_places(alloc, &kept, &places)
@@ -592,7 +596,7 @@ fn put_tables(
     ensures refused { IfErr result (λ e. e ≢ errors.Memory → All IsHeld places.now → IsSomeDictionary dictionary.now →
         length dictionary.now + places_size places.now < 2 ^ 31 → FitsIndex (items_of font.now.names) → FitsIndex (texts strings.now) → ⊥) }
 {
-    let names = copied(alloc, &font.names)?;
+    let names = copy_items(alloc, &font.names)?;
     out.extend_from_slice(&[1, 0, 4, 4])?;
     put_index(out, &names)?;
     put_dictionary(alloc, out, dictionary, places)?;
@@ -635,7 +639,7 @@ fn put_private(out: &mut Vec<u8>, private: &Option<Private>) -> Result<()>
 }
 
 /// Private DICTs one after the other.
-fn joined(alloc: Global, privates: &[Option<Private>]) -> Result<Vec<u8>>
+fn join_privates(alloc: Global, privates: &[Option<Private>]) -> Result<Vec<u8>>
     ensures text { IfOk result (λ out. out.items ≡ privates_text privates.now) }
     ensures memory { IfErr result (λ e. e ≡ errors.Memory) }
 {
@@ -708,7 +712,7 @@ fn put_together(
         length dictionary.now ≤ length font.now.bytes.now + places_size (all_renamed glyphs.now.strings font.now.dictionary) → ⊥) }
 {
     let single = names_private(&glyphs.select, privates);
-    let text = joined(alloc, privates)?;
+    let text = join_privates(alloc, privates)?;
     let draft = font_array(alloc, font, glyphs, privates, 0)?;
     let pieces = pieces_of(glyphs, char_strings, single, &text, &draft);
     let tables = tables_of(alloc, font, dictionary, glyphs, &pieces, 0)?;
@@ -722,7 +726,7 @@ fn put_together(
 }
 
 /// A font with these charstrings and without subroutines.
-pub(crate) fn written(
+pub(crate) fn write_font(
     alloc: Global,
     font: &FontView<'_>,
     glyphs: &Glyphs,

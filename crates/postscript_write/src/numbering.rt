@@ -18,7 +18,7 @@ ghost use Rattle.postscript_write.specs.Refusals.{FontRefusedBy};
 ghost use Rattle.postscript_write.specs.Selected.{HaveSame, listed_text, range_text, ranges_text};
 ghost use Rattle.postscript_write.specs.declared.error.Error.TheVariants as errors;
 
-use crate::char_sets::listed;
+use crate::char_sets::set_of_list;
 use crate::error::{Error, Result, of_memory};
 use crate::layout::{Glyphs, own_char_set, own_encoding};
 use crate::number::put_number;
@@ -28,7 +28,7 @@ use postscript_view::{CharSetView, FontView};
 use std::alloc::Global;
 
 /// A copy of bytes, if there are any.
-fn copied(alloc: Global, bytes: Option<&[u8]>) -> Result<Option<Vec<u8>>>
+fn copy_bytes(alloc: Global, bytes: Option<&[u8]>) -> Result<Option<Vec<u8>>>
     ensures copied { IfOk result (λ copy. items_if copy ≡ option_map (λ lent. lent.now) bytes.entry) }
     ensures memory { IfErr result (λ e. e ≡ errors.Refused causes.Memory) }
 {
@@ -49,7 +49,7 @@ fn encoding_of(alloc: Global, font: &FontView<'_>) -> Result<Option<Vec<u8>>>
     ensures memory { IfErr result (λ e. e ≡ errors.Refused causes.Memory) }
 {
     match own_encoding(font.bytes, &font.dictionary) {
-        Ok(own) => copied(alloc, own),
+        Ok(own) => copy_bytes(alloc, own),
         Err(fault) => Err(of_memory(fault)),
     }
 }
@@ -62,7 +62,7 @@ fn char_set_of(alloc: Global, font: &FontView<'_>) -> Result<Option<Vec<u8>>>
     ensures memory { IfErr result (λ e. e ≡ errors.Refused causes.Memory) }
 {
     match own_char_set(font.bytes, &font.dictionary, font.char_strings.len()) {
-        Ok(own) => copied(alloc, own),
+        Ok(own) => copy_bytes(alloc, own),
         Err(fault) => Err(of_memory(fault)),
     }
 }
@@ -122,7 +122,7 @@ fn strings_of(
     if font.is_cid_keyed() {
         return Ok(Strings::every(alloc, font)?);
     }
-    Ok(Strings::needed(alloc, font, identifiers)?)
+    Ok(Strings::collect(alloc, font, identifiers)?)
 }
 
 /// Whether a glyph begins a range of FDSelect: it is the first one, or the glyph before it has another number.
@@ -215,7 +215,7 @@ fn select_of(alloc: Global, font: &FontView<'_>, numbers: &[usize]) -> Result<Op
 
 /// The data of glyphs apart from their charstrings. Without a list of SIDs or CIDs, charset, encoding and strings are
 /// unchanged. Otherwise the standard encoding replaces a custom one.
-pub(crate) fn numbered(
+pub(crate) fn number_glyphs(
     alloc: Global,
     font: &FontView<'_>,
     numbers: &[usize],
@@ -235,7 +235,7 @@ pub(crate) fn numbered(
     let strings = strings_of(alloc, font, identifiers)?;
     if let Some(identifiers) = identifiers {
         return Ok(Glyphs {
-            char_set: Some(listed(alloc, identifiers, &strings)?),
+            char_set: Some(set_of_list(alloc, identifiers, &strings)?),
             standard: encoding.is_some(),
             encoding: None,
             select,

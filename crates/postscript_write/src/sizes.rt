@@ -9,7 +9,7 @@ use postscript_base::index::IndexView;
 use postscript_view::FontView;
 
 /// The sum of two sizes, if it is below 2,000,000,000 bytes.
-fn added(sum: usize, more: usize) -> Option<usize>
+fn sum_within(sum: usize, more: usize) -> Option<usize>
     requires { sum < 2000000000 }
     ensures some { IfSome result (λ all. (all ≡ sum + more) × (all < 2000000000)) }
     ensures none { IfNone result (2000000000 ≤ sum + more) }
@@ -29,7 +29,7 @@ fn with_items(sum: usize, items: &IndexView<'_>) -> Option<usize>
 {
     let mut all = sum;
     for i in 0..items.len() {
-        all = added(all, items.item(i).len())?;
+        all = sum_within(all, items.item(i).len())?;
     }
     Some(all)
 }
@@ -42,14 +42,14 @@ fn with_codes(sum: usize, codes: &[Vec<u8>]) -> Option<usize>
 {
     let mut all = sum;
     for i in 0..codes.len() {
-        all = added(all, codes[i].len())?;
+        all = sum_within(all, codes[i].len())?;
     }
     Some(all)
 }
 
 /// The size of a font with these charstrings. `None` if it is too large.
 #[tactic(auto, using(crate::proofs::Sums::codes_are))]
-fn counted(font: &FontView<'_>, codes: &[Vec<u8>]) -> Option<usize>
+fn size_of_font(font: &FontView<'_>, codes: &[Vec<u8>]) -> Option<usize>
     ensures some { IfSome result (λ _. IsLarge font.now.bytes.now (view_shown font.now) (texts codes.now) → ⊥) }
     ensures none { IfNone result (IsLarge font.now.bytes.now (view_shown font.now) (texts codes.now)) }
 {
@@ -66,5 +66,5 @@ pub(crate) fn is_large(font: &FontView<'_>, codes: &[Vec<u8>]) -> bool
     ensures { MatchBool result (IsLarge font.now.bytes.now (view_shown font.now) (texts codes.now))
         (IsLarge font.now.bytes.now (view_shown font.now) (texts codes.now) → ⊥) }
 {
-    counted(font, codes).is_none()
+    size_of_font(font, codes).is_none()
 }

@@ -21,7 +21,7 @@ pub(crate) fn every(alloc: Global, glyphs: usize) -> Result<Vec<Option<usize>>>
 }
 
 /// Marks for glyphs, none of them set.
-pub(crate) fn unmarked(alloc: Global, glyphs: usize) -> Result<Vec<bool>>
+pub(crate) fn no_marks(alloc: Global, glyphs: usize) -> Result<Vec<bool>>
     ensures many { IfOk result (λ marks. length marks.items ≡ glyphs) }
     ensures none { IfOk result (λ marks. (glyph : ℕ) → glyph < glyphs → slice_index_or marks.items glyph false ≡ false) }
     ensures memory { IfErr result (λ e. e ≡ errors.Refused causes.Memory) }
@@ -30,11 +30,11 @@ pub(crate) fn unmarked(alloc: Global, glyphs: usize) -> Result<Vec<bool>>
 }
 
 /// Marks for glyphs, set at the named ones.
-fn marked(alloc: Global, named: &[usize], glyphs: usize) -> Result<Vec<bool>>
+fn marks_of(alloc: Global, named: &[usize], glyphs: usize) -> Result<Vec<bool>>
     ensures marks { IfOk result (λ marks. AreMarks named.now glyphs marks.items) }
     ensures refused { IfErr result (λ e. IsNotChosen named.now glyphs e) }
 {
-    let mut marks = unmarked(alloc, glyphs)?;
+    let mut marks = no_marks(alloc, glyphs)?;
     for i in 0..named.len() {
         let glyph = named[i];
         if glyph >= glyphs {
@@ -70,7 +70,7 @@ pub(crate) fn kept_of(alloc: Global, named: &[usize], glyphs: usize) -> Result<V
     ensures there { OnOk result (AreThere named.now glyphs) }
     ensures refused { IfErr result (λ e. IsNotChosen named.now glyphs e) }
 {
-    let marks = marked(alloc, named, glyphs)?;
+    let marks = marks_of(alloc, named, glyphs)?;
     let mut kept = Vec::new(alloc);
     for glyph in 0..glyphs {
         let keeps = is_kept(&marks, glyph);
@@ -92,7 +92,7 @@ fn made_of(alloc: Global, glyphs: &[usize]) -> Result<Vec<Option<usize>>>
 }
 
 /// The sources of a subset with new numbers.
-fn chosen(alloc: Global, named: &[usize], glyphs: usize) -> Result<Vec<Option<usize>>>
+fn renumbered_sources(alloc: Global, named: &[usize], glyphs: usize) -> Result<Vec<Option<usize>>>
     ensures sources { IfOk result (λ sources. sources.items ≡ the_chosen named.now glyphs) }
     ensures there { OnOk result (AreThere named.now glyphs) }
     ensures refused { IfErr result (λ e. IsNotChosen named.now glyphs e) }
@@ -109,12 +109,12 @@ fn kept_or_none(kept: bool, glyph: usize) -> Option<usize>
 }
 
 /// The sources of a subset with the old numbers, and empty glyphs between them.
-fn keeping(alloc: Global, named: &[usize], glyphs: usize) -> Result<Vec<Option<usize>>>
+fn sources_in_place(alloc: Global, named: &[usize], glyphs: usize) -> Result<Vec<Option<usize>>>
     ensures sources { IfOk result (λ sources. sources.items ≡ the_keeping named.now glyphs) }
     ensures there { OnOk result (AreThere named.now glyphs) }
     ensures refused { IfErr result (λ e. IsNotChosen named.now glyphs e) }
 {
-    let marks = marked(alloc, named, glyphs)?;
+    let marks = marks_of(alloc, named, glyphs)?;
     let mut sources = Vec::with_capacity(alloc, glyphs)?;
     for glyph in 0..glyphs {
         let kept = is_kept(&marks, glyph);
@@ -134,7 +134,7 @@ pub(crate) fn sources_by(
     ensures refused { IfErr result (λ e. IsNotChosen named.now glyphs e) }
 {
     if retain_gids {
-        return keeping(alloc, named, glyphs);
+        return sources_in_place(alloc, named, glyphs);
     }
-    chosen(alloc, named, glyphs)
+    renumbered_sources(alloc, named, glyphs)
 }

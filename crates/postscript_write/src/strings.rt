@@ -9,7 +9,7 @@ ghost use Rattle.postscript_write.specs.Parts.{naming};
 ghost use Rattle.postscript_write.specs.Renumbered.{new_identifier};
 ghost use Rattle.postscript_write.specs.Strings.{identifier_in as the_identifier};
 
-use crate::layout::copied;
+use crate::layout::copy_items;
 use crate::naming::{SID_OPERATORS, identifier_in};
 use postscript_base::Result;
 use postscript_base::compact1::{Operations, StringID};
@@ -63,13 +63,13 @@ impl Strings {
         ensures memory { IfErr result (λ e. e ≡ errors.Memory) }
     {
         Ok(Strings {
-            texts: copied(alloc, &font.strings)?,
+            texts: copy_items(alloc, &font.strings)?,
             renumbered: Vec::new(alloc),
         })
     }
 
     /// The strings of operators of the Top DICT, then the strings with the given SIDs, each once.
-    pub(crate) fn needed(
+    pub(crate) fn collect(
         alloc: Global,
         font: &FontView<'_>,
         identifiers: &[StringID],
@@ -79,7 +79,7 @@ impl Strings {
         ensures named { IfOk result (λ strings. AreNamed font.now.dictionary identifiers.now strings.renumbered.items) }
         ensures memory { IfErr result (λ e. e ≡ errors.Memory) }
     {
-        let named = named(alloc, &font.dictionary)?;
+        let named = sids_of(alloc, &font.dictionary)?;
         let mut strings = Strings::none(alloc, &font.strings)?;
         strings.add_all(alloc, &font.strings, &named)?;
         strings.add_all(alloc, &font.strings, identifiers)?;
@@ -141,7 +141,7 @@ impl Strings {
 }
 
 /// The SIDs of operators of a DICT.
-fn named(alloc: Global, dictionary: &Operations) -> Result<Vec<StringID>>
+fn sids_of(alloc: Global, dictionary: &Operations) -> Result<Vec<StringID>>
     ensures named { IfOk result (λ identifiers. identifiers.items ≡ filter_map (the_identifier dictionary.now) naming) }
     ensures memory { IfErr result (λ e. e ≡ errors.Memory) }
 {

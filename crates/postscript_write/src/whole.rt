@@ -24,8 +24,8 @@ ghost use Rattle.postscript_write.specs.declared.error.Error.TheVariants as erro
 
 use crate::error::{Error, Result, of_memory};
 use crate::glyphs::{codes_of, long_glyph, numbers_of};
-use crate::layout::written;
-use crate::numbering::{identifiers_of, numbered};
+use crate::layout::write_font;
+use crate::numbering::{identifiers_of, number_glyphs};
 use crate::sizes::is_large;
 use postscript_base::compact1::StringID;
 use postscript_view::{CharSetView, EncodingView, FontView};
@@ -76,8 +76,8 @@ fn put_together(
     ensures lenient { IfOk result (λ flat. HasLenientFont from.now.font.now.bytes.now → HasLenientFont flat.items) }
     ensures memory { IfErr result (λ e. e ≡ errors.Refused causes.Memory) }
 {
-    let glyphs = numbered(alloc, from.font, from.numbers, identifiers)?;
-    match written(alloc, from.font, &glyphs, from.codes) {
+    let glyphs = number_glyphs(alloc, from.font, from.numbers, identifiers)?;
+    match write_font(alloc, from.font, &glyphs, from.codes) {
         Ok(flat) => Ok(flat),
         Err(fault) => Err(of_memory(fault)),
     }

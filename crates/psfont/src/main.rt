@@ -55,7 +55,7 @@ fn limit_of(words: &[String]) -> Option<u64> {
 }
 
 /// Runs a session within a limit if the words ask for it, and `start` otherwise.
-fn answered<R: Input + Print + Files + AllocGlobal, E: Write>(
+fn run_session<R: Input + Print + Files + AllocGlobal, E: Write>(
     rt: &R,
     words: &[String],
     errors: &mut E,
@@ -77,7 +77,7 @@ fn main(rt: HostRuntime) -> ExitCode {
     let stderr = rt.stderr();
     let mut errors = io::writer(&stderr);
     ExitCode::from(match words_of(&rt) {
-        Ok(words) => match answered(&rt, words.as_slice(), &mut errors) {
+        Ok(words) => match run_session(&rt, words.as_slice(), &mut errors) {
             Ok(ended) => ended,
             Err(fault) => status(Err(fault), &mut errors),
         },

@@ -20,7 +20,7 @@ const WORDS: &[(&str, Option<u64>)] = &[
 ];
 
 /// Returns the limit in the words. It is also `None` if out of memory.
-fn named(alloc: Global, text: &str) -> Option<u64> {
+fn limit_in(alloc: Global, text: &str) -> Option<u64> {
     let mut words = Vec::new(alloc);
     for word in text.split(',') {
         words.push(word.to_string(alloc).ok()?).ok()?;
@@ -31,7 +31,7 @@ fn named(alloc: Global, text: &str) -> Option<u64> {
 #[test]
 fn limits_are_named(rt: HostRuntime) {
     for (row, (text, limit)) in WORDS.iter().enumerate() {
-        if named(rt.alloc(), text) != *limit {
+        if limit_in(rt.alloc(), text) != *limit {
             panic!(rt; "at row {row}")
         }
     }

@@ -187,7 +187,7 @@ impl Choice {
     }
 
     /// Returns all glyphs that are chosen or added, those of the characters, and `.notdef`, in ascending order.
-    pub fn named(&self, alloc: Global, face: &Face<'_>) -> Result<Vec<usize>, AllocError> {
+    pub fn all_glyphs(&self, alloc: Global, face: &Face<'_>) -> Result<Vec<usize>, AllocError> {
         let mut glyphs = Vec::from_slice(alloc, &[0])?;
         glyphs.extend_from_slice(&self.glyphs)?;
         glyphs.extend_from_slice(&self.varied)?;

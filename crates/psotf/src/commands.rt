@@ -271,11 +271,11 @@ fn single<'a>(alloc: Global, word: &Word) -> Arg<'a> {
     match *word {
         Word::File(name, help) => plain(alloc, name, help).required(true),
         Word::Files(name, _, help) => plain(alloc, name, help),
-        Word::Flag(name, help) => named(alloc, name, help).action(ArgAction::SetTrue),
-        Word::Text(name, value, help) => named(alloc, name, help).value_name(value),
+        Word::Flag(name, help) => long_option(alloc, name, help).action(ArgAction::SetTrue),
+        Word::Text(name, value, help) => long_option(alloc, name, help).value_name(value),
         Word::Number(name, help) => number(alloc, name, help),
         Word::Given(name, value, help) => number(alloc, name, help).default_value(value),
-        Word::Units(name, help) => named(alloc, name, help)
+        Word::Units(name, help) => long_option(alloc, name, help)
             .value_name("N")
             .value_parser(value_parser!(u64)),
         Word::Out(is_required, help) => plain(alloc, "out", help)
@@ -291,13 +291,13 @@ fn plain<'a>(alloc: Global, name: &'a str, help: &'a str) -> Arg<'a> {
 }
 
 /// Returns an option with two hyphens.
-fn named<'a>(alloc: Global, name: &'a str, help: &'a str) -> Arg<'a> {
+fn long_option<'a>(alloc: Global, name: &'a str, help: &'a str) -> Arg<'a> {
     plain(alloc, name, help).long(name)
 }
 
 /// Returns an option with a number.
 fn number<'a>(alloc: Global, name: &'a str, help: &'a str) -> Arg<'a> {
-    named(alloc, name, help)
+    long_option(alloc, name, help)
         .value_name("N")
         .value_parser(value_parser!(u16))
 }

@@ -10,10 +10,13 @@ pub fn by_files(error: postscript_files::Error) -> Failure {
     match error {
         postscript_files::Error::File(error) => Failure::from(error),
         postscript_files::Error::Font(postscript_write::Error::TooLong) => Failure::other(LONG),
-        postscript_files::Error::Font(error) => Failure::of("cannot write the CFF table", error),
+        postscript_files::Error::Font(error) => Failure::of_part(
+            "cannot write the CFF table",
+            error,
+        ),
         postscript_files::Error::MissingCharacter(char) => Failure::no_char(char),
         postscript_files::Error::MissingTable(tag) => Failure::no_table_of(tag),
-        error => Failure::of("cannot write the font file", error),
+        error => Failure::of_part("cannot write the font file", error),
     }
 }
 
@@ -21,6 +24,6 @@ pub fn by_files(error: postscript_files::Error) -> Failure {
 pub fn by_subset(error: postscript_subset::Error) -> Failure {
     match error {
         postscript_subset::Error::File(error) => by_files(error),
-        error => Failure::of("cannot write the font file", error),
+        error => Failure::of_part("cannot write the font file", error),
     }
 }

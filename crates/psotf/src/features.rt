@@ -67,7 +67,7 @@ impl Features {
     }
 
     /// Returns the features as the library takes them.
-    pub fn chosen(&self) -> Chosen<'_> {
+    pub fn for_library(&self) -> Chosen<'_> {
         if self.all {
             Chosen::All
         } else {

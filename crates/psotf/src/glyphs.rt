@@ -16,7 +16,7 @@ fn char_of(words: &ArgMatches<'_>) -> Result<u32, Failure> {
 }
 
 /// Returns the glyph that the arguments select.
-fn asked<G: Glyphs>(glyphs: &G, words: &ArgMatches<'_>) -> Result<u16, Failure> {
+fn chosen_glyph<G: Glyphs>(glyphs: &G, words: &ArgMatches<'_>) -> Result<u16, Failure> {
     if let Some(gid) = words.get_one::<u16>("gid") {
         return Ok(gid);
     }
@@ -34,12 +34,12 @@ fn asked<G: Glyphs>(glyphs: &G, words: &ArgMatches<'_>) -> Result<u16, Failure> 
 }
 
 /// Returns the range of glyphs that the arguments select.
-fn named<G: Glyphs>(glyphs: &G, words: &ArgMatches<'_>) -> Result<Range<u16>, Failure> {
+fn chosen_range<G: Glyphs>(glyphs: &G, words: &ArgMatches<'_>) -> Result<Range<u16>, Failure> {
     let count = glyphs.count();
     if words.get_flag("all") {
         return Ok(0..count);
     }
-    let gid = asked(glyphs, words)?;
+    let gid = chosen_glyph(glyphs, words)?;
     if gid >= count {
         return Err(Failure::no_glyph(u32::from(gid)));
     }
@@ -54,9 +54,9 @@ pub fn write<G: Glyphs, W: Write>(
     budget: &mut Budget,
     out: &mut W,
 ) -> Result<(), Failure> {
-    let gids = named(glyphs, words)?;
+    let gids = chosen_range(glyphs, words)?;
     match glyphs::write(rt, glyphs, gids, words.get_flag("json"), budget, out)? {
         0 => Ok(()),
-        refused => Err(Failure::refused(refused)),
+        refused => Err(Failure::of_glyphs(refused)),
     }
 }

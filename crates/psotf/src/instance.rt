@@ -67,7 +67,7 @@ fn failure_of(error: Error, budget: &mut Budget) -> Failure {
 
 /// Returns the static font of the instance in the arguments, with rounded points if `is_rounded` is true. It fails if a
 /// glyph costs more than the limit.
-fn made(
+fn make_font(
     rt: &HostRuntime,
     face: &VariableFace<'_>,
     words: &ArgMatches<'_>,
@@ -138,7 +138,7 @@ pub fn file_at(
     budget: &mut Budget,
     tells: bool,
 ) -> Result<Vec<u8>, Failure> {
-    let made = made(rt, face, words, budget, false)?;
+    let made = make_font(rt, face, words, budget, false)?;
     if tells {
         tell(rt, face, &made)?;
     }
@@ -153,7 +153,7 @@ pub fn write<W: Write>(
     budget: &mut Budget,
     out: &mut W,
 ) -> Result<(), Failure> {
-    let made = made(rt, face, words, budget, words.get_flag("round"))?;
+    let made = make_font(rt, face, words, budget, words.get_flag("round"))?;
     if !words.get_flag("quiet") {
         tell(rt, face, &made)?;
     }

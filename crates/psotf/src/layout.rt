@@ -11,7 +11,7 @@ use psotf_output::text::Text;
 use std::alloc::{AllocError, Global};
 
 /// Opens the font in the file again, as the library takes it.
-fn opened<'l>(face: &Face<'l>) -> Result<postscript_files::Face<'l>, Failure> {
+fn open_face<'l>(face: &Face<'l>) -> Result<postscript_files::Face<'l>, Failure> {
     match postscript_files::Face::open(face.source.bytes, face.source.number) {
         Ok(opened) => Ok(opened),
         Err(error) => Err(by_files(error)),
@@ -19,7 +19,7 @@ fn opened<'l>(face: &Face<'l>) -> Result<postscript_files::Face<'l>, Failure> {
 }
 
 /// Returns the glyphs below a number.
-fn below(alloc: Global, glyphs: &[usize], count: usize) -> Result<Vec<usize>, AllocError> {
+fn glyphs_below(alloc: Global, glyphs: &[usize], count: usize) -> Result<Vec<usize>, AllocError> {
     let mut found = Vec::new(alloc);
     for glyph in glyphs {
         if *glyph < count {
@@ -30,26 +30,30 @@ fn below(alloc: Global, glyphs: &[usize], count: usize) -> Result<Vec<usize>, Al
 }
 
 /// Returns the glyphs of variation sequences of the chosen characters, as far as the font has them.
-pub fn varied(alloc: Global, face: &Face<'_>, choice: &Choice<'_>) -> Result<Vec<usize>, Failure> {
-    match opened(face)?.sequence_glyphs(alloc, choice) {
-        Ok(glyphs) => Ok(below(alloc, &glyphs, face.font.char_strings.len())?),
+pub fn sequence_glyphs(
+    alloc: Global,
+    face: &Face<'_>,
+    choice: &Choice<'_>,
+) -> Result<Vec<usize>, Failure> {
+    match open_face(face)?.sequence_glyphs(alloc, choice) {
+        Ok(glyphs) => Ok(glyphs_below(alloc, &glyphs, face.font.char_strings.len())?),
         Err(error) => Err(by_files(error)),
     }
 }
 
 /// Returns the chosen glyphs, the glyphs of variation sequences of the chosen characters, and all that substitutions can
 /// make of these. It fails if the search costs more than the share of one glyph.
-pub fn closed(
+pub fn closed_glyphs(
     alloc: Global,
     face: &Face<'_>,
     choice: &Choice<'_>,
     features: &Features,
     budget: &mut Budget,
 ) -> Result<Vec<usize>, Failure> {
-    let opened = opened(face)?;
+    let opened = open_face(face)?;
     let share = budget.share();
     let mut left = share;
-    let found = glyphs_with_layout(alloc, &opened, choice, features.chosen(), &mut left);
+    let found = glyphs_with_layout(alloc, &opened, choice, features.for_library(), &mut left);
     budget.spend(share.saturating_sub(left));
     match found {
         Ok(glyphs) => Ok(glyphs),
@@ -59,7 +63,7 @@ pub fn closed(
 }
 
 /// Returns the subset with layout tables, within the rest of the budget.
-pub fn written(
+pub fn write_subset(
     alloc: Global,
     face: &Face<'_>,
     choice: &Choice<'_>,
@@ -68,7 +72,14 @@ pub fn written(
 ) -> Result<Subset, Failure> {
     let (bytes, number) = (face.source.bytes, face.source.number);
     let mut left = budget.left;
-    let written = subset_with_layout(alloc, bytes, number, choice, features.chosen(), &mut left);
+    let written = subset_with_layout(
+        alloc,
+        bytes,
+        number,
+        choice,
+        features.for_library(),
+        &mut left,
+    );
     budget.left = left;
     match written {
         Ok(subset) => Ok(subset),

@@ -182,7 +182,7 @@ fn write<W: Write>(
 }
 
 /// Prints a failure, and returns the exit status: 1, or 2 for wrong arguments. A closed pipe is no failure.
-fn told(rt: &HostRuntime, path: &str, failure: &Failure) -> io::Result<ExitCode> {
+fn report_failure(rt: &HostRuntime, path: &str, failure: &Failure) -> io::Result<ExitCode> {
     if failure.is_closed_pipe() {
         return Ok(ExitCode::SUCCESS);
     }
@@ -196,7 +196,7 @@ fn start(rt: &HostRuntime, name: &str, words: &ArgMatches<'_>) -> io::Result<Exi
     let path = words.get_str("FILE").unwrap_or("");
     match answer(rt, name, words, path, &mut out) {
         Ok(()) => Ok(ExitCode::SUCCESS),
-        Err(failure) => told(rt, path, &failure),
+        Err(failure) => report_failure(rt, path, &failure),
     }
 }
 
@@ -205,7 +205,7 @@ fn start_many(rt: &HostRuntime, name: &str, words: &ArgMatches<'_>) -> io::Resul
     let mut out = BufWriter::new(rt.alloc(), io::writer(rt))?;
     match many::write(rt, name, words, &mut out) {
         Ok(()) => Ok(ExitCode::SUCCESS),
-        Err(failure) => told(rt, name, &failure),
+        Err(failure) => report_failure(rt, name, &failure),
     }
 }
 
@@ -214,7 +214,7 @@ fn start_proof(rt: &HostRuntime) -> io::Result<ExitCode> {
     let mut out = BufWriter::new(rt.alloc(), io::writer(rt))?;
     match proof::write(rt, &mut out) {
         Ok(()) => Ok(ExitCode::SUCCESS),
-        Err(failure) => told(rt, "proof", &failure),
+        Err(failure) => report_failure(rt, "proof", &failure),
     }
 }
 
@@ -258,7 +258,7 @@ fn answer_to(rt: &HostRuntime, matches: &ArgMatches<'_>) -> io::Result<ExitCode>
 }
 
 /// Parses the arguments and runs the subcommand.
-fn answered(rt: &HostRuntime, words: &[String]) -> io::Result<ExitCode> {
+fn run_words(rt: &HostRuntime, words: &[String]) -> io::Result<ExitCode> {
     match psotf(rt.alloc(), words)?.try_get_matches_from(words) {
         Ok(matches) => answer_to(rt, &matches),
         Err(error) => told_by(rt, &error),
@@ -268,5 +268,5 @@ fn answered(rt: &HostRuntime, words: &[String]) -> io::Result<ExitCode> {
 fn main(rt: HostRuntime) -> anyhow::Result<ExitCode> {
     let mut words = words_of(&rt)?;
     complete(&rt, &mut words)?;
-    Ok(answered(&rt, words.as_slice())?)
+    Ok(run_words(&rt, words.as_slice())?)
 }

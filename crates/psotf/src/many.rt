@@ -73,7 +73,7 @@ fn list_of(rt: &HostRuntime, path: &str) -> Result<Vec<u8>, Failure> {
 }
 
 /// Returns a JSON object with the path and the error, without its closing brace and its line end.
-fn opening(alloc: Global, path: &str, failure: Option<&Failure>) -> Result<Vec<u8>, Failure> {
+fn object_start(alloc: Global, path: &str, failure: Option<&Failure>) -> Result<Vec<u8>, Failure> {
     let mut sheet = Sheet::new(alloc);
     sheet.begin_object();
     sheet.text("file", path);
@@ -95,7 +95,7 @@ fn row(
     failure: Option<&Failure>,
     printed: &[u8],
 ) -> Result<Vec<u8>, Failure> {
-    let mut row = opening(alloc, path, failure)?;
+    let mut row = object_start(alloc, path, failure)?;
     match printed.strip_prefix(b"{") {
         Some(members) => {
             row.push(b',')?;
@@ -158,7 +158,7 @@ pub fn write<W: Write>(
     let mut number = 0u64;
     for path in &paths {
         number = number.saturating_add(1);
-        progress.at(number);
+        progress.show(number);
         if !write_one(rt, name, words, path.as_str(), out)? {
             refused = refused.saturating_add(1);
         }

@@ -28,7 +28,7 @@ fn bytes_below(rt: &HostRuntime, folder: &PathBuf, place: &str) -> Result<Vec<u8
 }
 
 /// Returns the bytes of the first of these files that can be read.
-fn found(rt: &HostRuntime) -> Result<Vec<u8>, Failure> {
+fn read_first(rt: &HostRuntime) -> Result<Vec<u8>, Failure> {
     let folder = prefix(rt)?;
     for place in PLACES {
         if let Ok(bytes) = bytes_below(rt, &folder, place) {
@@ -40,7 +40,7 @@ fn found(rt: &HostRuntime) -> Result<Vec<u8>, Failure> {
 
 /// Prints how this program was proved: the commit, the toolchain, and the verdict for each crate.
 pub fn write<W: Write>(rt: &HostRuntime, out: &mut W) -> Result<(), Failure> {
-    let bytes = found(rt)?;
+    let bytes = read_first(rt)?;
     telling::put(out, &bytes)?;
     telling::flush(out)
 }

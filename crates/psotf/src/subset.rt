@@ -41,7 +41,7 @@ fn put_tags(numbers: &mut Vec<u32>, tags: &[[u8; 4]]) -> Result<(), AllocError> 
 }
 
 /// Returns the tags of the tables that are copied, apart from `GDEF`, `GPOS` and `GSUB`.
-fn copied(alloc: Global, words: &ArgMatches<'_>) -> Result<Vec<u32>, AllocError> {
+fn copied_tags(alloc: Global, words: &ArgMatches<'_>) -> Result<Vec<u32>, AllocError> {
     let mut tags = Vec::new(alloc);
     put_tags(&mut tags, &SAME)?;
     if words.get_flag("retain-gids") && keeps_layout(words) {
@@ -59,7 +59,7 @@ fn names_of(alloc: Global, table: &[u8], licence: bool) -> Result<Vec<u8>, Alloc
 }
 
 /// Returns the `name` table, if the font has it.
-fn given(alloc: Global, face: &Face<'_>, licence: bool) -> Result<Vec<Given>, AllocError> {
+fn given_tables(alloc: Global, face: &Face<'_>, licence: bool) -> Result<Vec<Given>, AllocError> {
     let mut given = Vec::new(alloc);
     if let Some(table) = face.source.file.table(*b"name") {
         let bytes = names_of(alloc, table, licence)?;
@@ -70,7 +70,7 @@ fn given(alloc: Global, face: &Face<'_>, licence: bool) -> Result<Vec<Given>, Al
 }
 
 /// Returns the choice as the library takes it.
-fn asked<'t>(
+fn library_choice<'t>(
     choice: &'t Choice,
     words: &ArgMatches<'_>,
     copied: &'t [u32],
@@ -161,8 +161,8 @@ fn put_sequences(
     words: &ArgMatches<'_>,
     choice: &mut Choice,
 ) -> Result<(), Failure> {
-    let asked = asked(choice, words, &[], &[], 0);
-    choice.varied = layout::varied(alloc, face, &asked)?;
+    let asked = library_choice(choice, words, &[], &[], 0);
+    choice.varied = layout::sequence_glyphs(alloc, face, &asked)?;
     Ok(())
 }
 
@@ -176,8 +176,8 @@ fn put_layout(
     choice: &mut Choice,
     budget: &mut Budget,
 ) -> Result<(), Failure> {
-    let asked = asked(choice, words, &[], &[], budget.limit);
-    choice.added = layout::closed(alloc, face, &asked, features, budget)?;
+    let asked = library_choice(choice, words, &[], &[], budget.limit);
+    choice.added = layout::closed_glyphs(alloc, face, &asked, features, budget)?;
     Ok(())
 }
 
@@ -198,12 +198,12 @@ fn subset_of(
     choice: &Choice,
     budget: &mut Budget,
 ) -> Result<Subset, Failure> {
-    let copied = copied(alloc, words)?;
-    let given = given(alloc, face, words.get_flag("keep-names"))?;
+    let copied = copied_tags(alloc, words)?;
+    let given = given_tables(alloc, face, words.get_flag("keep-names"))?;
     let limit = limit_of(face, budget);
-    let asked = asked(choice, words, &copied, &given, limit);
+    let asked = library_choice(choice, words, &copied, &given, limit);
     if keeps_layout(words) {
-        layout::written(alloc, face, &asked, features, budget)
+        layout::write_subset(alloc, face, &asked, features, budget)
     } else {
         layout::plain(alloc, face, &asked)
     }
@@ -220,14 +220,14 @@ pub fn write<W: Write>(
 ) -> Result<(), Failure> {
     let mut choice = Choice::read(rt.alloc(), face, words)?;
     let features = Features::read(rt.alloc(), words)?;
-    let chosen = choice.named(rt.alloc(), face)?.len();
+    let chosen = choice.all_glyphs(rt.alloc(), face)?.len();
     put_shaped(rt.alloc(), face, words, &mut choice)?;
     if keeps_layout(words) {
         put_layout(rt.alloc(), face, words, &features, &mut choice, budget)?;
     } else {
         put_sequences(rt.alloc(), face, words, &mut choice)?;
     }
-    let named = choice.named(rt.alloc(), face)?;
+    let named = choice.all_glyphs(rt.alloc(), face)?;
     tell_added(rt, words, named.len(), chosen)?;
     let subset = subset_of(rt.alloc(), face, words, &features, &choice, budget)?;
     if !words.get_flag("quiet") {

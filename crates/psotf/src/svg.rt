@@ -2,8 +2,8 @@
 use clap::ArgMatches;
 use postscript_sfnt::CharacterMap;
 use psotf_drawing::glyphs::Glyphs;
-use psotf_drawing::svg::{CLOSING, opening, put, put_text};
-use psotf_font::characters::missing;
+use psotf_drawing::svg::{CLOSING, picture_start, put, put_text};
+use psotf_font::characters::missing_characters;
 use psotf_output::failure::Failure;
 use psotf_output::limit::Budget;
 use psotf_output::saving::Output;
@@ -20,7 +20,7 @@ fn see_missing(
     words: &ArgMatches<'_>,
     text: &str,
 ) -> Result<(), Failure> {
-    let missing = missing(rt.alloc(), map, text)?;
+    let missing = missing_characters(rt.alloc(), map, text)?;
     if !missing.is_empty() {
         match words.get_str("missing") {
             Some("draw") => tell(rt, format_args!("the font has no glyph for:{missing}"))?,
@@ -56,7 +56,7 @@ fn write_picture<W: Write>(
     output: &mut Output<'_>,
     out: &mut W,
 ) -> Result<(), Failure> {
-    output.take(rt, &mut opening(rt.alloc(), units, width), out)?;
+    output.take(rt, &mut picture_start(rt.alloc(), units, width), out)?;
     output.take(rt, paths, out)?;
     output.put(rt, CLOSING, out)
 }
@@ -74,7 +74,7 @@ pub fn write<G: Glyphs, W: Write>(
     if paths.has_failed() {
         return Err(Failure::from(AllocError));
     }
-    let mut output = Output::of(rt, words.get_str("out"))?;
+    let mut output = Output::open(rt, words.get_str("out"))?;
     let written = write_picture(rt, glyphs.units(), width, &mut paths, &mut output, out);
     output.end(rt, written)
 }

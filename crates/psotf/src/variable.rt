@@ -2,7 +2,7 @@
 use crate::{glyphs, instance, svg};
 use clap::ArgMatches;
 use psotf_drawing::variable::glyphs::Placed;
-use psotf_drawing::variable::place::{Chosen, axis_named, chosen};
+use psotf_drawing::variable::place::{Chosen, axis_named, chosen_location};
 use psotf_drawing::variable::{VariableFace, holds, moving};
 use psotf_output::failure::Failure;
 use psotf_output::limit::Budget;
@@ -14,7 +14,7 @@ pub fn chosen_by(
     face: &VariableFace<'_>,
     words: &ArgMatches<'_>,
 ) -> Result<Chosen, Failure> {
-    chosen(
+    chosen_location(
         rt,
         face,
         words.get_str("instance"),
@@ -50,7 +50,7 @@ fn write_moving<W: Write>(
     let alloc = rt.alloc();
     let (gid, text) = (words.get_one::<u16>("gid"), words.get_str("text"));
     let axis = axis_named(alloc, face, name)?;
-    let gids = moving::asked(alloc, face, gid, text.unwrap_or(""))?;
+    let gids = moving::chosen_glyphs(alloc, face, gid, text.unwrap_or(""))?;
     let chosen = chosen_by(rt, face, words)?;
     let path = words.get_str("out");
     moving::write(rt, face, &axis, &gids, &chosen, path, budget, out)

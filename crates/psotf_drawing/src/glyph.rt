@@ -42,7 +42,7 @@ pub fn shape<W: Write>(sheet: &mut Sheet, outline: &Outline, out: &mut W) -> Res
 }
 
 /// Writes the width and the outline of a glyph.
-fn drawn<W: Write>(
+fn put_drawn<W: Write>(
     sheet: &mut Sheet,
     glyph: &Glyph<'_, '_>,
     outline: &Outline,
@@ -57,7 +57,7 @@ fn drawn<W: Write>(
 }
 
 /// Writes the error of a glyph, and null for all parts of its drawing.
-fn refused(sheet: &mut Sheet, refusal: &Refusal) {
+fn put_error(sheet: &mut Sheet, refusal: &Refusal) {
     for key in ["width", "bounds", "tight_bounds", "segments", "operations"] {
         sheet.key(key);
         sheet.null();
@@ -94,7 +94,7 @@ fn operations<W: Write>(
 }
 
 /// Writes the outline and the operations of a glyph, or its error. Returns whether it is drawn.
-fn drawing<W: Write>(
+fn put_drawing<W: Write>(
     alloc: Global,
     sheet: &mut Sheet,
     face: &Face<'_>,
@@ -104,12 +104,12 @@ fn drawing<W: Write>(
 ) -> Result<bool, Failure> {
     match draw(alloc, face, gid, budget) {
         Ok((glyph, outline)) => {
-            drawn(sheet, &glyph, &outline, out)?;
+            put_drawn(sheet, &glyph, &outline, out)?;
             operations(sheet, &mut glyph.program(alloc), budget, out)?;
             Ok(true)
         }
         Err(refusal) => {
-            refused(sheet, &refusal);
+            put_error(sheet, &refusal);
             Ok(false)
         }
     }
@@ -130,7 +130,7 @@ pub fn object<W: Write>(
     name(sheet, face, gid);
     chars(sheet, of_glyph(mapped, gid));
     sheet.number("advance", u64::from(face.advances.of(gid)));
-    let is_drawn = drawing(alloc, sheet, face, gid, budget, out)?;
+    let is_drawn = put_drawing(alloc, sheet, face, gid, budget, out)?;
     sheet.end_object();
     Ok(is_drawn)
 }

@@ -127,7 +127,7 @@ fn write_page(
     stopped: &mut Stopped<'_>,
 ) -> Result<(), Failure> {
     let path = common.pages.path_of(rt.alloc(), first)?;
-    let mut file = NewFile::at(rt, path.as_str())?;
+    let mut file = NewFile::create(rt, path.as_str())?;
     let written = write_all(rt, common, first, budget, stopped, &mut file);
     file.end(rt, written)
 }

@@ -61,7 +61,7 @@ fn put_names(alloc: Global, face: &Face<'_>, gid: u16, labels: &mut Labels<'_>) 
 /// Adds the error of a glyph.
 fn put_refusal(alloc: Global, refusal: &Refusal, labels: &mut Labels<'_>) {
     match format!(in alloc; "{refusal}") {
-        Ok(why) => labels.wrapped(why.as_str()),
+        Ok(why) => labels.put_wrapped(why.as_str()),
         Err(_) => labels.picture.fail(),
     }
 }
@@ -186,7 +186,7 @@ pub fn write<W: Write>(
     out: &mut W,
 ) -> Result<(), Failure> {
     let mut stopped = Stopped::new(rt);
-    let mut output = Output::of(rt, path)?;
+    let mut output = Output::open(rt, path)?;
     let written = write_picture(rt, face, gids, budget, &mut stopped, &mut output, out);
     output.end(rt, written)?;
     stopped.end()

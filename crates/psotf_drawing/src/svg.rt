@@ -69,7 +69,7 @@ pub fn put_text<G: Glyphs>(
 pub const CLOSING: &[u8] = b"</g>\n</svg>\n";
 
 /// Returns the beginning of a picture of paths on a line, with `units` units per em.
-pub fn opening(alloc: Global, units: u16, width: i64) -> Text {
+pub fn picture_start(alloc: Global, units: u16, width: i64) -> Text {
     let units = u64::from(units);
     let height = units.saturating_mul(2);
     let mut text = Text::new(alloc);

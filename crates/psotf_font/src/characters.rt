@@ -42,7 +42,7 @@ pub fn by_glyph(alloc: Global, map: &Option<CharacterMap<'_>>) -> Result<Vec<Map
 }
 
 /// Returns the characters of a text that have no glyph, each once. Each is written as a space, `U+` and its number.
-pub fn missing(
+pub fn missing_characters(
     alloc: Global,
     map: &Option<CharacterMap<'_>>,
     text: &str,
@@ -68,7 +68,7 @@ pub fn refuse_missing(
     map: &Option<CharacterMap<'_>>,
     text: &str,
 ) -> Result<(), Failure> {
-    let missing = missing(alloc, map, text)?;
+    let missing = missing_characters(alloc, map, text)?;
     if missing.is_empty() {
         Ok(())
     } else {

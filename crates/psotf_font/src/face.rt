@@ -45,7 +45,7 @@ pub struct Face<'l> {
 }
 
 /// Returns the family and the style in the `name` table.
-pub fn called<'l>(names: &Option<Names<'l>>) -> (Option<Name<'l>>, Option<Name<'l>>) {
+pub fn family_and_style<'l>(names: &Option<Names<'l>>) -> (Option<Name<'l>>, Option<Name<'l>>) {
     match names {
         Some(names) => (names.family(), names.style()),
         None => (None, None),
@@ -53,7 +53,7 @@ pub fn called<'l>(names: &Option<Names<'l>>) -> (Option<Name<'l>>, Option<Name<'
 }
 
 /// Returns a required table.
-pub fn needed<'l>(
+pub fn required_table<'l>(
     file: &FontFile<'l>,
     tag: [u8; 4],
     name: &'static str,
@@ -66,8 +66,8 @@ pub fn needed<'l>(
 
 /// Returns the advances of a font.
 fn advances_of<'l>(file: &FontFile<'l>) -> Result<Advances<'l>, Failure> {
-    let hhea = needed(file, [b'h', b'h', b'e', b'a'], "hhea")?;
-    let hmtx = needed(file, [b'h', b'm', b't', b'x'], "hmtx")?;
+    let hhea = required_table(file, [b'h', b'h', b'e', b'a'], "hhea")?;
+    let hmtx = required_table(file, [b'h', b'm', b't', b'x'], "hmtx")?;
     match Advances::read(hhea, hmtx) {
         Some(advances) => Ok(advances),
         None => Err(Failure::cut("hmtx")),
@@ -75,7 +75,7 @@ fn advances_of<'l>(file: &FontFile<'l>) -> Result<Advances<'l>, Failure> {
 }
 
 /// Reads the font of a `CFF ` table. An error names the part and the rule.
-fn opened<'l>(alloc: Global, cff: &'l [u8]) -> Result<FontView<'l>, Failure> {
+fn open_font<'l>(alloc: Global, cff: &'l [u8]) -> Result<FontView<'l>, Failure> {
     if is_too_much(alloc, cff) {
         return Err(Failure::dictionaries());
     }
@@ -114,7 +114,7 @@ fn other_outlines(file: &FontFile<'_>) -> Option<&'static str> {
 
 /// Returns the bytes of the `CFF ` table.
 fn cff_of<'l>(file: &FontFile<'l>) -> Result<&'l [u8], Failure> {
-    match needed(file, *b"CFF ", "CFF") {
+    match required_table(file, *b"CFF ", "CFF") {
         Ok(table) => Ok(table),
         Err(failure) => match other_outlines(file) {
             Some(kind) => Err(Failure::other_kind(kind)),
@@ -126,8 +126,8 @@ fn cff_of<'l>(file: &FontFile<'l>) -> Result<&'l [u8], Failure> {
 impl<'l> Common<'l> {
     /// Reads the parts of a font of a file.
     pub fn open(file: &FontFile<'l>) -> Result<Common<'l>, Failure> {
-        let head = needed(file, *b"head", "head")?;
-        let maxp = needed(file, *b"maxp", "maxp")?;
+        let head = required_table(file, *b"head", "head")?;
+        let maxp = required_table(file, *b"maxp", "maxp")?;
         let Some(units) = units_per_em(head) else {
             return Err(Failure::cut("head"));
         };
@@ -187,7 +187,7 @@ impl<'l> Face<'l> {
             names,
         } = Common::open(&source.file)?;
         let faces = faces(source.bytes)?;
-        let font = opened(alloc, cff)?;
+        let font = open_font(alloc, cff)?;
         let set = font.char_set().ok();
         Ok(Face {
             source,

@@ -1,7 +1,7 @@
 //! The command `inspect`.
 use crate::characters::count;
 use crate::dictionaries::{self, Kind};
-use crate::face::{Face, called};
+use crate::face::{Face, family_and_style};
 use crate::hints::{Runs, run_all};
 use crate::{layouts, readings};
 use postscript_base::compact1::Operator;
@@ -134,7 +134,7 @@ fn font(alloc: Global, sheet: &mut Sheet, face: &Face<'_>, runs: &Runs) {
 
 /// Writes names and counts of the font.
 fn head(alloc: Global, sheet: &mut Sheet, face: &Face<'_>) {
-    let (family, style) = called(&face.names);
+    let (family, style) = family_and_style(&face.names);
     sheet.name("family", family);
     sheet.name("style", style);
     sheet.name("version", version(face));
@@ -168,7 +168,7 @@ fn object<W: Write>(
 
 /// Adds the lines of the names.
 fn name_lines(alloc: Global, lines: &mut Text, face: &Face<'_>) {
-    let (family, style) = called(&face.names);
+    let (family, style) = family_and_style(&face.names);
     lines.put_named("family", family);
     lines.put_named("style", style);
     lines.put_named("version", version(face));

@@ -8,7 +8,7 @@ use postscript_view::tables::{header_size, operations_of, slice_at};
 use psotf_output::rules::Spot;
 use std::alloc::Global;
 
-fn at(part: &'static str, place: u64) -> Spot {
+fn spot_at(part: &'static str, place: u64) -> Spot {
     Spot {
         part,
         place: Some(place),
@@ -16,7 +16,7 @@ fn at(part: &'static str, place: u64) -> Spot {
 }
 
 /// Returns a part that a DICT should name.
-fn named(part: &'static str) -> Spot {
+fn spot_of_part(part: &'static str) -> Spot {
     Spot { part, place: None }
 }
 
@@ -31,13 +31,13 @@ const BEHIND_THE_HEADER: [&str; 4] = [
 /// Returns the part in which the in-place reader rejects a table.
 pub fn spot_of(alloc: Global, cff: &[u8]) -> Spot {
     let Ok(size) = header_size(cff) else {
-        return at("the header", 0);
+        return spot_at("the header", 0);
     };
     let mut place = size;
     for part in &BEHIND_THE_HEADER {
         match IndexView::open(cff, place) {
             Ok((_items, next)) => place = next,
-            Err(_) => return at(*part, place as u64),
+            Err(_) => return spot_at(*part, place as u64),
         }
     }
     in_dictionary(alloc, cff, size)
@@ -46,48 +46,48 @@ pub fn spot_of(alloc: Global, cff: &[u8]) -> Spot {
 /// Continues in the Top DICT INDEX. All INDEXes after the header are well formed.
 fn in_dictionary(alloc: Global, cff: &[u8], start: usize) -> Spot {
     let Ok((_names, place)) = IndexView::open(cff, start) else {
-        return at("the Name INDEX", start as u64);
+        return spot_at("the Name INDEX", start as u64);
     };
     let Ok((dictionaries, _next)) = IndexView::open(cff, place) else {
-        return at("the Top DICT INDEX", place as u64);
+        return spot_at("the Top DICT INDEX", place as u64);
     };
     let Some(item) = dictionaries.get(0) else {
-        return at("the Top DICT", place as u64);
+        return spot_at("the Top DICT", place as u64);
     };
     match operations_of(alloc, item) {
         Ok(dictionary) => in_parts(alloc, cff, &dictionary),
-        Err(_) => at("the Top DICT", place as u64),
+        Err(_) => spot_at("the Top DICT", place as u64),
     }
 }
 
 /// Continues in the parts that the Top DICT names.
 fn in_parts(alloc: Global, cff: &[u8], dictionary: &Operations) -> Spot {
     let Ok(place) = place_at(0, 0, dictionary, Operator::CharStrings) else {
-        return named("the operator CharStrings of the Top DICT");
+        return spot_of_part("the operator CharStrings of the Top DICT");
     };
     if place > cff.len() as u64 || IndexView::open(cff, place as usize).is_err() {
-        return at("the CharStrings INDEX", place);
+        return spot_at("the CharStrings INDEX", place);
     }
     if dictionary.get(Operator::ROS).is_some() {
         return match place_at(0, 0, dictionary, Operator::FDArray) {
-            Ok(place) => at("the Font DICT INDEX", place),
-            Err(_) => named("the operator FDArray of the Top DICT"),
+            Ok(place) => spot_at("the Font DICT INDEX", place),
+            Err(_) => spot_of_part("the operator FDArray of the Top DICT"),
         };
     }
     let Ok((size, _offset, place)) = bounds(0, dictionary) else {
-        return named("the operator Private of the Top DICT");
+        return spot_of_part("the operator Private of the Top DICT");
     };
     match slice_at(cff, place, size) {
         Ok(text) => in_private(alloc, place, text),
-        Err(_) => at("the Private DICT", place),
+        Err(_) => spot_at("the Private DICT", place),
     }
 }
 
 /// Continues in the Private DICT, whose bytes are within the table.
 fn in_private(alloc: Global, place: u64, text: &[u8]) -> Spot {
     match operations_of(alloc, text) {
-        Ok(_dictionary) => at("the local subroutines of the Private DICT", place),
-        Err(_) => at("the Private DICT", place),
+        Ok(_dictionary) => spot_at("the local subroutines of the Private DICT", place),
+        Err(_) => spot_at("the Private DICT", place),
     }
 }
 
@@ -190,7 +190,7 @@ fn dictionary_at(error: &Error) -> Option<&'static str> {
 /// the error is about an operator, and otherwise the part that begins last before `place`.
 pub fn spot_by(alloc: Global, cff: &[u8], error: &Error, place: u64) -> Spot {
     match dictionary_at(error) {
-        Some(part) => named(part),
-        None => at(part_at(alloc, cff, place), place),
+        Some(part) => spot_of_part(part),
+        None => spot_at(part_at(alloc, cff, place), place),
     }
 }

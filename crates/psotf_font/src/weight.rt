@@ -23,7 +23,7 @@ pub fn dictionary_of(alloc: Global, cff: &[u8]) -> Option<Operations> {
 }
 
 /// Returns the offset of the part that an operator names.
-fn named(cff: &[u8], dictionary: &Operations, operator: Operator) -> Option<usize> {
+fn named_offset(cff: &[u8], dictionary: &Operations, operator: Operator) -> Option<usize> {
     let place = place_at(0, 0, dictionary, operator).ok()?;
     if place > cff.len() as u64 {
         return None;
@@ -37,7 +37,7 @@ fn items_of<'l>(
     dictionary: &Operations,
     operator: Operator,
 ) -> Option<IndexView<'l>> {
-    let (items, _next) = IndexView::open(cff, named(cff, dictionary, operator)?).ok()?;
+    let (items, _next) = IndexView::open(cff, named_offset(cff, dictionary, operator)?).ok()?;
     Some(items)
 }
 

@@ -133,7 +133,7 @@ impl fmt::Display for Failure {
 
 impl Failure {
     /// Returns a failure of a kind with a message.
-    fn told<D: Display + Drop>(kind: Kind, what: D) -> Failure {
+    fn with_message<D: Display + Drop>(kind: Kind, what: D) -> Failure {
         Failure {
             words: Words::of(what),
             name: None,
@@ -143,21 +143,21 @@ impl Failure {
 
     /// Returns a failure with a message.
     pub fn other<D: Display + Drop>(what: D) -> Failure {
-        Failure::told(Kind::Other, what)
+        Failure::with_message(Kind::Other, what)
     }
 
     /// Returns a failure of a part.
-    pub fn of<D: Display + Drop>(part: &str, what: D) -> Failure {
+    pub fn of_part<D: Display + Drop>(part: &str, what: D) -> Failure {
         Failure::other(format_args!("{part}: {what}"))
     }
 
     /// Returns a failure whose message has a name in it.
-    fn between(before: &str, name: &str, behind: &str) -> Failure {
+    fn around_name(before: &str, name: &str, behind: &str) -> Failure {
         Failure::other(format_args!("{before}{name}{behind}"))
     }
 
     /// Returns a failure of a kind whose message ends with a name.
-    fn named(kind: Kind, words: &str, name: String) -> Failure {
+    fn with_name(kind: Kind, words: &str, name: String) -> Failure {
         Failure {
             words: Words::of(words),
             name: Some(name),
@@ -182,7 +182,7 @@ impl Failure {
 
     /// The arguments are wrong.
     pub fn usage(what: &'static str) -> Failure {
-        Failure::told(Kind::Usage, what)
+        Failure::with_message(Kind::Usage, what)
     }
 
     /// A glyph has an error.
@@ -191,7 +191,7 @@ impl Failure {
     }
 
     /// `count` glyphs have errors.
-    pub fn refused(count: u64) -> Failure {
+    pub fn of_glyphs(count: u64) -> Failure {
         Failure::other(format_args!("glyphs with errors: {count}"))
     }
 
@@ -201,9 +201,9 @@ impl Failure {
     }
 
     /// A file cannot be written.
-    pub fn saving(alloc: Global, path: &str, error: io::Error) -> Failure {
+    pub fn of_saving(alloc: Global, path: &str, error: io::Error) -> Failure {
         match format!(in alloc; "cannot write {path}: {error}") {
-            Ok(text) => Failure::named(Kind::Other, "", text),
+            Ok(text) => Failure::with_name(Kind::Other, "", text),
             Err(fault) => Failure::from(fault),
         }
     }
@@ -215,7 +215,7 @@ impl Failure {
     pub fn of_table(spot: Spot, error: postscript_base::Error) -> Failure {
         let code = error.code();
         let rule = rule_of(code);
-        Failure::told(
+        Failure::with_message(
             Kind::Table,
             format_args!("the CFF table, {spot}: {error} (error {code}): {rule}"),
         )
@@ -228,7 +228,7 @@ impl Failure {
 
     /// A required table is missing.
     pub fn no_table(table: &'static str) -> Failure {
-        Failure::between("there is no ", table, " table, or it is truncated")
+        Failure::around_name("there is no ", table, " table, or it is truncated")
     }
 
     /// The required table with this tag is missing.
@@ -245,7 +245,7 @@ impl Failure {
 
     /// A table is truncated.
     pub fn cut(table: &'static str) -> Failure {
-        Failure::between("the ", table, " table is truncated")
+        Failure::around_name("the ", table, " table is truncated")
     }
 
     /// The DICTs are too long, or many of them overlap.
@@ -265,7 +265,7 @@ impl Failure {
 
     /// The file is of another kind.
     pub fn other_kind(kind: &'static str) -> Failure {
-        Failure::of(kind, "psotf reads OpenType files with a CFF or CFF2 table")
+        Failure::of_part(kind, "psotf reads OpenType files with a CFF or CFF2 table")
     }
 }
 
@@ -273,7 +273,7 @@ impl Failure {
 impl Failure {
     /// The font has no such part.
     pub fn no_part(part: &'static str) -> Failure {
-        Failure::between("the font has no ", part, "")
+        Failure::around_name("the font has no ", part, "")
     }
 
     /// The font has no glyph with this number.
@@ -293,17 +293,17 @@ impl Failure {
 
     /// The font has no glyph for some characters. The text has a space before each of them.
     pub fn no_chars(chars: String) -> Failure {
-        Failure::named(Kind::Other, "the font has no glyph for:", chars)
+        Failure::with_name(Kind::Other, "the font has no glyph for:", chars)
     }
 
     /// The font has no axis with this tag.
     pub fn no_axis(tag: String) -> Failure {
-        Failure::named(Kind::Usage, "the font has no axis ", tag)
+        Failure::with_name(Kind::Usage, "the font has no axis ", tag)
     }
 
     /// The font has no instance with this name.
     pub fn no_instance(name: String) -> Failure {
-        Failure::named(Kind::Usage, "the font has no instance ", name)
+        Failure::with_name(Kind::Usage, "the font has no instance ", name)
     }
 
     /// The font is not a variable font.
@@ -321,7 +321,7 @@ impl From<io::Error> for Failure {
         } else {
             Kind::Other
         };
-        Failure::told(kind, error)
+        Failure::with_message(kind, error)
     }
 }
 
@@ -339,7 +339,7 @@ impl<T: Drop> From<AllocFailed<T>> for Failure {
 
 impl From<postscript_sfnt::Error> for Failure {
     fn from(error: postscript_sfnt::Error) -> Failure {
-        Failure::of("cannot open the font", error)
+        Failure::of_part("cannot open the font", error)
     }
 }
 

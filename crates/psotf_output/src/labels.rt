@@ -62,7 +62,7 @@ impl<'p> Labels<'p> {
     }
 
     /// Adds a text, wrapped at spaces.
-    pub fn wrapped(&mut self, text: &str) {
+    pub fn put_wrapped(&mut self, text: &str) {
         self.begin();
         let mut len = 0usize;
         for word in text.split(' ') {

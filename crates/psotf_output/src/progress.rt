@@ -18,7 +18,7 @@ pub struct Progress<'r> {
 
 impl<'r> Progress<'r> {
     /// Begins to measure a loop.
-    fn of(rt: &'r HostRuntime, what: &'static str, to: u64) -> Progress<'r> {
+    fn begin(rt: &'r HostRuntime, what: &'static str, to: u64) -> Progress<'r> {
         let since = if rt.stderr().is_terminal() {
             Instant::now(rt).ok()
         } else {
@@ -35,12 +35,12 @@ impl<'r> Progress<'r> {
 
     /// Begins to measure a loop over glyphs.
     pub fn new(rt: &'r HostRuntime, to: u16) -> Progress<'r> {
-        Progress::of(rt, "glyph", u64::from(to))
+        Progress::begin(rt, "glyph", u64::from(to))
     }
 
     /// Begins to measure a loop over files. It shows nothing if standard output is a terminal too.
     pub fn of_files(rt: &'r HostRuntime, to: u64) -> Progress<'r> {
-        Progress::of(rt, "file", to).unless_shown()
+        Progress::begin(rt, "file", to).unless_shown()
     }
 
     /// The same, but shows nothing if standard output is a terminal too, since the output shows the progress.
@@ -58,11 +58,11 @@ impl<'r> Progress<'r> {
 
     /// Shows the current glyph, at most once a second.
     pub fn at_glyph(&mut self, gid: u16) {
-        self.at(u64::from(gid));
+        self.show(u64::from(gid));
     }
 
     /// Shows the current number, at most once a second.
-    pub fn at(&mut self, number: u64) {
+    pub fn show(&mut self, number: u64) {
         let Some(since) = self.since else {
             return;
         };

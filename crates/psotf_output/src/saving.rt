@@ -17,11 +17,11 @@ pub struct NewFile<'w> {
 
 impl<'w> NewFile<'w> {
     /// Begins a file.
-    pub fn at(rt: &HostRuntime, path: &'w str) -> Result<NewFile<'w>, Failure> {
+    pub fn create(rt: &HostRuntime, path: &'w str) -> Result<NewFile<'w>, Failure> {
         let beside = format!(in rt.alloc(); "{path}.part")?;
         match File::create(rt, beside.as_str()) {
             Ok(file) => Ok(NewFile { path, beside, file }),
-            Err(error) => Err(Failure::saving(rt.alloc(), path, error)),
+            Err(error) => Err(Failure::of_saving(rt.alloc(), path, error)),
         }
     }
 
@@ -29,7 +29,7 @@ impl<'w> NewFile<'w> {
     pub fn put(&mut self, rt: &HostRuntime, bytes: &[u8]) -> Result<(), Failure> {
         match self.file.write_all(bytes) {
             Ok(()) => Ok(()),
-            Err(error) => Err(Failure::saving(rt.alloc(), self.path, error)),
+            Err(error) => Err(Failure::of_saving(rt.alloc(), self.path, error)),
         }
     }
 
@@ -38,7 +38,7 @@ impl<'w> NewFile<'w> {
         let named = match written {
             Ok(()) => match fs::rename(rt, self.beside.as_str(), self.path) {
                 Ok(()) => Ok(()),
-                Err(error) => Err(Failure::saving(rt.alloc(), self.path, error)),
+                Err(error) => Err(Failure::of_saving(rt.alloc(), self.path, error)),
             },
             Err(failure) => Err(failure),
         };
@@ -51,7 +51,7 @@ impl<'w> NewFile<'w> {
 
 /// Writes a file.
 pub fn save(rt: &HostRuntime, path: &str, bytes: &[u8]) -> Result<(), Failure> {
-    let mut file = NewFile::at(rt, path)?;
+    let mut file = NewFile::create(rt, path)?;
     let written = file.put(rt, bytes);
     file.end(rt, written)
 }
@@ -65,9 +65,9 @@ pub enum Output<'w> {
 
 impl<'w> Output<'w> {
     /// Begins the output: a file if there is a path, and otherwise standard output.
-    pub fn of(rt: &HostRuntime, path: Option<&'w str>) -> Result<Output<'w>, Failure> {
+    pub fn open(rt: &HostRuntime, path: Option<&'w str>) -> Result<Output<'w>, Failure> {
         match path {
-            Some(path) => Ok(Output::File(NewFile::at(rt, path)?)),
+            Some(path) => Ok(Output::File(NewFile::create(rt, path)?)),
             None => Ok(Output::Standard),
         }
     }

@@ -148,7 +148,7 @@ impl Sheet {
     /// Writes a member with a value as a string.
     pub fn tell<T: Display>(&mut self, key: &str, value: &T) {
         self.key(key);
-        self.shown(value);
+        self.put_display(value);
     }
 
     /// Writes a key, and begins a list.
@@ -173,7 +173,7 @@ impl Sheet {
     }
 
     /// Writes a list of a string and two numbers.
-    pub fn named(&mut self, name: &str, first: u64, second: u64) {
+    pub fn put_entry(&mut self, name: &str, first: u64, second: u64) {
         self.begin_array();
         self.string(name);
         self.u64(first);
@@ -195,7 +195,7 @@ impl Sheet {
     }
 
     /// Writes a value as a string.
-    pub fn shown<T: Display>(&mut self, value: &T) {
+    pub fn put_display<T: Display>(&mut self, value: &T) {
         self.text.clear();
         self.text.write_fmt(value);
         self.put_own();

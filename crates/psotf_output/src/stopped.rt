@@ -39,7 +39,7 @@ impl<'r> Stopped<'r> {
     pub fn end(self) -> Result<(), Failure> {
         match self.count {
             0 => Ok(()),
-            count => Err(Failure::refused(count)),
+            count => Err(Failure::of_glyphs(count)),
         }
     }
 }

@@ -13,14 +13,14 @@ pub(crate) fn first_char(bytes: &[u8]) -> (char, usize)
     if unit >= 0xd800 && unit < 0xdc00 && bytes.len() >= 4 {
         let low = number_at(bytes, 2, 2);
         if low >= 0xdc00 && low < 0xe000 {
-            return (paired(unit, low), 4);
+            return (combine_surrogates(unit, low), 4);
         }
     }
     (alone(unit), 2)
 }
 
 /// Combines two surrogates.
-fn paired(high: usize, low: usize) -> char
+fn combine_surrogates(high: usize, low: usize) -> char
     requires high { (0xd800 ≤ high) × (high < 0xdc00) }
     requires low { (0xdc00 ≤ low) × (low < 0xe000) }
     ensures { result ≡ pair high low }

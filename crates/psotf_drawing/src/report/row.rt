@@ -90,7 +90,7 @@ fn both(sheet: &mut Sheet, accent: &Accent) {
 }
 
 /// Writes the outline and the code of a glyph.
-fn drawn(
+fn put_drawn(
     alloc: Global,
     sheet: &mut Sheet,
     glyph: &Glyph<'_, '_>,
@@ -110,13 +110,13 @@ fn drawn(
 }
 
 /// Writes the error of a glyph.
-fn refused(
+fn put_error(
     sheet: &mut Sheet,
     gid: u16,
     refusal: &Refusal,
     stopped: &mut Stopped<'_>,
 ) -> Result<(), Failure> {
-    sheet.shown(refusal);
+    sheet.put_display(refusal);
     if refusal.is_by_limit() {
         stopped.add(gid, refusal)?;
     }
@@ -139,8 +139,8 @@ pub fn put(
     sheet.u64(u64::from(face.advances.of(gid)));
     part(sheet, face, gid);
     match draw(alloc, face, gid, budget) {
-        Ok((glyph, outline)) => drawn(alloc, sheet, &glyph, &outline, budget)?,
-        Err(refusal) => refused(sheet, gid, &refusal, stopped)?,
+        Ok((glyph, outline)) => put_drawn(alloc, sheet, &glyph, &outline, budget)?,
+        Err(refusal) => put_error(sheet, gid, &refusal, stopped)?,
     }
     sheet.end_array();
     Ok(())

@@ -75,7 +75,7 @@ pub fn outline_of(
 }
 
 /// Writes the outline of a glyph, or its error. Returns whether it is drawn.
-fn drawn<W: Write>(
+fn put_drawn<W: Write>(
     sheet: &mut Sheet,
     outline: &Result<Outline, Refusal>,
     out: &mut W,
@@ -140,7 +140,7 @@ impl<'f, 'l> Glyphs for Placed<'f, 'l> {
         chars(sheet, of_glyph(mapped, gid));
         sheet.key("advance");
         sheet.i64(self.advance(gid));
-        let is_drawn = drawn(sheet, &self.outline(alloc, gid, budget), out)?;
+        let is_drawn = put_drawn(sheet, &self.outline(alloc, gid, budget), out)?;
         sheet.end_object();
         Ok(is_drawn)
     }

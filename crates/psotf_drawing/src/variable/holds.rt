@@ -3,7 +3,7 @@ use super::VariableFace;
 use postscript_text::decimal::put_bits;
 use postscript_variation::{Axes, Axis};
 use psotf_font::characters::count;
-use psotf_font::face::called;
+use psotf_font::face::family_and_style;
 use psotf_font::layouts;
 use psotf_output::failure::Failure;
 use psotf_output::sheet::{Sheet, put_name};
@@ -90,7 +90,7 @@ fn instances(sheet: &mut Sheet, face: &VariableFace<'_>) {
 /// Writes the font as a JSON object.
 fn put(alloc: Global, sheet: &mut Sheet, face: &VariableFace<'_>) {
     sheet.begin_object();
-    let (family, style) = called(&face.common.names);
+    let (family, style) = family_and_style(&face.common.names);
     sheet.name("family", family);
     sheet.name("style", style);
     let characters = sheet.found(count(alloc, &face.common.map));
@@ -148,7 +148,7 @@ fn instance_line(lines: &mut Text, face: &VariableFace<'_>, axes: &Axes<'_>, i: 
 
 /// Adds the lines of the names and the counts.
 fn head_lines(alloc: Global, lines: &mut Text, face: &VariableFace<'_>) {
-    let (family, style) = called(&face.common.names);
+    let (family, style) = family_and_style(&face.common.names);
     lines.put_named("family", family);
     lines.put_named("style", style);
     lines.push_str("a variable font: its outlines are in a CFF2 table\n");

@@ -1,8 +1,8 @@
 //! Animated pictures of variable fonts.
 use super::VariableFace;
 use super::glyphs::{advance_of, count, outline_of};
-use super::place::{Chosen, moved};
-use crate::svg::{CLOSING, opening};
+use super::place::{Chosen, with_setting};
+use crate::svg::{CLOSING, picture_start};
 use postscript_outline::Outline;
 use postscript_variation::{Axis, Setting};
 use psotf_font::characters::{glyph_of, refuse_missing};
@@ -31,7 +31,7 @@ struct Frame {
 }
 
 /// Returns the value at a step from one value to another.
-fn between(from: i32, to: i32, step: i64) -> i32 {
+fn value_at_step(from: i32, to: i32, step: i64) -> i32 {
     let way = i64::from(to).saturating_sub(i64::from(from));
     let gone = way.saturating_mul(step) / STEPS;
     i32::try_from(i64::from(from).saturating_add(gone)).unwrap_or(to)
@@ -43,9 +43,9 @@ fn stop(axis: &Axis, number: i64) -> Option<i32> {
     if number >= STEPS {
         Some(axis.maximum)
     } else if number >= 0 {
-        Some(between(axis.default, axis.maximum, number))
+        Some(value_at_step(axis.default, axis.maximum, number))
     } else if axis.minimum < axis.default {
-        Some(between(axis.minimum, axis.default, number.saturating_add(STEPS)))
+        Some(value_at_step(axis.minimum, axis.default, number.saturating_add(STEPS)))
     } else {
         None
     }
@@ -70,7 +70,7 @@ fn glyphs_of(
 }
 
 /// Returns the first of the glyphs that the font does not have.
-fn beyond(face: &VariableFace<'_>, gids: &[u16]) -> Option<u16> {
+fn first_missing(face: &VariableFace<'_>, gids: &[u16]) -> Option<u16> {
     for gid in gids {
         if *gid >= count(face) {
             return Some(*gid);
@@ -80,7 +80,7 @@ fn beyond(face: &VariableFace<'_>, gids: &[u16]) -> Option<u16> {
 }
 
 /// Returns the glyph with a number, or the glyphs of a text. It fails if the font does not have them.
-pub fn asked(
+pub fn chosen_glyphs(
     alloc: Global,
     face: &VariableFace<'_>,
     gid: Option<u16>,
@@ -90,7 +90,7 @@ pub fn asked(
         refuse_missing(alloc, &face.common.map, text)?;
     }
     let gids = glyphs_of(alloc, face, gid, text)?;
-    match beyond(face, &gids) {
+    match first_missing(face, &gids) {
         Some(gid) => Err(Failure::no_glyph(u32::from(gid))),
         None => Ok(gids),
     }
@@ -145,7 +145,7 @@ fn put_frame(
     budget: &mut Budget,
     frames: &mut Vec<Frame>,
 ) -> Result<(), Failure> {
-    let place = moved(alloc, face, chosen, along)?;
+    let place = with_setting(alloc, face, chosen, along)?;
     let mut frame = Frame {
         paths: Vec::new(alloc),
         starts: Vec::new(alloc),
@@ -176,7 +176,7 @@ fn put_frames(
 }
 
 /// Returns the number of frames shown in both directions.
-fn shown(frames: &[Frame]) -> usize {
+fn frame_count(frames: &[Frame]) -> usize {
     frames.len().saturating_mul(2).saturating_sub(1)
 }
 
@@ -209,7 +209,7 @@ fn put_shapes<W: Write>(
     picture.push_str(TIME);
     picture.push_str(" values=\"");
     let mut lead = "";
-    for number in 0..shown(frames) {
+    for number in 0..frame_count(frames) {
         if let Some(path) = path_at(frames, number, glyph) {
             picture.push_str(lead);
             picture.push_str(path);
@@ -227,7 +227,7 @@ fn put_starts(picture: &mut Text, frames: &[Frame], glyph: usize) {
     picture.push_str(TIME);
     picture.push_str(" values=\"");
     let mut lead = "";
-    for number in 0..shown(frames) {
+    for number in 0..frame_count(frames) {
         if let Some(frame) = frame_at(frames, number) {
             if let Some(start) = frame.starts.get(glyph) {
                 picture.push_str(lead);
@@ -283,7 +283,7 @@ fn write_picture<W: Write>(
     output: &mut Output<'_>,
     out: &mut W,
 ) -> Result<(), Failure> {
-    let mut picture = opening(rt.alloc(), units, width_of(frames));
+    let mut picture = picture_start(rt.alloc(), units, width_of(frames));
     for glyph in 0..glyphs {
         put_glyph(rt, &mut picture, frames, glyph, output, out)?;
     }
@@ -305,7 +305,7 @@ pub fn write<W: Write>(
 ) -> Result<(), Failure> {
     let mut frames = Vec::new(rt.alloc());
     put_frames(rt.alloc(), face, axis, gids, chosen, budget, &mut frames)?;
-    let mut output = Output::of(rt, path)?;
+    let mut output = Output::open(rt, path)?;
     let units = face.common.units;
     let written = write_picture(rt, units, &frames, gids.len(), &mut output, out);
     output.end(rt, written)

@@ -122,7 +122,7 @@ fn settings_of_instance(
 }
 
 /// Returns the axis values of a named instance and its number, or those of a list, or none.
-fn asked(
+fn chosen_settings(
     rt: &HostRuntime,
     face: &VariableFace<'_>,
     instance: Option<&str>,
@@ -141,7 +141,7 @@ fn asked(
 }
 
 /// Returns the location of axis values, which may be those of an instance.
-fn located(
+fn location_of(
     alloc: Global,
     face: &VariableFace<'_>,
     settings: Vec<Setting>,
@@ -154,18 +154,18 @@ fn located(
 }
 
 /// Returns the location of a named instance, or of a list of axis values. Without both, it is the default instance.
-pub fn chosen(
+pub fn chosen_location(
     rt: &HostRuntime,
     face: &VariableFace<'_>,
     instance: Option<&str>,
     variations: Option<&str>,
 ) -> Result<Chosen, Failure> {
-    let (settings, instance) = asked(rt, face, instance, variations)?;
-    located(rt.alloc(), face, settings, instance)
+    let (settings, instance) = chosen_settings(rt, face, instance, variations)?;
+    location_of(rt.alloc(), face, settings, instance)
 }
 
 /// Returns the same location with another value of one axis.
-pub fn moved(
+pub fn with_setting(
     alloc: Global,
     face: &VariableFace<'_>,
     from: &Chosen,
@@ -176,5 +176,5 @@ pub fn moved(
         settings.push(*setting)?;
     }
     settings.push(along)?;
-    located(alloc, face, settings, None)
+    location_of(alloc, face, settings, None)
 }

@@ -57,7 +57,7 @@ impl<'w> Pages<'w> {
     fn put_page(&self, alloc: Global, sheet: &mut Sheet, first: u16) {
         let end = self.glyphs(first).end;
         match self.path_of(alloc, first) {
-            Ok(path) => sheet.named(name_of(path.as_str()), u64::from(first), u64::from(end)),
+            Ok(path) => sheet.put_entry(name_of(path.as_str()), u64::from(first), u64::from(end)),
             Err(_) => sheet.fail(),
         }
     }

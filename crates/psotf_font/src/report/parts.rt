@@ -8,7 +8,7 @@ use psotf_output::sheet::Sheet;
 
 /// Writes the name, the offset and the size of a part.
 fn part(sheet: &mut Sheet, name: &str, place: usize, size: usize) {
-    sheet.named(name, place as u64, size as u64);
+    sheet.put_entry(name, place as u64, size as u64);
 }
 
 /// Writes the INDEX at `place`. Returns the offset after it.
@@ -51,7 +51,7 @@ pub fn first(sheet: &mut Sheet, cff: &[u8]) {
 }
 
 /// Returns the number of glyphs after the first of a range, which has two bytes or one.
-fn following(bytes: &[u8], place: usize, is_wide: bool) -> postscript_base::Result<usize> {
+fn glyphs_after_first(bytes: &[u8], place: usize, is_wide: bool) -> postscript_base::Result<usize> {
     let behind = place.saturating_add(2);
     if is_wide {
         number_within(bytes, behind, 2)
@@ -68,7 +68,7 @@ fn ranges(bytes: &[u8], is_wide: bool, glyphs: usize) -> usize {
         if left == 0 {
             break;
         }
-        let Ok(more) = following(bytes, place, is_wide) else {
+        let Ok(more) = glyphs_after_first(bytes, place, is_wide) else {
             break;
         };
         left = left.saturating_sub(more.saturating_add(1));
@@ -162,7 +162,7 @@ fn privates(sheet: &mut Sheet, face: &Face<'_>) {
 }
 
 /// Writes the INDEX that an operator of the Top DICT names.
-fn named(sheet: &mut Sheet, face: &Face<'_>, name: &str, operator: Operator) {
+fn put_index_of(sheet: &mut Sheet, face: &Face<'_>, name: &str, operator: Operator) {
     if let Some(place) = operand(&face.font.dictionary, operator, 0) {
         let _ = index(sheet, face.cff, name, place);
     }
@@ -175,8 +175,8 @@ pub fn put(sheet: &mut Sheet, face: &Face<'_>) {
     encoding(sheet, face);
     char_set(sheet, face);
     select(sheet, face);
-    named(sheet, face, "CharStrings INDEX", Operator::CharStrings);
-    named(sheet, face, "Font DICT INDEX", Operator::FDArray);
+    put_index_of(sheet, face, "CharStrings INDEX", Operator::CharStrings);
+    put_index_of(sheet, face, "Font DICT INDEX", Operator::FDArray);
     privates(sheet, face);
     sheet.end_array();
 }

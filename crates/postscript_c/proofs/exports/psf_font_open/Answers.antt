@@ -6,12 +6,12 @@ use Rattle.postscript_c.proofs.exports.psf_font_open.Goals as goal
 pub returns : goal.returns
 returns c =
     let same : to_z w32 (of_z w32 c.put.result) ≡ c.put.result = search rules in
-    let P : ℤ → Type 0 = λ status. TellsFont c.opened-answer.result status c.args.font.now c.put.new.font in
+    let P : ℤ → Type 0 = λ status. TellsFont c.open_font-answer.result status c.args.font.now c.put.new.font in
     record {
       exact = (
-        c.opened-answer.result,
-        font_of c.opened-answer.result c.args.bytes.now
-            (c.opened-answer.ensures.exact 0) c.opened-answer.ensures.widths c.opened-answer.ensures.limit,
+        c.open_font-answer.result,
+        font_of c.open_font-answer.result c.args.bytes.now
+            (c.open_font-answer.ensures.exact 0) c.open_font-answer.ensures.widths c.open_font-answer.ensures.limit,
         subst P (sym same) c.put.ensures,
       );
     }

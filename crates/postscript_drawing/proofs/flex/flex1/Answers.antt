@@ -29,4 +29,4 @@ returns-in-len11 c =
     ∙ ap (λ y. back (c.dx1-item.result +ℤ c.dx2-item.result +ℤ c.dx3-item.result +ℤ c.dx4-item.result +ℤ c.dx5-item.result) y
     c.d6-item.result) dy) in
     ap flex1 operands
-    ∙ sym (same-two c.by.ensures c.by-in-len11.ensures c.by-in-len11-2.ensures c.by-in-len11-3.ensures c.by-in-len11-4.ensures last)
+    ∙ sym (same-two c.vector_of.ensures c.vector_of-in-len11.ensures c.vector_of-in-len11-2.ensures c.vector_of-in-len11-3.ensures c.vector_of-in-len11-4.ensures last)

@@ -15,6 +15,6 @@ returns-in-len9 c =
       ),
     ) in
     let dy : to_z w64 (of_z w64 c.sum_of_three.result) ≡ c.dy1-item.result +ℤ c.dy2-item.result +ℤ c.dy5-item.result = search rules in
-    let last = c.returning.ensures ∙ ap (λ y. by c.dx6-item.result (neg_ℤ y)) dy in
+    let last = c.vector_back.ensures ∙ ap (λ y. by c.dx6-item.result (neg_ℤ y)) dy in
     ap hflex1 operands
-    ∙ sym (same-two c.by.ensures c.by-in-len9.ensures c.level.ensures c.level-in-len9.ensures c.by-in-len9-2.ensures last)
+    ∙ sym (same-two c.vector_of.ensures c.vector_of-in-len9.ensures c.level.ensures c.level-in-len9.ensures c.vector_of-in-len9-2.ensures last)

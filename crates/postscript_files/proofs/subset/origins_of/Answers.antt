@@ -16,15 +16,15 @@ returns-then-retain_gids-clause-refused c =
 
 pub returns-else-retain_gids-clause-are : goal.returns-else-retain_gids-clause-are
 returns-else-retain_gids-clause-are c =
-    subst (λ (retain : Bool). IfOk c.kept.result (λ origins. AreOrigins retain c.args.named.now c.args.cff.now origins.items))
-    (sym c.if-retain_gids.false) c.kept.ensures.are
+    subst (λ (retain : Bool). IfOk c.kept_glyphs_of.result (λ origins. AreOrigins retain c.args.named.now c.args.cff.now origins.items))
+    (sym c.if-retain_gids.false) c.kept_glyphs_of.ensures.are
 
 pub returns-else-retain_gids-clause-refused : goal.returns-else-retain_gids-clause-refused
 returns-else-retain_gids-clause-refused c =
-    no-kept c.kept.result c.args.limit c.args.retain_gids c.args.named.now c.args.cff.now c.kept.ensures.refused
+    no-kept c.kept_glyphs_of.result c.args.limit c.args.retain_gids c.args.named.now c.args.cff.now c.kept_glyphs_of.ensures.refused
 
 pub returns-then-retain_gids-clause-few : goal.returns-then-retain_gids-clause-few
 returns-then-retain_gids-clause-few c = if-few c.every.result true [] c.args.cff.now c.are_bytes.ensures c.every.ensures.all
 
 pub returns-else-retain_gids-clause-few : goal.returns-else-retain_gids-clause-few
-returns-else-retain_gids-clause-few c = if-few c.kept.result false c.args.named.now c.args.cff.now c.are_bytes.ensures c.kept.ensures.are
+returns-else-retain_gids-clause-few c = if-few c.kept_glyphs_of.result false c.args.named.now c.args.cff.now c.are_bytes.ensures c.kept_glyphs_of.ensures.are

@@ -15,7 +15,7 @@ use Rattle.postscript_files.proofs.subset.subset_of.Goals as goal
 
 pub returns-clause-subset : goal.returns-clause-subset
 returns-clause-subset c =
-    if-subset c.written.result c.args.choice.now c.args.face.now c.in_ok-pairs.pairs.items c.in_ok-named.named.items
+    if-subset c.write_file.result c.args.choice.now c.args.face.now c.in_ok-pairs.pairs.items c.in_ok-named.named.items
     c.in_ok-origins.origins.items c.in_ok-placed.placed.items c.in_ok-cut.cut.font.items c.in_ok-made.made c.in_ok-pairs.ensures.kept
     (c.in_ok-named.ensures.named ∙ ap (named_of (glyphs_of c.args.choice.now)) c.deref.ensures.value)
     (subst (λ (xs : List ℕ). IsSubsetFont c.args.choice.now.retain_gids xs c.args.face.now.cff.now c.in_ok-cut.cut.font.items)
@@ -32,12 +32,12 @@ returns-clause-subset c =
     (made-by c.args.face.now c.deref-5.result.now c.in_ok-pairs.pairs.items c.deref-6.result.now c.in_ok-origins.origins.items
     c.deref-7.result.now c.in_ok-placed.placed.items c.in_ok-made.made c.deref-5.ensures.value c.deref-6.ensures.value c.deref-7.ensures.value
     c.in_ok-made.ensures.made)
-    (subst (λ (xs : List ℕ). IfOk c.written.result (λ file. IsFileOfParts c.args.choice.now c.args.face.now.file xs c.in_ok-made.made file.items))
-    c.deref-8.ensures.value c.written.ensures.file)
+    (subst (λ (xs : List ℕ). IfOk c.write_file.result (λ file. IsFileOfParts c.args.choice.now c.args.face.now.file xs c.in_ok-made.made file.items))
+    c.deref-8.ensures.value c.write_file.ensures.file)
 
 pub returns-clause-refused : goal.returns-clause-refused
 returns-clause-refused c =
-    no-written-so c.written.result c.args.choice.now c.args.face.now c.in_ok-pairs.pairs.items c.in_ok-named.named.items
+    no-written-so c.write_file.result c.args.choice.now c.args.face.now c.in_ok-pairs.pairs.items c.in_ok-named.named.items
     c.in_ok-origins.origins.items c.in_ok-placed.placed.items c.in_ok-cut.cut.font.items c.in_ok-made.made c.in_ok-pairs.ensures.kept
     (c.in_ok-named.ensures.named ∙ ap (named_of (glyphs_of c.args.choice.now)) c.deref.ensures.value)
     (subst (λ (xs : List ℕ). IsSubsetFont c.args.choice.now.retain_gids xs c.args.face.now.cff.now c.in_ok-cut.cut.font.items)
@@ -49,8 +49,8 @@ returns-clause-refused c =
     (made-by c.args.face.now c.deref-5.result.now c.in_ok-pairs.pairs.items c.deref-6.result.now c.in_ok-origins.origins.items
     c.deref-7.result.now c.in_ok-placed.placed.items c.in_ok-made.made c.deref-5.ensures.value c.deref-6.ensures.value c.deref-7.ensures.value
     c.in_ok-made.ensures.made)
-    (subst (λ (xs : List ℕ). IfErr c.written.result (λ e. NoFileOfParts c.args.choice.now c.args.face.now.file xs c.in_ok-made.made e))
-    c.deref-8.ensures.value c.written.ensures.refused)
+    (subst (λ (xs : List ℕ). IfErr c.write_file.result (λ e. NoFileOfParts c.args.choice.now c.args.face.now.file xs c.in_ok-made.made e))
+    c.deref-8.ensures.value c.write_file.ensures.refused)
 
 pub returns-in_err-origins-clause-refused : goal.returns-in_err-origins-clause-refused
 returns-in_err-origins-clause-refused c =

@@ -7,8 +7,8 @@ use Rattle.postscript_files.proofs.Filing.{if-not-written, if-written, tags-rise
 use Rattle.postscript_files.proofs.Twice.{if-once}
 use Rattle.postscript_files.proofs.tables.file_with.Goals as goal
 
-pub written-requires : goal.written-requires
-written-requires c =
+pub write_sorted-requires : goal.write_sorted-requires
+write_sorted-requires c =
     let e = c.as_slice.ensures.value in
     let f = c.as_slice-in-None.ensures.value in
     let up : IsNonDecreasingBy (λ (t : Table). t.tag) c.sort_by_key.new.self.items =
@@ -22,8 +22,8 @@ returns-clause-file c =
     subst (λ (ys : List Table). IsPermutation c.args.tables.now ys) (sym c.as_slice-in-None.ensures.value)
     (subst (λ (xs : List Table). IsPermutation xs c.sort_by_key.new.self.items) c.in_ok-sorted.ensures.items
     c.in_ok-sort_by_key.ensures.permutation) in
-    if-written c.written.result c.args.tables.now c.as_slice-in-None.result.now moved c.written.ensures.opens c.written.ensures.lent
-    c.written.ensures.size c.written.ensures.sound
+    if-written c.write_sorted.result c.args.tables.now c.as_slice-in-None.result.now moved c.write_sorted.ensures.opens c.write_sorted.ensures.lent
+    c.write_sorted.ensures.size c.write_sorted.ensures.sound
 
 pub returns-clause-refused : goal.returns-clause-refused
 returns-clause-refused c =
@@ -31,7 +31,7 @@ returns-clause-refused c =
     subst (λ (ys : List Table). IsPermutation c.args.tables.now ys) (sym c.as_slice-in-None.ensures.value)
     (subst (λ (xs : List Table). IsPermutation xs c.sort_by_key.new.self.items) c.in_ok-sorted.ensures.items
     c.in_ok-sort_by_key.ensures.permutation) in
-    if-not-written c.written.result c.args.tables.now c.as_slice-in-None.result.now moved c.written.ensures.refused
+    if-not-written c.write_sorted.result c.args.tables.now c.as_slice-in-None.result.now moved c.write_sorted.ensures.refused
 
 pub returns-in-Some-clause-refused : goal.returns-in-Some-clause-refused
 returns-in-Some-clause-refused c =
@@ -53,4 +53,4 @@ returns-clause-once c =
     subst (λ (ys : List Table). IsPermutation c.args.tables.now ys) (sym c.as_slice-in-None.ensures.value)
     (subst (λ (xs : List Table). IsPermutation xs c.sort_by_key.new.self.items) c.in_ok-sorted.ensures.items
     c.in_ok-sort_by_key.ensures.permutation) in
-    if-once c.written.result c.args.tables.now c.as_slice-in-None.result.now moved rise
+    if-once c.write_sorted.result c.args.tables.now c.as_slice-in-None.result.now moved rise

@@ -8,10 +8,10 @@ pub loop-i-preserved : goal.loop-i-preserved
 loop-i-preserved c =
     let as_many : length c.args.deltas.now ≡ length c.args.scalars.now = c.requires in
     let fits : FitsSigned w32 c.bits-in-loop-i.result = search rules in
-    let product : c.scaled.result ≡ scaled c.bits-in-loop-i.result
-    (get_or c.args.scalars.now c.loop-i.i 0) = simp to_z-of_z at c.scaled.ensures.value in
+    let product : c.scale_delta.result ≡ scaled c.bits-in-loop-i.result
+    (get_or c.args.scalars.now c.loop-i.i 0) = simp to_z-of_z at c.scale_delta.ensures.value in
     let delta : c.bits-in-loop-i.result ≡ get_or c.args.deltas.now c.loop-i.i c.bits-in-loop-i.result = rw c.bits-in-loop-i.ensures
     c.index-deltas-i.is in
-    let step = sum-step c.args.deltas.now c.args.scalars.now c.loop-i.i c.bits-in-loop-i.result c.scaled.result _ _
+    let step = sum-step c.args.deltas.now c.args.scalars.now c.loop-i.i c.bits-in-loop-i.result c.scale_delta.result _ _
     (omega arith) c.loop-i-test.true delta product c.loop-i.invariant.sum in
     record { sum = omega (arith, ints, step); room = omega (arith, ints) }

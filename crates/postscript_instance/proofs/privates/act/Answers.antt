@@ -12,9 +12,9 @@ returns-then-is_operator-clause-acts c =
 
 pub returns-then-is_operator-2-clause-acts : goal.returns-then-is_operator-2-clause-acts
 returns-then-is_operator-2-clause-acts c =
-    chooses-so c.args.tables.now c.args.bytes.now c.args.operator.now (shown c.args.state.now) c.chosen-state.result
+    chooses-so c.args.tables.now c.args.bytes.now c.args.operator.now (shown c.args.state.now) c.chosen_data-state.result
     c.truncate.new.self.items c.args.state.now.out.items (c.is_operator-2.ensures.0 (is-true _ c.if-is_operator-2.true))
-    (with-items c.args.state.now.index _ _ _ c.deref.ensures.value c.chosen-state.ensures) c.truncate.ensures.items
+    (with-items c.args.state.now.index _ _ _ c.deref.ensures.value c.chosen_data-state.ensures) c.truncate.ensures.items
 
 pub returns-then-is_hint-clause-acts : goal.returns-then-is_hint-clause-acts
 returns-then-is_hint-clause-acts c =

@@ -9,8 +9,8 @@ loop-default-preserved c =
     let ds = c.args.defaults.now in
     let rest = c.loop-default.rest.now in
     let less = c.loop-default-test.true in
-    let step = each-step c.loop-default.numbers.items ds i _ c.in_ok-blended.field-0 rest c.split_at.result.0.now
-    c.split_at.result.1.now c.args.scalars.now c.in_ok-blended.ensures.number (drop_more ds i _ less) c.split_at.ensures.front
+    let step = each-step c.loop-default.numbers.items ds i _ c.in_ok-blend_number.field-0 rest c.split_at.result.0.now
+    c.split_at.result.1.now c.args.scalars.now c.in_ok-blend_number.ensures.number (drop_more ds i _ less) c.split_at.ensures.front
     c.split_at.ensures.back in
     record {
       are = rw c.in_ok-push.ensures.items (step ∙ c.loop-default.invariant.are);

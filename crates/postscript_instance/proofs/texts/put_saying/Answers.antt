@@ -5,7 +5,7 @@ use Rattle.postscript_instance.proofs.Rests.{on-both, written-whole, written-pie
 use Rattle.postscript_instance.proofs.texts.put_saying.Goals as goal
 
 pub loop-first-init : goal.loop-first-init
-loop-first-init c = λ xs end is. subst (λ x. IsWritten c.args.width (x ∷ xs) c.args.out.now.items end) c.of-rest.ensures is
+loop-first-init c = λ xs end is. subst (λ x. IsWritten c.args.width (x ∷ xs) c.args.out.now.items end) c.whole_operation-rest.ensures is
 
 pub loop-first-preserved : goal.loop-first-preserved
 loop-first-preserved c = λ xs end is.

@@ -26,7 +26,7 @@ loop-j-preserved c =
           (2 + length kept * 6) c.deref.result.now text before c.loop-j.invariant.records tag c.long-tag.ensures.small refl c.deref.ensures.value
           c.new-text.ensures.items
           (subst (λ n. Puts (KeepsFeature table n (named table list (list + 2) i)) before text) tag
-          (subst (λ k. Puts (KeepsFeature table c.long-tag.result k) before text) (c.named-feature.ensures.exact ∙ ap (λ n. named table n (n + 2) i) at)
+          (subst (λ k. Puts (KeepsFeature table c.long-tag.result k) before text) (c.table_at-feature.ensures.exact ∙ ap (λ n. named table n (n + 2) i) at)
           c.in_ok-put_feature.ensures.done)) c.in_ok-add.ensures.added;
       spent = omega (arith, c.pay.ensures.spends, c.put_feature.ensures.spends, c.loop-j.invariant.spent);
     }

@@ -27,6 +27,6 @@ loop-j-preserved c =
           (4 + word table (script + 2) * 6) j old.numbers.items old.tables.bytes.items new.numbers.items new.tables.bytes.items c.long-tag.result
           (4 + c.word-count.result * 6) c.deref-in-loop-j.result.now text c.new-text.result.items c.loop-j.invariant.records c.long-tag.ensures.exact
           c.long-tag.ensures.small (omega (arith, count)) c.deref-in-loop-j.ensures.value c.new-text.ensures.items
-          (subst (λ k. Puts (KeepsLanguage kept table k) c.new-text.result.items text) c.named-language.ensures.exact c.in_ok-put_language.ensures.done) added;
+          (subst (λ k. Puts (KeepsLanguage kept table k) c.new-text.result.items text) c.table_at-language.ensures.exact c.in_ok-put_language.ensures.done) added;
       spent = omega (arith, c.pay.ensures.spends, c.put_language.ensures.spends, c.loop-j.invariant.spent);
     }

@@ -23,7 +23,7 @@ loop-i-preserved c =
           (2 + c.word-count.result * 6) c.deref.result.now text c.new-text.result.items c.loop-i.invariant.records
           (c.long-tag.ensures.exact ∙ ap (λ n. long table (n + 2 + i * 6)) at) c.long-tag.ensures.small (omega (arith, count)) c.deref.ensures.value
           c.new-text.ensures.items
-          (subst (λ k. Puts (KeepsScript kept table k) c.new-text.result.items text) (c.named-script.ensures.exact ∙ ap (λ n. named table n (n + 2) i) at)
+          (subst (λ k. Puts (KeepsScript kept table k) c.new-text.result.items text) (c.table_at-script.ensures.exact ∙ ap (λ n. named table n (n + 2) i) at)
           c.in_ok-put_script.ensures.done) c.in_ok-add.ensures.added;
       spent = omega (arith, c.pay.ensures.spends, c.put_script.ensures.spends, c.loop-i.invariant.spent);
     }

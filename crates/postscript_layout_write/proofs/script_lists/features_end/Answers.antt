@@ -12,12 +12,12 @@ loop-i-preserved c =
     let end = c.later-end.result in
     let i = c.loop-i.i in
     let tag = c.long-tag.result in
-    let place : c.named.result ≡ named gpos list (list + 2) i = c.named.ensures.exact ∙ ap (λ (l : ℕ). named gpos l (l + 2) i) c.word-list.ensures.exact in
+    let place : c.table_at.result ≡ named gpos list (list + 2) i = c.table_at.ensures.exact ∙ ap (λ (l : ℕ). named gpos l (l + 2) i) c.word-list.ensures.exact in
     let tagged : tag ≡ long gpos (list + 2 + i * 6) = c.long-tag.ensures.exact ∙ ap (λ (l : ℕ). long gpos (l + 2 + i * 6)) c.word-list.ensures.exact in
     let P : ℕ → Type 0 = λ k. FeatureEnds gpos end (long gpos (list + 2 + k * 6)) (named gpos list (list + 2) k) in
     let here : P i = subst (λ (t : ℕ). FeatureEnds gpos end t (named gpos list (list + 2) i)) tagged
     (subst (λ (t : ℕ). FeatureEnds gpos end tag t) place
-    (feature-up gpos c.feature_end.result end tag c.named.result c.feature_end.ensures.holds c.later-end.ensures.b)) in
+    (feature-up gpos c.feature_end.result end tag c.table_at.result c.feature_end.ensures.holds c.later-end.ensures.b)) in
     let within : i < word gpos list = subst (λ (n : ℕ). i < n) (c.word-count.ensures.exact ∙ ap (word gpos) c.word-list.ensures.exact) c.loop-i-test.true in
     record {
       records = omega (arith, c.loop-i.invariant.records, c.later-end.ensures.a);

@@ -24,14 +24,14 @@ loop-j-preserved c =
     let end = c.later-end-in-loop-j.result in
     let j = c.loop-j.j in
     let P : ℕ → Type 0 = λ k. LanguageEnds gpos end (named gpos script (script + 4) k) in
-    let here : P j = subst (λ (t : ℕ). LanguageEnds gpos end t) c.named.ensures.exact
-    (language-up gpos c.language_end.result end c.named.result c.language_end.ensures.holds c.later-end-in-loop-j.ensures.b) in
+    let here : P j = subst (λ (t : ℕ). LanguageEnds gpos end t) c.table_at.ensures.exact
+    (language-up gpos c.language_end.result end c.table_at.result c.language_end.ensures.holds c.later-end-in-loop-j.ensures.b) in
     let within : j < word gpos (script + 2) = subst (λ (n : ℕ). j < n) c.word-count.ensures.exact c.loop-j-test.true in
     record {
       records = omega (arith, c.loop-j.invariant.records, c.later-end-in-loop-j.ensures.a);
       default = default-up gpos old end script c.loop-j.invariant.default c.later-end-in-loop-j.ensures.a;
       languages = below_more P j (λ k less. language-up gpos old end (named gpos script (script + 4) k) (c.loop-j.invariant.languages k less) c.later-end-in-loop-j.ensures.a) here;
       least = λ m ends. c.later-end-in-loop-j.ensures.least m (c.loop-j.invariant.least m ends)
-          (c.language_end.ensures.least m (subst (λ (t : ℕ). LanguageEnds gpos m t) (sym c.named.ensures.exact) (ends.languages j within)));
+          (c.language_end.ensures.least m (subst (λ (t : ℕ). LanguageEnds gpos m t) (sym c.table_at.ensures.exact) (ends.languages j within)));
       spent = omega (arith, c.pay.ensures.spends, c.loop-j.invariant.spent);
     }

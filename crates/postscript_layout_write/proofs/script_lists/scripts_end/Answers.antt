@@ -11,10 +11,10 @@ loop-i-preserved c =
     let old = c.loop-i.end in
     let end = c.later-end.result in
     let i = c.loop-i.i in
-    let place : c.named.result ≡ named gpos list (list + 2) i = c.named.ensures.exact ∙ ap (λ (l : ℕ). named gpos l (l + 2) i) c.word-list.ensures.exact in
+    let place : c.table_at.result ≡ named gpos list (list + 2) i = c.table_at.ensures.exact ∙ ap (λ (l : ℕ). named gpos l (l + 2) i) c.word-list.ensures.exact in
     let P : ℕ → Type 0 = λ k. ScriptEnds gpos end (named gpos list (list + 2) k) in
     let here : P i = subst (λ (t : ℕ). ScriptEnds gpos end t) place
-    (script-up gpos c.in_ok-script.script end c.named.result c.in_ok-script.ensures.exact.holds c.later-end.ensures.b) in
+    (script-up gpos c.in_ok-script.script end c.table_at.result c.in_ok-script.ensures.exact.holds c.later-end.ensures.b) in
     let within : i < word gpos list = subst (λ (n : ℕ). i < n) (c.word-count.ensures.exact ∙ ap (word gpos) c.word-list.ensures.exact) c.loop-i-test.true in
     record {
       records = omega (arith, c.loop-i.invariant.records, c.later-end.ensures.a);

@@ -11,7 +11,7 @@ returns-clause-made c = record {
   closed = c.in_ok-closed.closed.glyphs.items;
   are =
       subst (λ (f : Features). AreClosed c.args.choice.now f c.args.face.now c.gsub_in-gsub.result.now c.in_ok-closed.closed.lookups.items
-      c.in_ok-closed.closed.glyphs.items) c.counted-features.ensures c.in_ok-closed.ensures.closed;
+      c.in_ok-closed.closed.glyphs.items) c.counted_features-features.ensures c.in_ok-closed.ensures.closed;
   count = c.in_ok-count.count;
   counted = c.in_ok-count.ensures.counted;
   kept = c.in_ok-glyphs.ensures.below ∙ ap (λ (xs : List ℕ). below c.in_ok-count.count xs) c.deref.ensures.value;

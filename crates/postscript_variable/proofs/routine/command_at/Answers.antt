@@ -7,6 +7,6 @@ use Rattle.postscript_variable.proofs.routine.command_at.Goals as goal
 
 pub returns-then-first-ne12-clause-exact : goal.returns-then-first-ne12-clause-exact
 returns-then-first-ne12-clause-exact c =
-    let found : c.known.result ≡ ok_or (option_map (λ command. (command, c.args.place)) (command_of c.args.first)) UnknownOperator = rw
-    (← c.from.ensures) c.known.ensures in
+    let found : c.operator_at.result ≡ ok_or (option_map (λ command. (command, c.args.place)) (command_of c.args.first)) UnknownOperator = rw
+    (← c.from.ensures) c.operator_at.ensures in
     operator-one (drop c.args.place c.args.code.now) c.args.place c.args.first _ c.if-first-ne12.true found

@@ -16,20 +16,20 @@ returns-then-wanted-first-clause-found c =
     let wanted = c.from-wanted.ensures in
     let first = c.number_at-first.ensures.value in
     let more = c.number_at-more.ensures.value in
-    found_at c.below.result c.args.ranges.now c.args.size c.loop-r.r c.args.identifier c.args.glyphs c.loop-r.glyph
+    found_at c.glyph_after.result c.args.ranges.now c.args.size c.loop-r.r c.args.identifier c.args.glyphs c.loop-r.glyph
     (c.from-wanted.result - c.number_at-first.result) (omega (arith, wanted, first)) (omega (arith, c.loop-r-test.true))
     (omega (arith, c.ranges.identifier.fits)) c.loop-r.invariant.0 c.loop-r.invariant.1
     (omega (arith, c.if-first-wanted.true, wanted, first))
-    (omega (arith, c.if-wanted-first.true, wanted, first, more)) c.below.ensures.found
+    (omega (arith, c.if-wanted-first.true, wanted, first, more)) c.glyph_after.ensures.found
 
 pub returns-then-wanted-first-clause-none : goal.returns-then-wanted-first-clause-none
 returns-then-wanted-first-clause-none c =
     let wanted = c.from-wanted.ensures in
     let first = c.number_at-first.ensures.value in
     let more = c.number_at-more.ensures.value in
-    none_at c.below.result c.args.ranges.now c.args.size c.loop-r.r c.args.identifier c.args.glyphs c.loop-r.glyph
+    none_at c.glyph_after.result c.args.ranges.now c.args.size c.loop-r.r c.args.identifier c.args.glyphs c.loop-r.glyph
     (c.from-wanted.result - c.number_at-first.result) (omega (arith, wanted, first)) c.loop-r.invariant.0 c.loop-r.invariant.1
-    (omega (arith, c.if-first-wanted.true, wanted, first)) (omega (arith, c.if-wanted-first.true, wanted, first, more)) c.below.ensures.none
+    (omega (arith, c.if-first-wanted.true, wanted, first)) (omega (arith, c.if-wanted-first.true, wanted, first, more)) c.glyph_after.ensures.none
 
 pub returns-then-more-glyphs-clause-none : goal.returns-then-more-glyphs-clause-none
 returns-then-more-glyphs-clause-none c =

@@ -18,19 +18,19 @@ returns-then-wanted-first-clause-found c =
     let wanted = c.from-wanted.ensures in
     let first = c.number_at-first.ensures.value in
     let left = c.number_at-left.ensures.value in
-    in_ranges c.below.result c.args.ranges.now c.args.code c.loop-r.r c.args.glyphs c.loop-r.glyph
+    in_ranges c.glyph_after.result c.args.ranges.now c.args.code c.loop-r.r c.args.glyphs c.loop-r.glyph
     (c.from-wanted.result - c.number_at-first.result) (omega (arith, wanted, first))
     (omega (arith, c.loop-r-test.true)) c.loop-r.invariant.0 c.loop-r.invariant.1 (omega (arith, c.if-first-wanted.true, wanted, first))
-    (omega (arith, c.if-wanted-first.true, wanted, first, left)) c.below.ensures.found
+    (omega (arith, c.if-wanted-first.true, wanted, first, left)) c.glyph_after.ensures.found
 
 pub returns-then-wanted-first-clause-none : goal.returns-then-wanted-first-clause-none
 returns-then-wanted-first-clause-none c =
     let wanted = c.from-wanted.ensures in
     let first = c.number_at-first.ensures.value in
     let left = c.number_at-left.ensures.value in
-    not_in_ranges c.below.result c.args.ranges.now c.args.code c.loop-r.r c.args.glyphs c.loop-r.glyph
+    not_in_ranges c.glyph_after.result c.args.ranges.now c.args.code c.loop-r.r c.args.glyphs c.loop-r.glyph
     (c.from-wanted.result - c.number_at-first.result) (omega (arith, wanted, first)) c.loop-r.invariant.0 c.loop-r.invariant.1
-    (omega (arith, c.if-first-wanted.true, wanted, first)) (omega (arith, c.if-wanted-first.true, wanted, first, left)) c.below.ensures.none
+    (omega (arith, c.if-first-wanted.true, wanted, first)) (omega (arith, c.if-wanted-first.true, wanted, first, left)) c.glyph_after.ensures.none
 
 pub returns-then-left-glyphs-clause-none : goal.returns-then-left-glyphs-clause-none
 returns-then-left-glyphs-clause-none c =

@@ -24,11 +24,11 @@ use Rattle.postscript_write.specs.ReadBack.{HasCharSetText}
 use Rattle.postscript_write.specs.Room.{HasRoom}
 use Rattle.postscript_write.proofs.whole.put_together.Goals as goal
 
-pub numbered-requires-clause-set : goal.numbered-requires-clause-set
-numbered-requires-clause-set c = (c.args.from.now.set.now, c.requires.set)
+pub number_glyphs-requires-clause-set : goal.number_glyphs-requires-clause-set
+number_glyphs-requires-clause-set c = (c.args.from.now.set.now, c.requires.set)
 
-pub numbered-requires-clause-encoding : goal.numbered-requires-clause-encoding
-numbered-requires-clause-encoding c = (c.args.from.now.encoding.now, c.requires.encoding)
+pub number_glyphs-requires-clause-encoding : goal.number_glyphs-requires-clause-encoding
+number_glyphs-requires-clause-encoding c = (c.args.from.now.encoding.now, c.requires.encoding)
 
 pub returns-in-Ok-clause-made : goal.returns-in-Ok-clause-made
 returns-in-Ok-clause-made c =

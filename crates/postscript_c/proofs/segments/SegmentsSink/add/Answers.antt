@@ -12,8 +12,8 @@ invariant_of-self-2-clause-bounded c =
     let pushed : c.push.new.self.items ≡ c.args.self.now.segments.items ++ shown c.args.segment ∷ [] = search rules in
     let all = ap (map meant) pushed ∙ given c.args.self.now.segments.items c.args.segment in
     let grown = ap (fold taking None) all ∙ fold-append taking None before (c.args.segment ∷ []) in
-    subst (λ bounds. AreCornersOf bounds c.taking-self.result) (sym grown)
-    (c.taking-self.ensures (fold taking None before) c.args.self.now.bounded)
+    subst (λ bounds. AreCornersOf bounds c.with_segment-self.result) (sym grown)
+    (c.with_segment-self.ensures (fold taking None before) c.args.self.now.bounded)
 
 pub returns-clause-taken : goal.returns-clause-taken
 returns-clause-taken c =

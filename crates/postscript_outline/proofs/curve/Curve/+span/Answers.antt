@@ -46,5 +46,5 @@ returns t c =
     let unit = c.args.unit in
     let first = subst (Spans c.span-front.result (8 * unit)) c.front.ensures c.span-front.ensures in
     let second = subst (Spans c.span-back.result (8 * unit)) c.back.ensures c.span-back.ensures in
-    subst (λ s. Spans s unit c.args.self) (sym c.joined.ensures)
+    subst (λ s. Spans s unit c.args.self) (sym c.with_span.ensures)
     (joined-spans c.args.self c.span-front.result c.span-back.result unit first second)

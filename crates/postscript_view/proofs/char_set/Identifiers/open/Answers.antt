@@ -10,5 +10,5 @@ returns-in_err-offset-clause-why c =
 
 pub returns-clause-why : goal.returns-clause-why
 returns-clause-why c =
-    no_set c.at.result c.args.bytes.now c.args.dictionary.now c.args.glyphs c.in_ok-offset.offset c.in_ok-offset.ensures.found
-    c.at.ensures.why
+    no_set c.for_operand.result c.args.bytes.now c.args.dictionary.now c.args.glyphs c.in_ok-offset.offset c.in_ok-offset.ensures.found
+    c.for_operand.ensures.why

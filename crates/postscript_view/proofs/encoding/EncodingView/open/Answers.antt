@@ -10,4 +10,4 @@ returns-in_err-offset-clause-why c =
 
 pub returns-clause-why : goal.returns-clause-why
 returns-clause-why c =
-    no_encoding c.at.result c.args.bytes.now c.args.dictionary.now c.in_ok-offset.offset c.in_ok-offset.ensures.found c.at.ensures.why
+    no_encoding c.for_operand.result c.args.bytes.now c.args.dictionary.now c.in_ok-offset.offset c.in_ok-offset.ensures.found c.for_operand.ensures.why

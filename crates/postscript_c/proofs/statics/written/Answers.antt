@@ -1,9 +1,0 @@
-use Rattle.postscript_c.proofs.statics.written.Goals as goal
-
-pub returns : goal.returns
-returns c = record {
-  whole = c.is_set-whole.result;
-  set = c.is_set-whole.ensures;
-  file = c.instance_file.ensures.written;
-  why = c.instance_file.ensures.within;
-}

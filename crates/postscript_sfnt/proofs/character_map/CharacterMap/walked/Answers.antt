@@ -1,5 +1,0 @@
-use Rattle.postscript_sfnt.proofs.Listing.{all_there}
-use Rattle.postscript_sfnt.proofs.character_map.CharacterMap.walked.Goals as goal
-
-pub returns : goal.returns
-returns c = all_there c.args.self.now c.loop-char.from c.loop-char.all.items c.loop-char.invariant c.in_default.ensures.none

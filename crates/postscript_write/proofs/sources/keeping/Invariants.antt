@@ -1,6 +1,0 @@
-use Rattle.std.proofs.Common.{◌≡◌}
-use Rattle.postscript_write.specs.Sources.{keeping}
-use Rattle.postscript_write.proofs.sources.keeping.Given as goal
-
-abbrev pub invariant-loop-glyph : goal.invariant-loop-glyph
-invariant-loop-glyph l = l.sources.items ≡ keeping l.named l.glyph
