@@ -9,7 +9,8 @@ for each crate that is not in tools/edits/tried.txt with its present checksum. T
 no comments. An edit is tried by `rt check` in a copy of the repository, over the results in crates/*/out: run `rt check` in the crate first.
 Each edit must be rejected at a goal of a proof. If all edits of a crate are, the script writes the crate to tools/edits/tried.txt.
 
-The second command tries nothing. It prints each crate that changed since its edits were tried, and its status is 1 if there is one.
+The second command tries nothing. It prints each edit that no longer applies, and each crate that changed since its edits were tried. Its
+status is 1 if there is one.
 
 Uses internal functions of `rt` to read edits and results. Needs `rt` on the path.
 """
@@ -134,13 +135,22 @@ def try_crate(rt, crate):
     return crate, well, told
 
 
+def check():
+    """Prints edits that no longer apply, and crates that changed. Returns whether there are any."""
+    rt, known = toolchain(), tried()
+    read = {path: rt.read_edit(path, f"{TOP}/crates/{name}") for name in crates() for path in edits_of(name)}
+    stale = {path: why for path, (_texts, why) in read.items() if why}
+    for path, why in stale.items():
+        print(f"{os.path.relpath(path, TOP)}: {why}")
+    changed = [name for name in crates() if known.get(name) != sum_of(name)]
+    for name in changed:
+        print(f"{name}: it changed since its edits were tried (tools/gate/edits.py {name})")
+    return bool(stale or changed)
+
+
 def main(words):
     if words == ["--check"]:
-        known = tried()
-        changed = [name for name in crates() if known.get(name) != sum_of(name)]
-        for name in changed:
-            print(f"{name}: it changed since its edits were tried (tools/gate/edits.py {name})")
-        return int(bool(changed))
+        return int(check())
     jobs = 1
     if words[:1] == ["--jobs"]:
         jobs, words = int(words[1]), words[2:]

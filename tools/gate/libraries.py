@@ -52,7 +52,7 @@ def main():
     os.chdir(TOP)
     rt = toolchain()
     if not hasattr(rt, "Kept"):
-        sys.exit("libraries.py: this version of rt keeps nothing between runs of rt ci")
+        sys.exit("libraries.py: this version of rt keeps nothing between runs of rt ci: use tools/gate/kept.py --libraries")
     rt.Crate.cuts_libraries, rt.Crate.allowed = True, rt.handles_of(str(TOP))
     crates = rt.crates_of(str(TOP))
     kept = rt.Kept(crates)
