@@ -21,7 +21,7 @@ use Rattle.postscript_layout_write.proofs.MarkReading.{coverage-read}
 use Rattle.postscript_layout_write.proofs.Reading.{Searched, any-default, missing, present}
 
 -- a list of classes from glyph 0 on
-listed : (t : List ℕ) (c n x : ℕ) (classes : List ℕ) → word t c ≡ 1 → word t (c + 2) ≡ 0 → word t (c + 4) ≡ n → length classes ≡ n →
+pub listed : (t : List ℕ) (c n x : ℕ) (classes : List ℕ) → word t c ≡ 1 → word t (c + 2) ≡ 0 → word t (c + 4) ≡ n → length classes ≡ n →
     ((k : ℕ) → k < length classes → get_or classes k 0 < 65536) → Holds (array_text classes) t (c + 6) →
     class_of t c x ≡ (if nat_lt x n then get_or classes x 0 else 0)
 listed t c n x classes format first count many small held =

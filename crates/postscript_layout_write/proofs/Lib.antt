@@ -43,3 +43,5 @@ pub mod LanguageReading
 pub mod FeatureReading
 pub mod FeatureRows
 pub mod CalledRows
+pub mod ClassCollecting
+pub mod ClassReading

@@ -8,7 +8,9 @@ use Rattle.std.proofs.Math.Seq.{drop-append_seam, take-append_seam}
 use Rattle.postscript_base.specs.Numbers.{big_endian}
 use Rattle.postscript_base.specs.Index.{number_at}
 use Rattle.postscript_layout.specs.Numbers.{word, long}
+use Rattle.postscript_layout_write.specs.ClassPairs.{HasPairs, are_classed, are_listed}
 use Rattle.postscript_layout_write.specs.Entries.{form_of}
+use Rattle.postscript_layout_write.specs.First.{first_some}
 use Rattle.postscript_layout_write.specs.Flags.{set_of, uses_set}
 use Rattle.postscript_layout_write.specs.Forms.{HasSubtables}
 use Rattle.postscript_layout_write.specs.Holds.{Holds}
@@ -21,6 +23,7 @@ use Rattle.postscript_layout_write.specs.Sets.{HasSubtable}
 use Rattle.postscript_layout_write.specs.Text.{offsets_text, uint16}
 use Rattle.postscript_layout_write.specs.declared.entries.Form.{Form}
 use Rattle.postscript_layout_write.specs.declared.values.Adjustment.{Adjustment}
+use Rattle.postscript_layout_write.proofs.ClassReading.{class-read}
 use Rattle.postscript_layout_write.proofs.Firsts.{Found, first-cases, none_found, option_cases, some_found}
 use Rattle.postscript_layout_write.proofs.Holding.{holds-first, holds-in, holds-second, holds-word, length-uint16}
 use Rattle.postscript_layout_write.proofs.Reading.{SubtableRead, any-default, is-nothing, length-offsets, not_there, offsets-read, subtable-read, there}
@@ -133,7 +136,7 @@ module _ (type flag set : ℕ) (offsets rest t : List ℕ) (l : ℕ) (small : ty
   rest-held : Holds rest t (l + (6 + length offsets * 2 + set_size flag))
   rest-held = holds-second (lookup_text type flag set offsets) rest (6 + length offsets * 2 + set_size flag) (length-lookup type flag set offsets) held
 
--- the pairs of a lookup whose subtables are there
+-- the listed pairs of a lookup whose subtables are there
 module _ (f : (x y : ℕ) → Adjustment) (t : List ℕ) (l : ℕ) (offsets subtables : List ℕ) (start : ℕ) (has : HasSubtables f offsets subtables)
     (held : Holds subtables t start) (count : word t (l + 4) ≡ length offsets)
     (part : (j : ℕ) → j < length offsets → pairs_at t l j ≡ Some (start + get_or offsets j 0)) where
@@ -163,8 +166,8 @@ module _ (f : (x y : ℕ) → Adjustment) (t : List ℕ) (l : ℕ) (offsets subt
   applies x form firsts a _ (not_there never) is listed none = never is listed
   applies x form firsts a _ there is listed none = absurd (cc)
 
-  pairs-read : (x y : ℕ) → by_lookup t l x y ≡ f x y
-  pairs-read x y = by (found_in t l x y) (first-cases (λ j. by_part t (pairs_at t l j) x y) (word t (l + 4)))
+  listed-read : (x y : ℕ) → by_lookup t l x y ≡ f x y
+  listed-read x y = by (found_in t l x y) (first-cases (λ j. by_part t (pairs_at t l j) x y) (word t (l + 4)))
     where
       by : (a : Option Adjustment) → Found (λ j. by_part t (pairs_at t l j) x y) (word t (l + 4)) a → or_nothing a ≡ f x y
       by _ (none_found none) = elim (option_cases (form_of (f x y))) [
@@ -180,6 +183,16 @@ module _ (f : (x y : ℕ) → Adjustment) (t : List ℕ) (l : ℕ) (offsets subt
       by _ (some_found j a less is) = (let within : j < length offsets = omega (arith, less, count) in
           let s = has.each j 0 within in
           sound s.0 s.1 x (f x y) a _ (pair-of j x y s.0 s.1 within s.2) is)
+
+-- the pairs of a lookup
+pairs-read : (f : (x y : ℕ) → Adjustment) (t : List ℕ) (l : ℕ) (offsets subtables : List ℕ) (start : ℕ) → HasPairs f offsets subtables → Holds subtables t start →
+    word t (l + 4) ≡ length offsets → ((j : ℕ) → j < length offsets → pairs_at t l j ≡ Some (start + get_or offsets j 0)) → (x y : ℕ) → by_lookup t l x y ≡ f x y
+pairs-read f t l offsets subtables start (are_listed has) held count part x y = listed-read f t l offsets subtables start has held count part x y
+pairs-read f t l offsets subtables start (are_classed only has) held count part x y =
+    ap (λ n. or_nothing (first_some (λ j. by_part t (pairs_at t l j) x y) n)) (count ∙ ap length only)
+    ∙ ap (λ (p : Option ℕ). or_nothing (by_part t p x y))
+    (part 0 (let one = ap length only in omega (arith, one)) ∙ ap (λ (os : List ℕ). Some (start + get_or os 0 0)) only ∙ ap (λ n. Some n) {x = start + 0} {y = start} (omega arith))
+    ∙ class-read f t start subtables has held x y
 
 -- a lookup whose subtables follow it
 module _ (flag set : ℕ) (f : (x y : ℕ) → Adjustment) (t : List ℕ) (l : ℕ) (has : HasNear flag set f t l) where

@@ -4,9 +4,10 @@ use Rattle.std.specs.List.{All}
 use Rattle.std.proofs.lemmas.List.{append_assoc, get_or_append_left, get_or_push}
 use Rattle.std.proofs.lemmas.List.Elements.{All-head}
 use Rattle.postscript_layout.specs.Numbers.{word}
+use Rattle.postscript_layout_write.specs.ClassPairs.{HasPairs, are_classed, are_listed}
 use Rattle.postscript_layout_write.specs.Coverages.{AddsChained}
 use Rattle.postscript_layout_write.specs.Flags.{set_of}
-use Rattle.postscript_layout_write.specs.Forms.{HasSubtables, IsSubtable}
+use Rattle.postscript_layout_write.specs.Forms.{IsSubtable}
 use Rattle.postscript_layout_write.specs.Holds.{Holds}
 use Rattle.postscript_layout_write.specs.Lookups.{AreStarts, HasLast, HasLookups, HasPosition, IsAway, IsPut, IsShared, Joins, MakesPosition, has_contexts, has_pairs, has_typed, is_put, is_shared}
 use Rattle.postscript_layout_write.specs.Marks.{type_at}
@@ -22,6 +23,7 @@ use Rattle.postscript_layout_write.specs.declared.pieces.Piece.{Piece}
 use Rattle.postscript_layout_write.specs.declared.positioning.Last.{Last}
 use Rattle.postscript_layout_write.specs.declared.scope.Scope.{Scope}
 use Rattle.postscript_layout_write.specs.declared.values.Adjustment.{Adjustment}
+use Rattle.postscript_layout_write.proofs.ClassReading.{length-classes}
 use Rattle.postscript_layout_write.proofs.ContextCollecting.{chained-in, chained-on}
 use Rattle.postscript_layout_write.proofs.Firsts.{nat_cases}
 use Rattle.postscript_layout_write.proofs.Holding.{holds-after, holds-in, holds-last, holds-on, holds-whole}
@@ -69,7 +71,7 @@ position-in scope gpos kept lookup t bytes at offset h (has_contexts takes m) =
 
 -- a lookup of pairs that is made
 module _ (flag set distance : ℕ) (f : (x y : ℕ) → Adjustment) (subtables : Subtables) (piece : Piece)
-    (has : HasSubtables f subtables.offsets.items subtables.bytes.items) (between : List ℕ) (long : length between ≡ distance) where
+    (has : HasPairs f subtables.offsets.items subtables.bytes.items) (between : List ℕ) (long : length between ≡ distance) where
   near-made : IsNearPiece flag set subtables piece → HasNear flag set f (piece.lookup.items ++ (between ++ piece.subtables.items)) 0
   near-made p = record {
     offsets = subtables.offsets.items;
@@ -130,9 +132,14 @@ some-bytes : (f : (x y : ℕ) → Adjustment) (offsets bytes : List ℕ) → 0 <
 some-bytes f [] bytes some all = absurd (omega (arith, some))
 some-bytes f (offset ∷ offsets) bytes some all = some-there f bytes offset (All-head (IsSubtable f bytes) offset offsets all)
 
+some-pairs : (f : (x y : ℕ) → Adjustment) (offsets bytes : List ℕ) → 0 < length offsets → HasPairs f offsets bytes → 0 < length bytes
+some-pairs f offsets bytes some (are_listed has) = some-bytes f offsets bytes some has.each
+some-pairs f offsets bytes some (are_classed only has) = subst (λ (xs : List ℕ). 0 < length xs) (sym has.is.text)
+    (length-classes has.row_count has.column_count has.values has.firsts has.rows has.columns)
+
 -- a lookup that is made
 pub pairs-made : (scope : Scope) (gpos kept : List ℕ) (lookup distance : ℕ) (subtables : Subtables) (piece : Piece) → takes_type scope gpos lookup ≡ false →
-    takes_contexts scope gpos lookup ≡ false → HasSubtables (new_pair scope gpos kept lookup) subtables.offsets.items subtables.bytes.items →
+    takes_contexts scope gpos lookup ≡ false → HasPairs (new_pair scope gpos kept lookup) subtables.offsets.items subtables.bytes.items →
     IsPiece (new_flag scope (word gpos (lookup + 2))) (set_of gpos lookup) distance subtables piece →
     MakesPosition scope gpos kept lookup distance piece.lookup.items piece.subtables.items
 pairs-made scope gpos kept lookup distance subtables piece never none has is = record {
@@ -147,7 +154,7 @@ pairs-made scope gpos kept lookup distance subtables piece never none has is = r
         (ap (λ xs. piece.lookup.items ++ xs) empty ∙ append-nil piece.lookup.items)
         (lookup-made (new_flag scope (word gpos (lookup + 2))) (set_of gpos lookup) 0 (new_pair scope gpos kept lookup) subtables piece has [] refl (near_piece p))
     by (far_piece p) empty =
-        let some = some-bytes (new_pair scope gpos kept lookup) subtables.offsets.items subtables.bytes.items p.some has.each in
+        let some = some-pairs (new_pair scope gpos kept lookup) subtables.offsets.items subtables.bytes.items p.some has in
         let none : length subtables.bytes.items ≡ 0 = ap length (sym p.behind ∙ empty) in
         absurd (omega (arith, some, none))
 

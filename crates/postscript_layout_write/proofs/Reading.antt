@@ -82,7 +82,7 @@ never-both false q r s is = absurd (cc)
 values-of : (x y w h : ℕ) → Values
 values-of x y w h = record { x_placement = x; y_placement = y; x_advance = w; y_advance = h }
 
-same-values : (a b : Values) → a.x_placement ≡ b.x_placement → a.y_placement ≡ b.y_placement → a.x_advance ≡ b.x_advance → a.y_advance ≡ b.y_advance → a ≡ b
+pub same-values : (a b : Values) → a.x_placement ≡ b.x_placement → a.y_placement ≡ b.y_placement → a.x_advance ≡ b.x_advance → a.y_advance ≡ b.y_advance → a ≡ b
 unfolding values-of
 same-values a b p q r s =
     ap (λ n. values-of n a.y_placement a.x_advance a.y_advance) p ∙ ap (λ n. values-of b.x_placement n a.x_advance a.y_advance) q
@@ -91,7 +91,7 @@ same-values a b p q r s =
 both-of : (v : Values) (second : Option Values) → Adjustment
 both-of v second = record { first = v; second = second }
 
-same-adjustment : (a b : Adjustment) → a.first ≡ b.first → a.second ≡ b.second → a ≡ b
+pub same-adjustment : (a b : Adjustment) → a.first ≡ b.first → a.second ≡ b.second → a ≡ b
 unfolding both-of
 same-adjustment a b p q = ap (λ v. both-of v a.second) p ∙ ap (λ v. both-of b.first v) q
 
@@ -107,7 +107,7 @@ is-nothing a none = by a.first a.second none
         (same-values v zero_values (eqb-true v.x_placement 0 c.0) (eqb-true v.y_placement 0 c.1) (eqb-true v.x_advance 0 c.3) (eqb-true v.y_advance 0 c.2))
         refl
 
-advance-is : (v : Values) (second : Option Values) → form_by v second ≡ Some Advance →
+pub advance-is : (v : Values) (second : Option Values) → form_by v second ≡ Some Advance →
     (second ≡ None) × (v.x_placement ≡ 0) × (v.y_placement ≡ 0) × (v.y_advance ≡ 0)
 advance-is v (Some other) is = absurd (cc)
 advance-is v None is =
@@ -134,6 +134,10 @@ all-values t at = refl
 one-value : (t : List ℕ) (at : ℕ) → values_at t at 4 ≡ values-of 0 0 (word t (at + 0)) 0
 unfolding values_below values-of
 one-value t at = refl
+
+pub one-advance : (t : List ℕ) (at : ℕ) → values_at t at 4 ≡ record { x_placement = 0; y_placement = 0; x_advance = word t (at + 0); y_advance = 0 }
+unfolding values-of
+one-advance t at = one-value t at
 
 pub size-15 : size_of 15 ≡ 8
 unfolding values_below

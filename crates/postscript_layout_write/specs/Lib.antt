@@ -47,3 +47,5 @@ pub mod Definitions
 pub mod MarkSets
 pub mod Features
 pub mod Records
+pub mod Lines
+pub mod ClassPairs

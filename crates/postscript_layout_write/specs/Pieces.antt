@@ -4,7 +4,7 @@
 use Rattle.std.specs.Prelude.{◌≡◌, ℕ, ◌+◌, ◌*◌, ◌<◌, ◌≤◌, List, [], ◌∷◌, ◌++◌, length, slice_index, if◌then◌else◌}
 use Rattle.std.specs.Int.{to_be_bytes, w32}
 use Rattle.postscript_layout_write.specs.Flags.{uses_set}
-use Rattle.postscript_layout_write.specs.Forms.{HasSubtables}
+use Rattle.postscript_layout_write.specs.ClassPairs.{HasPairs}
 use Rattle.postscript_layout_write.specs.Holds.{Holds}
 use Rattle.postscript_layout_write.specs.RuleSets.{rule_head_text}
 use Rattle.postscript_layout_write.specs.Scopes.{mark_set_text}
@@ -75,7 +75,7 @@ pub data IsPiece (flag set distance : ℕ) (subtables : Subtables) (piece : Piec
 pub record HasNear (flag set : ℕ) (f : (x y : ℕ) → Adjustment) (bytes : List ℕ) (offset : ℕ) : Type 0 where
   pub offsets : List ℕ
   pub subtables : List ℕ
-  pub has : HasSubtables f offsets subtables
+  pub has : HasPairs f offsets subtables
   pub fits : LookupFits flag set offsets
   pub there : Holds (lookup_text 2 flag set offsets ++ subtables) bytes offset
 
@@ -85,7 +85,7 @@ pub record HasFar (flag set : ℕ) (f : (x y : ℕ) → Adjustment) (bytes : Lis
   pub subtables : List ℕ
   pub extensions : List ℕ
   pub distance : ℕ
-  pub has : HasSubtables f offsets subtables
+  pub has : HasPairs f offsets subtables
   pub some : 0 < length offsets
   pub are : AreExtensions (length offsets) extensions
   pub fits : LookupFits flag set extensions

@@ -1,13 +1,16 @@
-//! Collects the pairs of a lookup as subtables, each with pairs of one form.
+//! Collects the pairs of a lookup as subtables: each with listed pairs of one form, or one by classes of glyphs.
 ghost use Rattle.std.specs.Prelude.{◌≡◌, ◌⊎◌, ◌^◌, ◌<◌, ◌≤◌, length, IfErr, IfOk, OnOk};
+ghost use Rattle.postscript_layout_write.specs.ClassPairs.{AreRowsIfOpen, HasPairs};
 ghost use Rattle.postscript_layout_write.specs.Forms.{AddsForm, AddsForms, AddsSubtable, AreForms, Completes, HasSubtables, MakesRoom};
 ghost use Rattle.postscript_layout_write.specs.Refusals.{Fails};
 ghost use Rattle.postscript_layout_write.specs.Scopes.{new_pair};
 ghost use Rattle.postscript_layout_write.specs.declared.error.Error.TheVariants as errors;
 
+use crate::class_pairs::{add_first, class_subtable};
 use crate::entries::{Entry, Form, entries_of};
 use crate::error::Result;
 use crate::limit::pay;
+use crate::lines::Lines;
 use crate::scope::Scope;
 use crate::subtables::{Sets, put_subtable};
 use std::alloc::Global;
@@ -101,18 +104,26 @@ impl Forms {
     }
 }
 
+/// The pairs of a lookup: as they are listed, and as rows of advances.
+#[derive(Drop)]
+struct Pairs {
+    listed: Subtables,
+    rows: Lines,
+}
+
 /// Collects the pairs of a lookup.
-pub(crate) fn forms_of(
+fn pairs_of(
     alloc: Global,
     gpos: &[u8],
     lookup: usize,
     scope: Scope,
     kept: &[u16],
     limit: &mut u64,
-) -> Result<Forms>
+) -> Result<Pairs>
     requires near { lookup < 2 ^ 31 }
     requires few { length kept.now < 65536 }
-    ensures exact { IfOk result (λ forms. HasSubtables (new_pair scope gpos.now kept.now lookup) forms.subtables.offsets.items forms.subtables.bytes.items) }
+    ensures listed { IfOk result (λ pairs. HasSubtables (new_pair scope gpos.now kept.now lookup) pairs.listed.offsets.items pairs.listed.bytes.items) }
+    ensures rows { IfOk result (λ pairs. AreRowsIfOpen (new_pair scope gpos.now kept.now lookup) (length kept.now) (length kept.now) pairs.rows) }
     ensures spends { limit.new ≤ limit.old }
     ensures why { IfErr result (λ e. Fails limit.new e) }
 {
@@ -125,11 +136,42 @@ pub(crate) fn forms_of(
         first: Sets::new(alloc),
         both: Sets::new(alloc),
     };
+    let mut rows = Lines::new(alloc, kept.len())?;
     for k in 0..kept.len() {
         pay(limit)?;
         let entries = entries_of(alloc, gpos, lookup, scope, kept[k] as usize, kept, limit)?;
         forms.add(alloc, k as u16, &entries)?;
+        add_first(alloc, &mut rows, &entries)?;
     }
     forms.complete()?;
-    Ok(forms)
+    Ok(Pairs {
+        listed: forms.subtables,
+        rows,
+    })
+}
+
+/// Returns the pairs of a lookup, listed one by one, or by classes of glyphs if that takes fewer bytes.
+pub(crate) fn subtables_of(
+    alloc: Global,
+    gpos: &[u8],
+    lookup: usize,
+    scope: Scope,
+    kept: &[u16],
+    limit: &mut u64,
+) -> Result<Subtables>
+    requires near { lookup < 2 ^ 31 }
+    requires few { length kept.now < 65536 }
+    ensures exact { IfOk result (λ subtables. HasPairs (new_pair scope gpos.now kept.now lookup) subtables.offsets.items subtables.bytes.items) }
+    ensures spends { limit.new ≤ limit.old }
+    ensures why { IfErr result (λ e. Fails limit.new e) }
+{
+    let pairs = pairs_of(alloc, gpos, lookup, scope, kept, limit)?;
+    match class_subtable(alloc, &pairs.rows, pairs.listed.bytes.len())? {
+        Some(bytes) => {
+            let mut offsets = Vec::new(alloc);
+            offsets.push(0)?;
+            Ok(Subtables { offsets, bytes })
+        }
+        None => Ok(pairs.listed),
+    }
 }

@@ -4,7 +4,8 @@
 //!
 //! It is proved that each lookup of the new `GPOS` table adjusts each pair of kept glyphs exactly as the lookup of the
 //! same index of the old table, and no other pair (`KeepsKerning` in specs/Kerning.antt). The first subtable that applies
-//! to a pair counts, in both formats, and extensions are followed (specs/Pairs.antt). The number of pairs has no bound:
+//! to a pair counts, in both formats, and extensions are followed (specs/Pairs.antt). Pairs are written by classes of both
+//! glyphs (format 2) if that takes fewer bytes (specs/ClassPairs.antt), or else one by one. The number of pairs has no bound:
 //! many pairs are in several subtables, which follow all lookups, and the lookup has extensions. The script list and the
 //! feature list have the same bytes at the same offsets, with all tables that they name (specs/ScriptLists.antt). Each kept
 //! glyph has its class (specs/Classes.antt).
@@ -64,6 +65,7 @@ mod applying;
 mod called;
 mod carets;
 mod cells;
+mod class_pairs;
 mod classes;
 mod context_rules;
 mod contexts;
@@ -80,6 +82,8 @@ mod leaving;
 mod left_positions;
 mod ligatures;
 mod limit;
+mod line_classes;
+mod lines;
 mod lookups;
 mod marks;
 mod numbers;

@@ -15,7 +15,7 @@ ghost use Rattle.postscript_layout_write.specs.Typed.{AddsTyped};
 ghost use Rattle.postscript_layout_write.specs.declared.error.Error.TheVariants as errors;
 
 use crate::error::{Error, Result};
-use crate::forms::forms_of;
+use crate::forms::subtables_of;
 use crate::limit::pay;
 use crate::numbers::{put_uint16, word};
 use crate::pieces::{Piece, pairs_piece};
@@ -211,8 +211,8 @@ fn piece_of(
         let piece = contexts_piece(alloc, gpos, lookup, flag, kept, limit)?;
         return Ok(piece);
     }
-    let forms = forms_of(alloc, gpos, lookup, scope, kept, limit)?;
-    let piece = pairs_piece(alloc, gpos, lookup, flag as u16, &forms.subtables, distance)?;
+    let subtables = subtables_of(alloc, gpos, lookup, scope, kept, limit)?;
+    let piece = pairs_piece(alloc, gpos, lookup, flag as u16, &subtables, distance)?;
     Ok(piece)
 }
 
@@ -329,8 +329,9 @@ fn write_table(
 ///
 /// `kept` has the old numbers of the glyphs. The new number of a glyph is its index there. The new table has version 1.0,
 /// the script list and the feature list of the old one, and as many lookups in the same order. Lookups of pair
-/// adjustments, also by extensions, keep the pairs of kept glyphs, listed one by one. If they take more than 8 kB, or if
-/// 32 kB follow, the lookup has extensions, and its subtables follow all lookups. All other lookups have no subtables.
+/// adjustments, also by extensions, keep the pairs of kept glyphs: by classes of both glyphs (format 2) if only advances of
+/// first glyphs are adjusted and this takes fewer bytes, or else one by one. If they take more than 8 kB, or if 32 kB
+/// follow, the lookup has extensions, and its subtables follow all lookups. All other lookups have no subtables.
 ///
 /// One unit of the limit is paid for each language system, script, feature and lookup, and for each kept glyph in each
 /// lookup. One more is paid for each subtable, covered glyph, range, pair and second glyph that is looked at.

@@ -37,7 +37,7 @@ fn put_values(out: &mut Vec<u8>, values: &Values) -> std::result::Result<(), All
 }
 
 /// Whether a pair has a form.
-fn has_form(form: Form, entry: &Entry) -> bool
+pub(crate) fn has_form(form: Form, entry: &Entry) -> bool
     ensures yes { result ≡ true → the_form entry.now.adjustment ≡ Some form }
     ensures no { result ≡ false → the_form entry.now.adjustment ≡ Some form → ⊥ }
 {

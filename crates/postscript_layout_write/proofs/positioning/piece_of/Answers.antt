@@ -15,9 +15,9 @@ returns-clause-done c =
     let gpos = c.args.gpos.now in
     let flag : c.new_flag-flag.result ≡ new_flag c.args.scope (word gpos (c.args.lookup + 2)) = c.new_flag-flag.ensures.exact ∙ ap (new_flag c.args.scope) c.word.ensures.exact in
     let piece = c.in_ok-piece-3.piece in
-    let subtables = c.in_ok-forms.forms.subtables in
+    let subtables = c.in_ok-subtables.subtables in
     pairs-made c.args.scope gpos c.args.kept.now c.args.lookup c.args.distance subtables piece
-    (sym c.in_ok-typed.ensures.exact ∙ c.if-typed.false) (sym c.in_ok-contextual.ensures.exact ∙ c.if-contextual.false) c.in_ok-forms.ensures.exact
+    (sym c.in_ok-typed.ensures.exact ∙ c.if-typed.false) (sym c.in_ok-contextual.ensures.exact ∙ c.if-contextual.false) c.in_ok-subtables.ensures.exact
     (subst (λ (n : ℕ). IsPiece n (set_of gpos c.args.lookup) c.args.distance subtables piece) flag c.in_ok-piece-3.ensures.made)
 
 pub returns-then-typed-clause-done : goal.returns-then-typed-clause-done
