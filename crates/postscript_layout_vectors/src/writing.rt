@@ -847,9 +847,10 @@ fn carets(rt: HostRuntime) {
 /// The number of glyphs of the large lookup.
 const MANY: usize = 130;
 
-/// Appends pairs of all glyphs by classes (format 2). Each glyph has a class of its own, and each pair has another advance.
-fn put_classes(bytes: &mut Vec<u8>) -> Result<(), AllocError> {
-    put(bytes, &[2, 33_816, 4, 0, 33_826, 33_826, 130, 130])?;
+/// Appends pairs of all glyphs by classes (format 2). Each glyph has a class of its own, and each pair has another number: a
+/// placement (value format 1) or an advance (4).
+fn put_classes(bytes: &mut Vec<u8>, format: u16) -> Result<(), AllocError> {
+    put(bytes, &[2, 33_816, format, 0, 33_826, 33_826, 130, 130])?;
     for first in 0..MANY {
         for second in 0..MANY {
             put(bytes, &[(first * MANY + second + 1) as u16])?;
@@ -863,9 +864,9 @@ fn put_classes(bytes: &mut Vec<u8>) -> Result<(), AllocError> {
 }
 
 /// Returns a table with two lookups at two offsets: pairs of all glyphs at offset 6, and the pair of 5 and 7 by 33 after it.
-fn large_table(alloc: Global, first: u16, second: u16) -> Result<Vec<u8>, AllocError> {
+fn large_table(alloc: Global, first: u16, second: u16, format: u16) -> Result<Vec<u8>, AllocError> {
     let mut bytes = table(alloc, HEAD, &[2, first, second, 2, 0, 1, 8])?;
-    put_classes(&mut bytes)?;
+    put_classes(&mut bytes, format)?;
     put(
         &mut bytes,
         &[2, 0, 1, 8, 1, 12, 4, 0, 1, 18, 1, 1, 5, 1, 7, 33],
@@ -885,27 +886,34 @@ fn word(table: &[u8], offset: usize) -> usize
     }
 }
 
-/// Returns the advance of a pair with a second glyph in a set of pairs.
-fn advance_of(table: &[u8], set: usize, second: usize) -> Option<usize>
-    requires { set < 2 ^ 36 }
+/// Returns the first number of a pair with a second glyph in a set of pairs, which take a number of bytes each.
+fn number_of(table: &[u8], set: usize, size: usize, second: usize) -> Option<usize>
+    requires set { set < 2 ^ 36 }
+    requires size { size < 16 }
 {
     for k in 0..word(table, set) {
-        if word(table, set + 2 + k * 4) == second {
-            return Some(word(table, set + 4 + k * 4));
+        if word(table, set + 2 + k * size) == second {
+            return Some(word(table, set + 4 + k * size));
         }
     }
     None
 }
 
-/// Returns the advance of a pair in a subtable of format 1 with a list of first glyphs.
-fn advance_in(table: &[u8], subtable: usize, first: usize, second: usize) -> Option<usize>
+/// Returns the first number of a pair in a subtable of format 1 with a list of first glyphs: the advance, or the first of
+/// four numbers.
+fn number_in(table: &[u8], subtable: usize, first: usize, second: usize) -> Option<usize>
     requires { subtable < 2 ^ 35 }
 {
     let coverage = subtable + word(table, subtable + 2);
+    let size = if word(table, subtable + 4) == 4 {
+        4
+    } else {
+        10
+    };
     for i in 0..word(table, coverage + 2) {
         if word(table, coverage + 4 + i * 2) == first {
             let set = subtable + word(table, subtable + 10 + i * 2);
-            return advance_of(table, set, second);
+            return number_of(table, set, size, second);
         }
     }
     None
@@ -925,14 +933,14 @@ fn subtable_at(table: &[u8], at: usize, j: usize) -> usize
     }
 }
 
-/// Returns the advance of a pair by the first subtable of a lookup that applies. Extensions are followed.
-fn advance(table: &[u8], lookup: usize, first: usize, second: usize) -> usize
+/// Returns the first number of a pair by the first subtable of a lookup that applies. Extensions are followed.
+fn number(table: &[u8], lookup: usize, first: usize, second: usize) -> usize
     requires { lookup < 65536 }
 {
     let list = word(table, 8);
     let at = list + word(table, list + 2 + lookup * 2);
     for j in 0..word(table, at + 4) {
-        if let Some(found) = advance_in(table, subtable_at(table, at, j), first, second) {
+        if let Some(found) = number_in(table, subtable_at(table, at, j), first, second) {
             return found;
         }
     }
@@ -947,8 +955,8 @@ fn has_all(table: &[u8], large: usize, small: usize) -> bool
     for first in 0..MANY {
         for second in 0..MANY {
             let one = if first == 5 && second == 7 { 33 } else { 0 };
-            if advance(table, large, first, second) != first * MANY + second + 1
-                || advance(table, small, first, second) != one
+            if number(table, large, first, second) != first * MANY + second + 1
+                || number(table, small, first, second) != one
             {
                 return false;
             }
@@ -970,10 +978,10 @@ fn all_glyphs(alloc: Global) -> Result<Vec<u16>, AllocError> {
 #[test]
 fn large(rt: HostRuntime) {
     let kept = all_glyphs(rt.alloc()).expect(&rt, "memory");
-    let old = large_table(rt.alloc(), 6, 34_106).expect(&rt, "memory");
+    let old = large_table(rt.alloc(), 6, 34_106, 1).expect(&rt, "memory");
     let mut limit = 100_000_000;
     let new = kerning(rt.alloc(), &old, &kept, &mut limit).expect(&rt, "a table");
-    assert!(rt; new.len() > 67_600 && has_all(&new, 0, 1));
+    assert!(rt; new.len() > 169_000 && has_all(&new, 0, 1));
     let mut limit = 100_000_000;
     let same = positions(rt.alloc(), &old, &kept, &mut limit).expect(&rt, "a table");
     assert!(rt; same == new);
@@ -983,19 +991,67 @@ fn large(rt: HostRuntime) {
 #[test]
 fn large_at_last(rt: HostRuntime) {
     let kept = all_glyphs(rt.alloc()).expect(&rt, "memory");
-    let old = large_table(rt.alloc(), 34_106, 6).expect(&rt, "memory");
+    let old = large_table(rt.alloc(), 34_106, 6, 1).expect(&rt, "memory");
     let mut limit = 100_000_000;
     let new = kerning(rt.alloc(), &old, &kept, &mut limit).expect(&rt, "a table");
-    assert!(rt; new.len() > 67_600 && has_all(&new, 1, 0));
+    assert!(rt; new.len() > 169_000 && has_all(&new, 1, 0));
+}
+
+/// Returns the advance of a pair in a subtable of format 2 whose lists of classes begin with glyph 0.
+fn advance_by_classes(table: &[u8], subtable: usize, first: usize, second: usize) -> usize
+    requires subtable { subtable < 2 ^ 35 }
+    requires first { first < 65536 }
+    requires second { second < 65536 }
+{
+    let rows = subtable + word(table, subtable + 8);
+    let columns = subtable + word(table, subtable + 10);
+    let row = word(table, rows + 6 + first * 2);
+    let column = word(table, columns + 6 + second * 2);
+    word(
+        table,
+        subtable + 16 + (row * word(table, subtable + 14) + column) * 2,
+    )
+}
+
+/// Whether a subtable of format 2 covers all glyphs and has their pairs.
+fn has_all_by_classes(table: &[u8], subtable: usize) -> bool
+    requires { subtable < 2 ^ 35 }
+{
+    let coverage = subtable + word(table, subtable + 2);
+    for first in 0..MANY {
+        if word(table, coverage + 4 + first * 2) != first {
+            return false;
+        }
+        for second in 0..MANY {
+            if advance_by_classes(table, subtable, first, second) != first * MANY + second + 1 {
+                return false;
+            }
+        }
+    }
+    true
+}
+
+/// Pairs whose advances take fewer bytes by classes are written so.
+#[test]
+fn classed(rt: HostRuntime) {
+    let kept = all_glyphs(rt.alloc()).expect(&rt, "memory");
+    let old = large_table(rt.alloc(), 6, 34_106, 4).expect(&rt, "memory");
+    let mut limit = 100_000_000;
+    let new = kerning(rt.alloc(), &old, &kept, &mut limit).expect(&rt, "a table");
+    let list = word(&new, 8);
+    let subtable = subtable_at(&new, list + word(&new, list + 2), 0);
+    assert!(rt; new.len() < 36_000 && word(&new, subtable) == 2);
+    assert!(rt; has_all_by_classes(&new, subtable));
 }
 
 /// A large lookup and a small one for few glyphs are as small as others.
 #[test]
 fn large_for_few(rt: HostRuntime) {
-    let old = large_table(rt.alloc(), 6, 34_106).expect(&rt, "memory");
+    let old = large_table(rt.alloc(), 6, 34_106, 1).expect(&rt, "memory");
     let lookups = [
-        2, 6, 56, 2, 0, 1, 8, 1, 14, 4, 0, 2, 22, 32, 1, 2, 0, 1, 2, 0, 656, 1, 658, 2, 0, 916, 1,
-        918, 2, 0, 1, 8, 1, 12, 4, 0, 1, 18, 1, 1, 0, 1, 1, 33,
+        2, 6, 80, 2, 0, 1, 8, 1, 14, 15, 0, 2, 22, 44, 1, 2, 0, 1, 2, 0, 656, 0, 0, 0, 1, 658, 0,
+        0, 0, 2, 0, 916, 0, 0, 0, 1, 918, 0, 0, 0, 2, 0, 1, 8, 1, 12, 4, 0, 1, 18, 1, 1, 0, 1, 1,
+        33,
     ];
     let new = table(rt.alloc(), HEAD, &lookups).expect(&rt, "memory");
     let mut limit = 100_000;
