@@ -42,6 +42,7 @@ import fontTools.varLib.cff
 from fontTools.pens.recordingPen import RecordingPen
 from fontTools.ttLib import TTFont, newTable
 from fontTools.ttLib.tables._c_m_a_p import CmapSubtable
+from fontTools.ttLib.tables import otTables
 from fontTools.ttLib.tables._f_v_a_r import NamedInstance
 from fontTools.varLib.featureVars import addFeatureVariations
 
@@ -134,10 +135,14 @@ def _(folder):
     assert names(out) == records[:2], names(out)
 
 
+#: what --exact says of a text of Latin letters: a shaper draws the space for characters that it hides
+EXACT = "psotf: text may look different, since --exact leaves out characters that a shaper may use: U+0020\n"
+
+
 @case("subset: what is left out is said once")
 def _(folder):
     _, said = subset(folder, "--layout-features", "kern", "--exact")
-    assert said == "psotf: tables dropped: FFTM\n", said
+    assert said == EXACT + "psotf: tables dropped: FFTM\n", said
     _, said = subset(folder)
     # hb-subset has 14 glyphs for "Hello" and the space, with .notdef
     assert said == "psotf: glyphs added for shaping: 9\npsotf: tables dropped: FFTM\n", said
@@ -175,9 +180,63 @@ def _(folder):
     for tag in ("GDEF", "GPOS", "GSUB"):
         del font[tag]
     font.save(path)
-    assert subset(folder, "--exact", font=path)[1] == "psotf: tables dropped: FFTM\n"
+    assert subset(folder, "--exact", font=path)[1] == EXACT + "psotf: tables dropped: FFTM\n"
     run("subset", path, "--text", "Hello", "-o", out)
-    assert run("subset", out, "--text", "He", "--exact", "-o", folder / "again.otf")[1] == ""
+    assert run("subset", out, "--text", "He ", "--exact", "-o", folder / "again.otf")[1] == ""
+
+
+@case("subset: --exact names the characters that a shaper may use, at most twelve")
+def _(folder):
+    out, mapped = folder / "out.otf", TTFont(FONT).getBestCmap()
+    said = run("subset", FONT, "--unicodes", "54,30c", "--exact", "-o", out)[1]
+    # the space, Ť, which is T and U+030C, and the dotted circle, which a shaper puts under a mark without a base
+    wanted = [char for char in (0x20, 0x164, 0x25CC) if char in mapped]
+    assert said.splitlines()[0].endswith("may use:" + "".join(f" U+{char:04X}" for char in wanted)), said
+    said = run("subset", FONT, "--unicodes", "41-5a,61-7a,301", "--exact", "-o", out)[1].splitlines()[0]
+    assert said.endswith(" ..") and said.count("U+") == 12, said
+    assert run("subset", FONT, "--text", "Hello", "--exact", "--quiet", "-o", out)[1] == ""
+    assert "may use" not in run("subset", FONT, "--text", "Hello", "--exact", "--drop-layout", "-o", out)[1]
+
+
+def device():
+    """Returns a device table: one pixel at 12 pixels per em."""
+    table = otTables.Device()
+    table.StartSize, table.EndSize, table.DeltaFormat, table.DeltaValue = 12, 12, 1, [1]
+    return table
+
+
+def layout_parts(path):
+    """Writes EB Garamond with feature variations, a device table of a mark, and attachment points."""
+    font = TTFont(FONT)
+    for tag in ("GSUB", "GPOS"):
+        table = font[tag].table
+        record, table.FeatureVariations = otTables.FeatureVariationRecord(), otTables.FeatureVariations()
+        record.ConditionSet, record.FeatureTableSubstitution = otTables.ConditionSet(), otTables.FeatureTableSubstitution()
+        record.ConditionSet.ConditionTable, record.FeatureTableSubstitution.SubstitutionRecord = [], []
+        record.FeatureTableSubstitution.Version = table.FeatureVariations.Version = 0x00010000
+        table.Version, table.FeatureVariations.FeatureVariationRecord = 0x00010001, [record]
+    subtables = [subtable for lookup in font["GPOS"].table.LookupList.Lookup for subtable in lookup.SubTable]
+    anchor = next(subtable for subtable in subtables if subtable.LookupType == 4).MarkArray.MarkRecord[0].MarkAnchor
+    anchor.Format, anchor.XDeviceTable, anchor.YDeviceTable = 3, device(), None
+    points, coverage = otTables.AttachPoint(), otTables.Coverage()
+    points.PointIndex, coverage.glyphs = [0], ["H"]
+    attached = font["GDEF"].table.AttachList = otTables.AttachList()
+    attached.Coverage, attached.AttachPoint = coverage, [points]
+    font.save(path)
+
+
+@case("subset: the parts of layout tables that are lost are named, and none with --retain-gids")
+def _(folder):
+    path = folder / "parts.otf"
+    layout_parts(path)
+    told = {
+        "psotf: feature variations dropped from GSUB", "psotf: feature variations dropped from GPOS",
+        "psotf: device tables dropped from GPOS", "psotf: attachment points dropped from GDEF",
+    }  # fmt: skip
+    said = subset(folder, font=path)[1].splitlines()
+    assert {line for line in said if "dropped from" in line} == told, said
+    assert "dropped from" not in subset(folder, "--retain-gids", font=path)[1]
+    assert "dropped from" not in subset(folder)[1]
 
 
 @case("subset: the glyphs of the chosen features, and no others")
@@ -191,6 +250,18 @@ def _(folder):
         glyphs = TTFont(subset(folder, *words)[0]).getGlyphOrder()
         assert glyphs == [".notdef", *wanted], (words, glyphs)
     run("subset", FONT, "--text", "Hello", "--layout-features", "ligature", "-o", folder / "out.otf", status=2)
+
+
+@case("subset: --glyphs keeps the glyphs with these names and their characters, and an unknown name is named")
+def _(folder):
+    out = folder / "out.otf"
+    run("subset", FONT, "--glyphs", "A,a.sc,e", "--drop-layout", "-o", out)
+    font = TTFont(out)
+    assert sorted(font.getGlyphOrder()) == sorted([".notdef", "A", "a.sc", "e"]), font.getGlyphOrder()
+    assert sorted(font.getBestCmap().values()) == ["A", "e"], font.getBestCmap()
+    said = run("subset", FONT, "--glyphs", "A,nothing", "-o", out, status=1)[1]
+    assert said == f"psotf: {FONT}: the font has no glyph with the name nothing\n", said
+    run("subset", FONT, "--glyphs", "A", "--gids", "1", "-o", out, status=2)
 
 
 @case("subset: --quiet says nothing")

@@ -133,6 +133,33 @@ impl Choice {
         Ok(())
     }
 
+    /// Adds the glyphs of a list of names. The first glyph with a name counts.
+    fn put_names(&mut self, face: &Face<'_>, list: &str) -> Result<(), Failure> {
+        if list.is_empty() {
+            return Ok(());
+        }
+        for name in list.split(',') {
+            match face.glyph_of_name(name.as_bytes()) {
+                Some(glyph) => self.glyphs.push(glyph)?,
+                None => return Err(no_name(name)),
+            }
+        }
+        Ok(())
+    }
+
+    /// Adds the glyphs of the numbers or the names that the arguments list, and their characters.
+    fn put_glyphs(
+        &mut self,
+        alloc: Global,
+        face: &Face<'_>,
+        words: &ArgMatches<'_>,
+    ) -> Result<(), Failure> {
+        self.put_names(face, words.get_str("glyphs").unwrap_or(""))?;
+        let list = words.get_str("gids").unwrap_or("");
+        self.put_gids(list, face.font.char_strings.len())?;
+        Ok(self.put_own_chars(alloc, face)?)
+    }
+
     /// Adds the characters of the glyphs, from a list of all characters.
     fn put_chars(&mut self, all: &[Mapped]) -> Result<(), AllocError> {
         for glyph in &self.glyphs {
@@ -159,9 +186,7 @@ impl Choice {
         } else if let Some(list) = words.get_str("unicodes") {
             self.put_unicodes(alloc, face, list)?;
         } else {
-            let list = words.get_str("gids").unwrap_or("");
-            self.put_gids(list, face.font.char_strings.len())?;
-            self.put_own_chars(alloc, face)?;
+            self.put_glyphs(alloc, face, words)?;
         }
         if self.chars.is_empty() && self.glyphs.is_empty() {
             return Err(Failure::no_glyphs());
@@ -205,6 +230,18 @@ impl Choice {
         Ok(())
     }
 
+    /// Returns the characters that a shaper may use in addition, in ascending order.
+    pub fn not_shaped(&self, alloc: Global, face: &Face<'_>) -> Result<Vec<u32>, AllocError> {
+        let mapped = mapped_by(alloc, &face.map)?;
+        let mut known = Vec::from_slice(alloc, &self.chars)?;
+        known.sort()?;
+        let mut left = shaped(alloc, &mapped, &self.chars)?;
+        left.sort()?;
+        left.dedup();
+        left.retain(|char| known.binary_search(char).is_err());
+        Ok(left)
+    }
+
     /// Returns the characters and glyphs that the arguments choose.
     pub fn read(alloc: Global, face: &Face<'_>, words: &ArgMatches<'_>) -> Result<Choice, Failure> {
         let mut choice = Choice {
@@ -242,6 +279,11 @@ fn put_chars_of(chars: &mut Vec<u32>, all: &[Mapped], glyph: usize) -> Result<()
         chars.push(mapped.char)?;
     }
     Ok(())
+}
+
+/// Returns the failure of a name that no glyph has.
+fn no_name(name: &str) -> Failure {
+    Failure::other(format_args!("the font has no glyph with the name {name}"))
 }
 
 /// Parses a character in hexadecimal. Returns `None` if the text is no such number.

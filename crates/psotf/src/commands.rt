@@ -202,7 +202,7 @@ const SUBCOMMANDS: &[Subcommand] = &[
         name: "subset",
         about: "Write a font with only some glyphs, their kerning, marks and ligatures",
         group: "kept",
-        one_of: &["text", "gids", "unicodes"],
+        one_of: &["text", "gids", "glyphs", "unicodes"],
         place: Place::Any,
         words: &[
             Word::Text(
@@ -214,6 +214,11 @@ const SUBCOMMANDS: &[Subcommand] = &[
                 "gids",
                 "LIST",
                 "Keep the glyphs with these numbers, e.g. 1,7-12, and their characters",
+            ),
+            Word::Text(
+                "glyphs",
+                "LIST",
+                "Keep the glyphs with these names, e.g. A,a.sc, and their characters",
             ),
             Word::Text(
                 "unicodes",

@@ -1,4 +1,5 @@
 //! The layout tables of a subset.
+use crate::dropped::list_of;
 use crate::failures::{by_files, by_subset};
 use crate::features::Features;
 use postscript_files::{Choice, subset_file};
@@ -7,7 +8,6 @@ use psotf_font::face::Face;
 use psotf_output::failure::Failure;
 use psotf_output::limit::Budget;
 use psotf_output::telling;
-use psotf_output::text::Text;
 use std::alloc::{AllocError, Global};
 
 /// Opens the font in the file again, as the library takes it.
@@ -101,16 +101,6 @@ pub fn plain(alloc: Global, face: &Face<'_>, choice: &Choice<'_>) -> Result<Subs
         }),
         Err(error) => Err(by_files(error)),
     }
-}
-
-/// Returns numbers as a text, with a space before each.
-fn list_of(alloc: Global, numbers: &[u16]) -> Result<String, AllocError> {
-    let mut text = Text::new(alloc);
-    for number in numbers {
-        text.push(' ');
-        text.put_number(u64::from(*number));
-    }
-    text.end()
 }
 
 /// Reports on standard error why a table is lost, if it is.

@@ -6,6 +6,8 @@ ghost use Rattle.std.specs.Prelude.{◌<◌};
 
 mod choice;
 mod commands;
+mod devices;
+mod dropped;
 mod failures;
 mod features;
 mod flat;

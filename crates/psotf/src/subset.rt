@@ -1,7 +1,7 @@
 //! The command `subset`: fonts with only some glyphs.
 use crate::choice::Choice;
 use crate::features::Features;
-use crate::layout;
+use crate::{dropped, layout};
 use clap::ArgMatches;
 use postscript_files::Given;
 use postscript_sfnt::FontFile;
@@ -12,6 +12,7 @@ use psotf_font::face::Face;
 use psotf_font::leaving;
 use psotf_output::failure::Failure;
 use psotf_output::limit::{Budget, flat_room};
+use psotf_output::text::Text;
 use psotf_output::{saving, telling};
 use std::alloc::{AllocError, Global};
 use std::io::Write;
@@ -124,6 +125,9 @@ fn tell(
         tell_components(rt, face, named)?;
     }
     layout::tell(rt, subset)?;
+    if !words.get_flag("retain-gids") {
+        dropped::tell(rt, &face.source.file, subset)?;
+    }
     leaving::tell(rt, &face.source.file, &subset.file)
 }
 
@@ -141,15 +145,53 @@ fn tell_added(
     telling::tell(rt, format_args!("glyphs added for shaping: {added}"))
 }
 
-/// Adds the characters that a shaper may use in addition, unless the subset is exact or has no layout tables.
+/// The most characters that a message lists.
+const LISTED: usize = 12;
+
+/// Returns characters as a text, with a space before each.
+fn chars_of(alloc: Global, chars: &[u32]) -> Result<String, AllocError> {
+    let mut text = Text::new(alloc);
+    for char in chars.iter().take(LISTED) {
+        text.push(' ');
+        text.put_character(*char);
+    }
+    if chars.len() > LISTED {
+        text.push_str(" ..");
+    }
+    text.end()
+}
+
+/// Reports the characters that an exact subset does not have, although a shaper may use them.
+fn tell_exact(rt: &HostRuntime, face: &Face<'_>, choice: &Choice) -> Result<(), Failure> {
+    let left = choice.not_shaped(rt.alloc(), face)?;
+    if left.is_empty() {
+        return Ok(());
+    }
+    let list = chars_of(rt.alloc(), &left)?;
+    telling::tell(
+        rt,
+        format_args!(
+            "text may look different, since --exact leaves out characters that a shaper may use:{list}"
+        ),
+    )
+}
+
+/// Adds the characters that a shaper may use in addition, if the subset has layout tables. With `--exact` it only reports
+/// them, except with `--quiet`.
 fn put_shaped(
-    alloc: Global,
+    rt: &HostRuntime,
     face: &Face<'_>,
     words: &ArgMatches<'_>,
     choice: &mut Choice,
-) -> Result<(), AllocError> {
-    if keeps_layout(words) && !words.get_flag("exact") {
-        choice.put_shaped(alloc, face)?;
+) -> Result<(), Failure> {
+    if !keeps_layout(words) {
+        return Ok(());
+    }
+    if !words.get_flag("exact") {
+        return Ok(choice.put_shaped(rt.alloc(), face)?);
+    }
+    if !words.get_flag("quiet") {
+        tell_exact(rt, face, choice)?;
     }
     Ok(())
 }
@@ -221,7 +263,7 @@ pub fn write<W: Write>(
     let mut choice = Choice::read(rt.alloc(), face, words)?;
     let features = Features::read(rt.alloc(), words)?;
     let chosen = choice.all_glyphs(rt.alloc(), face)?.len();
-    put_shaped(rt.alloc(), face, words, &mut choice)?;
+    put_shaped(rt, face, words, &mut choice)?;
     if keeps_layout(words) {
         put_layout(rt.alloc(), face, words, &features, &mut choice, budget)?;
     } else {
