@@ -9,8 +9,10 @@ processor time, so that other work does not count. The C columns are those of to
 glyph names, the characters, and a subset of all glyphs. Rust calls the same functions as Python.
 
 A second table has the variable fonts of tools/evidence/hostile_variable.py, with tools/programs/hostile_variable_doors.c. Nothing is
-random. The exit status is 1 if a call takes more than ten seconds, or if a program ends by a signal. Each program is ended after 60
-seconds. "all outlines" and "all advances" call a function for each glyph and may take longer; a variable font may be ended there.
+random. The last column of each table is the peak of memory in MB, with the buffers that the programs pass (up to 95 MB for static fonts).
+The exit status is 1 if a call takes more than ten seconds, if a program needs more than 128 MB, or if it ends by a signal. Each program is
+ended after 60 seconds. "all outlines" and "all advances" call a function for each glyph and may take longer; a variable font may be ended
+there.
 """
 
 import itertools
@@ -32,7 +34,7 @@ C, PYTHON = TOP / "bindings" / "c", TOP / "bindings" / "python"
 DOORS = ["open", "fits", "slowest of a glyph", "all outlines", "all names", "all characters", "flat", "subset", "Python: names", "characters", "subset"]
 VARIABLE = ["axes", "instances", "slowest outline", "slowest advance", "all outlines", "all advances"]
 LOOPS = ("all outlines", "all advances")
-MOST, LONGEST = 10, 60
+MOST, LONGEST, MEMORY = 10, 60, 128
 SCRIPT = """
 import sys, time
 import postscript
@@ -63,20 +65,25 @@ def at_most():
 
 
 def columns(words):
-    """Returns the cells that a program prints, and whether it ended without a signal."""
-    told = subprocess.run(words, stdout=subprocess.PIPE, text=True, preexec_fn=at_most, env={**os.environ, "PYTHONPATH": str(PYTHON)})
-    return told.stdout.split(" | ")[:-1], told.returncode >= 0
+    """Returns the cells that a program prints, whether it ended without a signal, and its peak of memory in MB."""
+    given = {**os.environ, "PYTHONPATH": str(PYTHON)}
+    with subprocess.Popen(words, stdout=subprocess.PIPE, text=True, preexec_fn=at_most, env=given) as process:
+        told = process.stdout.read()
+        _, status, usage = os.wait4(process.pid, 0)
+        process.returncode = os.waitstatus_to_exitcode(status)
+    return told.split(" | ")[:-1], process.returncode >= 0, usage.ru_maxrss // 1024
 
 
 def row(program, name, data, path):
-    """Prints the times of a font, and returns whether it is too slow."""
+    """Prints the times and the memory of a font, and returns whether it is too slow or needs too much."""
     pathlib.Path(path).write_bytes(data)
-    here, ended = columns([program, path])
-    there, went = columns([sys.executable, "-c", SCRIPT, path])
+    here, ended, held = columns([program, path])
+    there, went, kept = columns([sys.executable, "-c", SCRIPT, path])
     here += ["-"] * (DOORS.index("subset") + 1 - len(here))
     there += ["-"] * (3 - len(there))
-    print(f"| {name} | {len(data)} |", " | ".join([*here, *there]), "|", flush=True)
-    return not ended or not went or is_slow(DOORS, [*here, *there])
+    peak = max(held, kept)
+    print(f"| {name} | {len(data)} |", " | ".join([*here, *there, str(peak)]), "|", flush=True)
+    return not ended or not went or peak > MEMORY or is_slow(DOORS, [*here, *there])
 
 
 def is_slow(doors, cells):
@@ -85,20 +92,20 @@ def is_slow(doors, cells):
 
 
 def variable_row(program, name, data, path):
-    """Prints the times of a variable font, and returns whether it is too slow."""
+    """Prints the times and the memory of a variable font, and returns whether it is too slow or needs too much."""
     pathlib.Path(path).write_bytes(data)
-    here, ended = columns([program, path])
+    here, ended, peak = columns([program, path])
     # a program that is ended in a loop has finished each single call
     ended = ended or len(here) >= VARIABLE.index(LOOPS[0])
     here += ["-"] * (len(VARIABLE) - len(here))
-    print(f"| {name} | {len(data)} |", " | ".join(here), "|", flush=True)
-    return not ended or is_slow(VARIABLE, here)
+    print(f"| {name} | {len(data)} |", " | ".join([*here, str(peak)]), "|", flush=True)
+    return not ended or peak > MEMORY or is_slow(VARIABLE, here)
 
 
 def table(doors, fonts, of, program, words):
     """Prints a table, and returns whether a row is bad."""
-    print("| font | bytes |", " | ".join(doors), "|")
-    print("|---" * (len(doors) + 2) + "|")
+    print("| font | bytes |", " | ".join([*doors, "MB"]), "|")
+    print("|---" * (len(doors) + 3) + "|")
     bad = False
     for name, (data, _) in fonts:
         if not words or any(word in name for word in words):

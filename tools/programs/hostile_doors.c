@@ -15,12 +15,12 @@
 #include "postscript.h"
 
 static uint8_t *file, *cff, *room;
-static size_t length, table, room_size = 64u << 20;
+static size_t length, table, room_size = 32u << 20;
 static psf_font font;
 static psf_segment *segments;
 static psf_operation *operations;
 static int32_t *operands;
-enum { SEGMENTS = 1 << 20, OPERANDS = 1 << 22 };
+enum { SEGMENTS = 1 << 19, OPERANDS = 1 << 22 };
 
 static double seconds(void) {
     struct timespec t;
