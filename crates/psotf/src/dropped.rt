@@ -98,14 +98,28 @@ fn tell_points(rt: &HostRuntime, gdef: &[u8]) -> Result<(), Failure> {
     Ok(())
 }
 
-/// Reports on standard error which parts of layout tables are lost under new glyph numbers.
-pub fn tell(rt: &HostRuntime, font: &FontFile<'_>, subset: &Subset) -> Result<(), Failure> {
+/// The most glyphs of a font whose lookups may use classes and sets of marks.
+const MARKED: usize = 16_377;
+
+/// Returns whether lookups that use classes or sets of marks are kept: if `GDEF` is, and the subset has few glyphs.
+fn has_marks(subset: &Subset, glyphs: usize) -> bool {
+    is_kept(subset.gdef) && glyphs <= MARKED
+}
+
+/// Reports on standard error which parts of layout tables are lost under new glyph numbers. The subset has this number of
+/// glyphs.
+pub fn tell(
+    rt: &HostRuntime,
+    font: &FontFile<'_>,
+    subset: &Subset,
+    glyphs: usize,
+) -> Result<(), Failure> {
     if let Some(gsub) = kept_table(font, *b"GSUB", subset.gsub) {
         tell_variations(rt, "GSUB", gsub)?;
     }
     if let Some(gpos) = kept_table(font, *b"GPOS", subset.gpos) {
         tell_variations(rt, "GPOS", gpos)?;
-        tell_gpos(rt, gpos, is_kept(subset.gdef))?;
+        tell_gpos(rt, gpos, has_marks(subset, glyphs))?;
     }
     if let Some(gdef) = kept_table(font, *b"GDEF", subset.gdef) {
         tell_points(rt, gdef)?;

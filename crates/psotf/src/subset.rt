@@ -113,7 +113,7 @@ fn tell_components(rt: &HostRuntime, face: &Face<'_>, named: &[usize]) -> Result
     kept.tell(rt)
 }
 
-/// Reports the added components, the lost features and the dropped tables.
+/// Reports the added components, the lost parts of layout tables and the dropped tables.
 fn tell(
     rt: &HostRuntime,
     face: &Face<'_>,
@@ -121,12 +121,14 @@ fn tell(
     named: &[usize],
     subset: &Subset,
 ) -> Result<(), Failure> {
-    if words.get_flag("retain-gids") || glyphs_in(&subset.file) > named.len() {
+    let glyphs = glyphs_in(&subset.file);
+    let retained = words.get_flag("retain-gids");
+    if retained || glyphs > named.len() {
         tell_components(rt, face, named)?;
     }
     layout::tell(rt, subset)?;
-    if !words.get_flag("retain-gids") {
-        dropped::tell(rt, &face.source.file, subset)?;
+    if !retained {
+        dropped::tell(rt, &face.source.file, subset, glyphs)?;
     }
     leaving::tell(rt, &face.source.file, &subset.file)
 }
