@@ -19,18 +19,29 @@ struct Search<'t> {
 }
 
 impl Search<'_> {
-    /// Returns the number of `size` bytes at an offset, or 0 past the end.
-    fn number(&mut self, offset: usize, size: usize) -> usize {
+    /// Returns whether another number may be read, and counts it.
+    fn goes_on(&mut self) -> bool {
         if self.left == 0 {
-            return 0;
+            return false;
         }
         self.left -= 1;
-        number_within(self.table, offset, size).unwrap_or(0)
+        true
     }
 
-    /// Returns the number of two bytes at an offset after a place.
+    /// Returns the number of two bytes at an offset after a place, or 0 past the end.
     fn word(&mut self, place: usize, offset: usize) -> usize {
-        self.number(place.saturating_add(offset), 2)
+        if !self.goes_on() {
+            return 0;
+        }
+        number_within(self.table, place.saturating_add(offset), 2).unwrap_or(0)
+    }
+
+    /// Returns the number of four bytes at an offset after a place, or 0 past the end.
+    fn long(&mut self, place: usize, offset: usize) -> usize {
+        if !self.goes_on() {
+            return 0;
+        }
+        number_within(self.table, place.saturating_add(offset), 4).unwrap_or(0)
     }
 
     /// Returns the place to which the offset at a place points.
@@ -100,7 +111,7 @@ impl Search<'_> {
             return (kind, subtable);
         }
         let kind = self.word(subtable, 2);
-        let offset = self.number(subtable.saturating_add(4), 4);
+        let offset = self.long(subtable, 4);
         (kind, subtable.saturating_add(offset))
     }
 
