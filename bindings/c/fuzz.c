@@ -153,7 +153,7 @@ static void locations(const uint8_t *file, size_t length) {
 
 /* A file that is written has a face with a CFF table. */
 static void files(const uint8_t *file, size_t length) {
-    static const uint32_t letters[] = {'A', 'e', 0x2698}, tags[] = {PSF_TAG('n', 'a', 'm', 'e'), PSF_TAG('h', 'e', 'a', 'd')};
+    static const uint32_t letters[] = {'A', 'e', 0x2698}, tags[] = {PSF_TAG('h', 'e', 'a', 'd'), PSF_TAG('n', 'a', 'm', 'e')};
     static const size_t glyphs[] = {1};
     static const int32_t coordinates[] = {650 * 65536};
     size_t room = 2 * length + 2048, count = 0, place = 0, size = 0;
@@ -162,7 +162,8 @@ static void files(const uint8_t *file, size_t length) {
     if (known(psf_file_flat(file, length, 0, LIMIT, written, room, &count, &refusal)) == PSF_OK)
         holds(psf_file_table(written, count, 0, PSF_TAG('C', 'F', 'F', ' '), &place, &size) == PSF_OK);
     for (uint32_t keeps = 0; keeps < 2; keeps++)
-        if (known(psf_file_subset(file, length, 0, letters, 3, glyphs, 1, tags, 2, 1, keeps, LIMIT, written, room, &count, &refusal)) == PSF_OK)
+        if (known(psf_file_subset(file, length, 0, letters, 3, glyphs, 1, tags, 2 - keeps, 1, keeps, keeps, LIMIT, written, room, &count, &refusal))
+            == PSF_OK)
             holds(psf_file_table(written, count, 0, PSF_TAG('c', 'm', 'a', 'p'), &place, &size) == PSF_OK);
     for (uint32_t rounded = 0; rounded < 2; rounded++)
         if (known(psf_file_instance(file, length, 0, coordinates, 1, rounded, LIMIT, written, room, &count, &refusal)) == PSF_OK)

@@ -338,16 +338,21 @@ int32_t psf_file_flat(const uint8_t *file, size_t length, size_t face, uint64_t 
 /* Writes a whole font file with only some characters and glyphs of a face of file[0..length] to subset[0..room], without
  * subroutines. The characters are characters[0..asked], and those of glyphs[0..named]. The glyphs are .notdef, glyphs[0..named],
  * those of all characters, and the components of seac glyphs. Each is drawn, named and measured as before.
- * The tables with the tags copied[0..tables] are copied, such as 0x6e616d65 for the name table; tags that the face does not have
- * are ignored. There are no other tables besides CFF, cmap, hhea, hmtx, maxp and post, so kerning and ligatures
- * are lost: psf_file_subset_layout keeps them. A variation sequence of a character is kept if its glyph is.
+ * The tables with the tags copied[0..tables] are copied, such as 0x4f532f32 for the OS/2 table; tags that the face does not have
+ * are ignored. There are no other tables besides CFF, cmap, hhea, hmtx, maxp and post, and name if it is asked for, so kerning and
+ * ligatures are lost: psf_file_subset_layout keeps them. A variation sequence of a character is kept if its glyph is.
  * If lenient is 0, a character without a glyph is an error; otherwise it is left out. If keeps is 0, glyphs get new numbers in
  * ascending order; otherwise they keep their numbers, and all others are empty, with the metrics of .notdef.
+ * If names is 1, a face with a name table gives the file a short one: the names 1 to 6, 16, 17, 21, 22 and 25, without those that only
+ * repeat a better one. If names is 2 or more, the table also has the names 0, 7, 13 and 14, about the licence. It is copied if it
+ * is truncated, has more than 1,000 records, or has no space for these names. If names is 0, it is copied if its tag is among
+ * the tags, and otherwise left out. With both, a face with a name table gives PSF_SAME_TAG.
  * The limit is that of psf_font_subset. Outputs and errors are those of psf_file_flat and of psf_font_subset, and PSF_NO_MAP,
  * PSF_NO_ADVANCES, PSF_NO_CHARACTER, PSF_CUT_TABLE and PSF_SAME_TAG. */
 int32_t psf_file_subset(const uint8_t *file, size_t length, size_t face, const uint32_t *characters, size_t asked,
                         const size_t *glyphs, size_t named, const uint32_t *copied, size_t tables, uint32_t lenient,
-                        uint32_t keeps, uint64_t limit, uint8_t *subset, size_t room, size_t *count, psf_refusal *refusal);
+                        uint32_t keeps, uint32_t names, uint64_t limit, uint8_t *subset, size_t room, size_t *count,
+                        psf_refusal *refusal);
 
 /* The same with layout tables: GSUB, GPOS, GDEF, kern, vhea, vmtx and VORG are written for the glyphs of the new file. The
  * substitutions of the features with the tags features[0..tags] are kept, or all substitutions if all is not 0, and also the
@@ -359,8 +364,8 @@ int32_t psf_file_subset(const uint8_t *file, size_t length, size_t face, const u
  * Other errors: those of psf_file_subset; PSF_TOO_LONG also if the search for glyphs exceeds the limit. */
 int32_t psf_file_subset_layout(const uint8_t *file, size_t length, size_t face, const uint32_t *characters, size_t asked,
                                const size_t *glyphs, size_t named, const uint32_t *copied, size_t tables, uint32_t lenient,
-                               uint32_t keeps, uint32_t exact, const uint32_t *features, size_t tags, uint32_t all, uint64_t limit,
-                               uint8_t *subset, size_t room, size_t *count, psf_layout *layout, psf_refusal *refusal);
+                               uint32_t keeps, uint32_t names, uint32_t exact, const uint32_t *features, size_t tags, uint32_t all,
+                               uint64_t limit, uint8_t *subset, size_t room, size_t *count, psf_layout *layout, psf_refusal *refusal);
 
 /* Writes the name of a glyph, without a terminating 0, to name[0..room]. The glyphs of a CID-keyed font have no names.
  * Sets *count to its length on PSF_OK and PSF_NO_ROOM. Other errors: PSF_NO_NAME, and from 1 to 15. */

@@ -577,8 +577,8 @@ static void check_subset_file(const uint8_t *file, size_t length, const uint8_t 
     size_t count = 0, place = 0, size = 0, old_place = 0, old_size = 0, glyph = 9;
     psf_refusal refusal = {77, 77};
     psf_font font;
-    holds(psf_file_subset(file, length, 0, letter, 1, first, 0, copied, 2, 0, 0, LIMIT, written, 20, &count, &refusal) == PSF_NO_ROOM, "no room for a subset");
-    holds(psf_file_subset(file, length, 0, letter, 1, first, 0, copied, 2, 0, 0, LIMIT, written, 1024, &count, &refusal) == PSF_OK, "a subset");
+    holds(psf_file_subset(file, length, 0, letter, 1, first, 0, copied, 2, 0, 0, 0, LIMIT, written, 20, &count, &refusal) == PSF_NO_ROOM, "no room for a subset");
+    holds(psf_file_subset(file, length, 0, letter, 1, first, 0, copied, 2, 0, 0, 0, LIMIT, written, 1024, &count, &refusal) == PSF_OK, "a subset");
     holds(refusal.glyph == 77 && same_table(file, length, written, count, PSF_TAG('n', 'a', 'm', 'e')), "with its names");
     holds(psf_file_table(written, count, 0, PSF_TAG('h', 'e', 'a', 'd'), &place, &size) == PSF_NO_TABLE, "without head");
     holds(same_table(file, length, written, count, PSF_TAG('h', 'm', 't', 'x')), "with its metrics");
@@ -589,53 +589,102 @@ static void check_subset_file(const uint8_t *file, size_t length, const uint8_t 
     holds(psf_file_table(written, count, 0, PSF_TAG('C', 'F', 'F', ' '), &place, &size) == PSF_OK, "the new font");
     holds(psf_font_open(written + place, size, &font) == PSF_OK && font.glyphs == 2, "of two glyphs");
     check_alike(file + old_place, old_size, 1, written + place, size, 1);
-    holds(psf_file_subset(file, length, 0, letter, 0, first, 1, copied, 0, 0, 1, LIMIT, written, 1024, &count, &refusal) == PSF_OK, "a subset of a glyph");
-    holds(psf_file_subset(file, length, 0, other, 2, first, 0, copied, 0, 0, 0, LIMIT, written, 1024, &count, &refusal) == PSF_NO_CHARACTER
+    holds(psf_file_subset(file, length, 0, letter, 0, first, 1, copied, 0, 0, 1, 0, LIMIT, written, 1024, &count, &refusal) == PSF_OK, "a subset of a glyph");
+    holds(psf_file_subset(file, length, 0, other, 2, first, 0, copied, 0, 0, 0, 0, LIMIT, written, 1024, &count, &refusal) == PSF_NO_CHARACTER
           && refusal.glyph == 'B', "no glyph for B");
-    holds(psf_file_subset(file, length, 0, other, 2, first, 0, copied, 0, 1, 0, LIMIT, written, 1024, &count, &refusal) == PSF_OK, "B is left out");
-    holds(psf_file_subset(file, length, 0, letter, 0, first, 0, copied, 0, 0, 0, LIMIT, written, 1024, &count, &refusal) == PSF_NO_GLYPHS, "nothing chosen");
-    holds(psf_file_subset(file, length, 0, letter, 0, past, 1, copied, 0, 0, 0, LIMIT, written, 1024, &count, &refusal) == PSF_NO_GLYPH
+    holds(psf_file_subset(file, length, 0, other, 2, first, 0, copied, 0, 1, 0, 0, LIMIT, written, 1024, &count, &refusal) == PSF_OK, "B is left out");
+    holds(psf_file_subset(file, length, 0, letter, 0, first, 0, copied, 0, 0, 0, 0, LIMIT, written, 1024, &count, &refusal) == PSF_NO_GLYPHS, "nothing chosen");
+    holds(psf_file_subset(file, length, 0, letter, 0, past, 1, copied, 0, 0, 0, 0, LIMIT, written, 1024, &count, &refusal) == PSF_NO_GLYPH
           && refusal.glyph == 9, "no glyph 9");
-    holds(psf_file_subset(file, length, 0, letter, 1, first, 0, twice, 2, 0, 0, LIMIT, written, 1024, &count, &refusal) == PSF_SAME_TAG
+    holds(psf_file_subset(file, length, 0, letter, 1, first, 0, twice, 2, 0, 0, 0, LIMIT, written, 1024, &count, &refusal) == PSF_SAME_TAG
           && refusal.glyph == PSF_TAG('n', 'a', 'm', 'e'), "a table twice");
-    holds(psf_file_subset(file, length, 0, letter, 1, first, 0, copied, 0, 0, 0, 1, written, 1024, &count, &refusal) == PSF_TOO_LONG, "a subset past the limit");
-    holds(psf_file_subset(lacking, 228, 0, letter, 1, first, 0, copied, 0, 0, 0, LIMIT, written, 1024, &count, &refusal) == PSF_NO_TABLE
+    holds(psf_file_subset(file, length, 0, letter, 1, first, 0, copied, 0, 0, 0, 0, 1, written, 1024, &count, &refusal) == PSF_TOO_LONG, "a subset past the limit");
+    holds(psf_file_subset(lacking, 228, 0, letter, 1, first, 0, copied, 0, 0, 0, 0, LIMIT, written, 1024, &count, &refusal) == PSF_NO_TABLE
           && refusal.glyph == PSF_TAG('h', 'h', 'e', 'a'), "a file without hhea");
+}
+
+/* The name table has "Small" for Macintosh, and for Windows the copyright "(c)" (0), the family "Small" (1), the style "Regular" (2), the licence
+ * "MIT" (13), and an axis or feature "Old" (256). The short tables are as fontTools writes them with only these names. */
+static void check_subset_names(const uint8_t *file, size_t length, const uint8_t *lacking) {
+    static const uint8_t read[54] = {0, 0, 0, 2, 0, 30,
+        0, 3, 0, 1, 4, 9, 0, 1, 0, 10, 0, 0,  0, 3, 0, 1, 4, 9, 0, 2, 0, 14, 0, 10,
+        0, 'S', 0, 'm', 0, 'a', 0, 'l', 0, 'l',  0, 'R', 0, 'e', 0, 'g', 0, 'u', 0, 'l', 0, 'a', 0, 'r'};
+    static const uint8_t all[90] = {0, 0, 0, 4, 0, 54,
+        0, 3, 0, 1, 4, 9, 0, 0, 0, 6, 0, 0,  0, 3, 0, 1, 4, 9, 0, 1, 0, 10, 0, 6,
+        0, 3, 0, 1, 4, 9, 0, 2, 0, 14, 0, 16,  0, 3, 0, 1, 4, 9, 0, 13, 0, 6, 0, 30,
+        0, '(', 0, 'c', 0, ')',  0, 'S', 0, 'm', 0, 'a', 0, 'l', 0, 'l',
+        0, 'R', 0, 'e', 0, 'g', 0, 'u', 0, 'l', 0, 'a', 0, 'r',  0, 'M', 0, 'I', 0, 'T'};
+    static const size_t none[] = {0};
+    static const uint32_t letter[] = {'A'}, name = PSF_TAG('n', 'a', 'm', 'e');
+    static uint8_t many[1024];
+    uint8_t written[1024];
+    size_t count = 0, place = 0, size = 0;
+    psf_refusal refusal = {77, 77};
+    psf_layout layout;
+    for (uint32_t names = 1; names <= 4; names++) {
+        const uint8_t *wanted = names == 1 ? read : all;
+        size_t length_wanted = names == 1 ? sizeof read : sizeof all;
+        holds(psf_file_subset(file, length, 0, letter, 1, none, 0, letter, 0, 0, 0, names, LIMIT, written, 1024, &count, &refusal) == PSF_OK, "with names");
+        holds(psf_file_table(written, count, 0, name, &place, &size) == PSF_OK && size == length_wanted && memcmp(written + place, wanted, size) == 0,
+              "the short names");
+        holds(psf_file_subset_layout(file, length, 0, letter, 1, none, 0, letter, 0, 0, names % 2, names, 0, letter, 0, 1, LIMIT, written, 1024, &count, &layout, &refusal)
+              == PSF_OK, "with names and layout");
+        holds(psf_file_table(written, count, 0, name, &place, &size) == PSF_OK && size == length_wanted && memcmp(written + place, wanted, size) == 0,
+              "the short names and layout");
+    }
+    holds(psf_file_subset(file, length, 0, letter, 1, none, 0, letter, 0, 0, 0, 0, LIMIT, written, 1024, &count, &refusal) == PSF_OK
+          && psf_file_table(written, count, 0, name, &place, &size) == PSF_NO_TABLE, "without names");
+    holds(psf_file_subset(file, length, 0, letter, 1, none, 0, &name, 1, 0, 0, 0, LIMIT, written, 1024, &count, &refusal) == PSF_OK
+          && same_table(file, length, written, count, name), "with all names");
+    holds(psf_file_subset(file, length, 0, letter, 1, none, 0, &name, 1, 0, 0, 1, LIMIT, written, 1024, &count, &refusal) == PSF_SAME_TAG
+          && refusal.glyph == name, "names that are copied and shortened");
+    holds(psf_file_subset_layout(file, length, 0, letter, 1, none, 0, &name, 1, 0, 0, 1, 1, letter, 0, 0, LIMIT, written, 1024, &count, &layout, &refusal)
+          == PSF_SAME_TAG && refusal.glyph == name, "the same with layout");
+    /* 1,001 records, of which the table has only a few */
+    memcpy(many, file, length);
+    holds(psf_file_table(file, length, 0, name, &place, &size) == PSF_OK, "the names");
+    many[place + 2] = 1001 / 256;
+    many[place + 3] = 1001 % 256;
+    holds(psf_file_subset(many, length, 0, letter, 1, none, 0, letter, 0, 0, 0, 1, LIMIT, written, 1024, &count, &refusal) == PSF_OK
+          && same_table(many, length, written, count, name), "names that are not shortened");
+    holds(psf_file_subset(lacking, 228, 0, letter, 1, none, 0, &name, 1, 0, 0, 1, LIMIT, written, 1024, &count, &refusal) == PSF_NO_TABLE
+          && refusal.glyph == PSF_TAG('h', 'h', 'e', 'a'), "a file without names");
 }
 
 /* The glyphs are .notdef, a, a.sc and b. smcp substitutes a.sc for a, and kern moves two letters a by -50. */
 static void check_subset_layout(const uint8_t *file, size_t length) {
     static const uint32_t letter[] = {'a'}, features[] = {PSF_TAG('s', 'm', 'c', 'p'), PSF_TAG('k', 'e', 'r', 'n')};
     static const uint32_t gpos = PSF_TAG('G', 'P', 'O', 'S'), gsub = PSF_TAG('G', 'S', 'U', 'B'), cff = PSF_TAG('C', 'F', 'F', ' ');
+    static const size_t none[] = {0};
     uint8_t written[1024];
     size_t count = 0, place = 0, size = 0;
     psf_refusal refusal = {77, 77};
     psf_layout layout = {77, 77, 77, 77};
     psf_font font;
-    holds(psf_file_subset_layout(file, length, 0, letter, 1, 0, 0, 0, 0, 0, 0, 1, features, 2, 0, LIMIT, written, 20, &count, &layout, &refusal)
+    holds(psf_file_subset_layout(file, length, 0, letter, 1, none, 0, letter, 0, 0, 0, 0, 1, features, 2, 0, LIMIT, written, 20, &count, &layout, &refusal)
           == PSF_NO_ROOM && layout.gsub == 1, "no room for a subset with layout");
-    holds(psf_file_subset_layout(file, length, 0, letter, 1, 0, 0, 0, 0, 0, 0, 1, features, 2, 0, LIMIT, written, 1024, &count, &layout, &refusal)
+    holds(psf_file_subset_layout(file, length, 0, letter, 1, none, 0, letter, 0, 0, 0, 0, 1, features, 2, 0, LIMIT, written, 1024, &count, &layout, &refusal)
           == PSF_OK && refusal.glyph == 77, "a subset with layout");
     holds(layout.gsub == 1 && layout.gpos == 1 && layout.gdef == 0 && layout.kern == 0, "its layout tables");
     holds(psf_file_table(written, count, 0, gsub, &place, &size) == PSF_OK && psf_file_table(written, count, 0, gpos, &place, &size) == PSF_OK,
           "with GSUB and GPOS");
     holds(psf_file_table(written, count, 0, cff, &place, &size) == PSF_OK && psf_font_open(written + place, size, &font) == PSF_OK
           && font.glyphs == 3, "with a.sc");
-    holds(psf_file_subset_layout(file, length, 0, letter, 1, 0, 0, 0, 0, 0, 0, 1, features, 0, 0, LIMIT, written, 1024, &count, &layout, &refusal)
+    holds(psf_file_subset_layout(file, length, 0, letter, 1, none, 0, letter, 0, 0, 0, 0, 1, features, 0, 0, LIMIT, written, 1024, &count, &layout, &refusal)
           == PSF_OK && layout.gsub == 1 && layout.gpos == 2, "no features");
     holds(psf_file_table(written, count, 0, gpos, &place, &size) == PSF_NO_TABLE, "without GPOS");
     holds(psf_file_table(written, count, 0, cff, &place, &size) == PSF_OK && psf_font_open(written + place, size, &font) == PSF_OK
           && font.glyphs == 2, "without a.sc");
-    holds(psf_file_subset_layout(file, length, 0, letter, 1, 0, 0, 0, 0, 0, 1, 1, features, 0, 0, LIMIT, written, 1024, &count, &layout, &refusal)
+    holds(psf_file_subset_layout(file, length, 0, letter, 1, none, 0, letter, 0, 0, 1, 0, 1, features, 0, 0, LIMIT, written, 1024, &count, &layout, &refusal)
           == PSF_OK && same_table(file, length, written, count, gpos) && same_table(file, length, written, count, gsub), "numbers that are kept");
-    holds(psf_file_subset_layout(file, length, 0, letter, 1, 0, 0, 0, 0, 0, 0, 1, features, 0, 1, LIMIT, written, 1024, &count, &layout, &refusal)
+    holds(psf_file_subset_layout(file, length, 0, letter, 1, none, 0, letter, 0, 0, 0, 0, 1, features, 0, 1, LIMIT, written, 1024, &count, &layout, &refusal)
           == PSF_OK && layout.gpos == 1, "all features");
-    holds(psf_file_subset_layout(file, length, 0, letter, 1, 0, 0, 0, 0, 0, 0, 0, features, 0, 0, LIMIT, written, 1024, &count, &layout, &refusal)
+    holds(psf_file_subset_layout(file, length, 0, letter, 1, none, 0, letter, 0, 0, 0, 0, 0, features, 0, 0, LIMIT, written, 1024, &count, &layout, &refusal)
           == PSF_OK && psf_file_table(written, count, 0, cff, &place, &size) == PSF_OK && psf_font_open(written + place, size, &font) == PSF_OK
           && font.glyphs == 3, "with the space");
-    holds(psf_file_subset_layout(file, length, 0, letter, 0, 0, 0, 0, 0, 0, 0, 1, features, 2, 0, LIMIT, written, 1024, &count, &layout, &refusal)
+    holds(psf_file_subset_layout(file, length, 0, letter, 0, none, 0, letter, 0, 0, 0, 0, 1, features, 2, 0, LIMIT, written, 1024, &count, &layout, &refusal)
           == PSF_NO_GLYPHS, "nothing chosen");
-    holds(psf_file_subset_layout(file, length, 1, letter, 1, 0, 0, 0, 0, 0, 0, 1, features, 2, 0, LIMIT, written, 1024, &count, &layout, &refusal)
+    holds(psf_file_subset_layout(file, length, 1, letter, 1, none, 0, letter, 0, 0, 0, 0, 1, features, 2, 0, LIMIT, written, 1024, &count, &layout, &refusal)
           == PSF_NO_FACE, "no layout of no face");
 }
 
@@ -758,12 +807,13 @@ int main(int argc, char **argv) {
     length = read_hex(argv[1], file, sizeof file);
     check_flat_file(file, length);
     length = read_hex(argv[4], whole, sizeof whole);
-    holds(length == 412, "the length of the file with metrics");
+    holds(length == 484, "the length of the file with metrics");
     check_subset_file(whole, length, file);
+    check_subset_names(whole, length, file);
     length = read_hex(argv[5], layout, sizeof layout);
     holds(length == 600, "the length of the file with layout tables");
     check_subset_layout(layout, length);
-    check_instance(variable, 752, whole, 412);
+    check_instance(variable, 752, whole, 484);
     check_texts();
     printf("postscript.h: %s\n", failures ? "tests failed" : "all tests passed");
     return failures != 0;

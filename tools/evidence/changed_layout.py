@@ -172,8 +172,8 @@ class Caller:
         characters = (ctypes.c_uint32 * len(case.characters))(*case.characters)
         began = time.process_time()
         status = self.call(
-            file, len(data), 0, characters, len(characters), self.no_glyphs, 0, self.no_tags, 0, 1, int(case.keeps), 1, self.tags, len(self.tags),
-            int(case.every), self.limit, self.room, len(self.room), self.count, self.layout, self.refusal,
+            file, len(data), 0, characters, len(characters), self.no_glyphs, 0, self.no_tags, 0, 1, int(case.keeps), 0, 1, self.tags,
+            len(self.tags), int(case.every), self.limit, self.room, len(self.room), self.count, self.layout, self.refusal,
         )  # fmt: skip
         return status, time.process_time() - began
 

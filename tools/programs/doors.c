@@ -1,8 +1,8 @@
 /* Writes one font file of another by the C library, for tools/evidence/doors.py:
  *
  *     doors flat IN OUT
- *     doors subset IN OUT KEEPS FEATURES TABLES CHARACTERS    1 or 0; tags; tags; characters in hex
- *     doors instance IN OUT ROUNDED PLACE                     1 or 0; TAG=VALUE..
+ *     doors subset IN OUT KEEPS NAMES FEATURES TABLES CHARACTERS    1 or 0; 1 or 2; tags; tags; characters in hex
+ *     doors instance IN OUT ROUNDED PLACE                           1 or 0; TAG=VALUE..
  *
  * Lists have commas. The exit status is 1 if the library returns an error, which is printed. */
 #include <math.h>
@@ -16,7 +16,7 @@ enum { MOST = 1 << 16 };
 
 static uint8_t *file;
 static size_t length, count, asked, tables, tags, named;
-static uint32_t keeps, characters[MOST], copied[MOST], features[MOST];
+static uint32_t keeps, names, characters[MOST], copied[MOST], features[MOST];
 static int32_t coordinates[MOST];
 static const uint64_t limit = 20ull * PSF_LIMIT;
 
@@ -55,8 +55,8 @@ static int32_t written(const char *what, uint8_t *out, size_t room) {
         return psf_file_flat(file, length, 0, limit, out, room, &count, &refusal);
     if (!strcmp(what, "instance"))
         return psf_file_instance(file, length, 0, coordinates, named, keeps, limit, out, room, &count, &refusal);
-    return psf_file_subset_layout(file, length, 0, characters, asked, NULL, 0, copied, tables, 0, keeps, 0, features, tags, 0, limit,
-                                  out, room, &count, &layout, &refusal);
+    return psf_file_subset_layout(file, length, 0, characters, asked, &asked, 0, copied, tables, 0, keeps, names, 0, features, tags, 0,
+                                  limit, out, room, &count, &layout, &refusal);
 }
 
 int main(int words, char **word) {
@@ -68,10 +68,11 @@ int main(int words, char **word) {
     if (!file || fread(file, 1, length, in) != length) return 2;
     if (words > 4) keeps = word[4][0] == '1';
     if (words == 6) placed(word[5]);
-    if (words == 8) {
-        tags = listed(word[5], tag_of, features);
-        tables = listed(word[6], tag_of, copied);
-        asked = listed(word[7], hex_of, characters);
+    if (words == 9) {
+        names = (uint32_t)(word[5][0] - '0');
+        tags = listed(word[6], tag_of, features);
+        tables = listed(word[7], tag_of, copied);
+        asked = listed(word[8], hex_of, characters);
     }
     size_t room = 2 * length + 1024;
     uint8_t *out = malloc(room);

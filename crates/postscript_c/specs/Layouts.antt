@@ -1,11 +1,14 @@
 -- The result of a call that writes a font file with layout tables.
 use Rattle.std.specs.Prelude.{◌≡◌, ◌≢◌, ◌⊎◌, ◌≤◌, ℕ, ℤ, pos, List, true, false, Result, Ok, Err, IfOk, IfErr}
+use Rattle.postscript_c.specs.ShortNames.{AreNames, NeedsNames}
 use Rattle.postscript_c.specs.Texts.{HandsOver, Lent}
 use Rattle.postscript_c.specs.WholeFiles.{IsChoice, whole_code, whole_refusal}
 use Rattle.postscript_c.specs.Written.{refusal}
 use Rattle.postscript_c.specs.declared.layouts.PsfLayout.{PsfLayout}
 use Rattle.postscript_c.specs.declared.written.PsfRefusal.{PsfRefusal}
 use Rattle.postscript_files.specs.declared.choice.Choice.{Choice}
+use Rattle.postscript_files.specs.declared.choice.Given.{Given}
+use Rattle.postscript_files.specs.declared.error.Error.TheVariants.{Memory}
 use Rattle.postscript_layout_write.specs.declared.error.Error.TheVariants as faults
 use Rattle.postscript_subset.specs.Subsets.{IsCutInPlace, IsCutWithLayout, NoCutWithLayout}
 use Rattle.postscript_subset.specs.TextChars.{AreTextChars, NoTextChars}
@@ -73,12 +76,18 @@ pub record IsLaidOutBy (choice : Choice) (tags : List ℕ) (all limit : ℕ) (by
 abbrev pub AreCharsOf : (exact : ℕ) (bytes : List ℕ) (face : ℕ) (chars used : List ℕ) → Type 0
 AreCharsOf exact bytes face chars used = ((exact ≢ 0) × (used ≡ chars)) ⊎ ((exact ≡ 0) × AreTextChars bytes face chars used)
 
--- The file for these characters. There is none if the face is not opened.
-abbrev pub IsLaidOutFile : (chars glyphs copied : List ℕ) (lenient keeps exact : ℕ) (tags : List ℕ) (all limit : ℕ) (bytes : List ℕ) (face : ℕ)
-    (answer : Result Subset Error) → Type 0
-IsLaidOutFile chars glyphs copied lenient keeps exact tags all limit bytes face answer =
-    ((used : List ℕ) × AreCharsOf exact bytes face chars used × ((choice : Choice) × IsChoice used glyphs copied lenient keeps limit choice
-    × IsLaidOutBy choice tags all limit bytes face answer)) ⊎ ((e : Error) × (answer ≡ Err e) × NoTextChars bytes face e)
+-- The file with these characters and glyphs, and with the `name` table that is asked for. There is none if the face is not opened, or if
+-- memory runs out for that table.
+pub data IsLaidOutFile (chars glyphs copied : List ℕ) (lenient keeps names exact : ℕ) (tags : List ℕ) (all limit : ℕ) (bytes : List ℕ)
+    (face : ℕ) (answer : Result Subset Error) : Type 0 where
+  chosen : (used : List ℕ) → AreCharsOf exact bytes face chars used → (given : List Given) → AreNames names bytes face given →
+      (choice : Choice) → IsChoice used glyphs copied given lenient keeps limit choice →
+      IsLaidOutBy choice tags all limit bytes face answer →
+      IsLaidOutFile chars glyphs copied lenient keeps names exact tags all limit bytes face answer
+  no_chars : (e : Error) → answer ≡ Err e → NoTextChars bytes face e →
+      IsLaidOutFile chars glyphs copied lenient keeps names exact tags all limit bytes face answer
+  no_memory : NeedsNames names bytes face → answer ≡ Err (File Memory) →
+      IsLaidOutFile chars glyphs copied lenient keeps names exact tags all limit bytes face answer
 
 -- the result satisfies `IsAnswer`
 abbrev pub TellsLaidOutOf : (status : ℤ) (IsAnswer : Result Subset Error → Type 0) (old new : Lent ℕ) (before layout : PsfLayout)

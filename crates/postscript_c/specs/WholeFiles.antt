@@ -3,6 +3,7 @@ use Rattle.std.specs.Prelude.{◌≡◌, ◌≢◌, ◌⊎◌, ℕ, ℤ, pos, Li
 use Rattle.std.specs.declared.alloc.Global.{Global}
 use Rattle.postscript_c.specs.Files.{file_code}
 use Rattle.postscript_c.specs.Fitting.{FirstFits, TellsFits}
+use Rattle.postscript_c.specs.ShortNames.{AreNames, NeedsNames}
 use Rattle.postscript_c.specs.Texts.{HandsOver, Lent}
 use Rattle.postscript_c.specs.Written.{IsSet, refusal, refusal_of, written_code}
 use Rattle.postscript_c.specs.declared.written.PsfRefusal.{PsfRefusal}
@@ -10,6 +11,7 @@ use Rattle.postscript_files.specs.Faces.{cff_tag}
 use Rattle.postscript_files.specs.Flats.{IsFlatOf, NoFlatOf}
 use Rattle.postscript_files.specs.Subsets.{IsSubsetOf, NoSubsetOf}
 use Rattle.postscript_files.specs.declared.choice.Choice.{Choice}
+use Rattle.postscript_files.specs.declared.choice.Given.{Given}
 use Rattle.postscript_files.specs.declared.error.Error.{Error}
 use Rattle.postscript_files.specs.declared.error.Error.TheVariants.{Cut, File, Font, Memory, MissingCharacter, MissingTable, NoAdvances, NoMap, Overlap, SameTag, TooLarge}
 use Rattle.postscript_sfnt.specs.Lent.{HasNoTable, IsFaceOf, IsTableOf}
@@ -84,21 +86,28 @@ pub record IsFlatFile (bytes : List ℕ) (face : ℕ) (answer : Result (Vec ℕ 
   pub flat : IfOk answer (λ file. IsFlatOf bytes face file.items)
   pub refused : IfErr answer (λ e. NoFlatOf bytes face e)
 
--- the choice of characters and glyphs that a caller makes
-pub record IsChoice (chars glyphs copied : List ℕ) (lenient keeps limit : ℕ) (choice : Choice) : Type 0 where
+-- the choice of characters and glyphs that a caller makes, with the tables that are given
+pub record IsChoice (chars glyphs copied : List ℕ) (given : List Given) (lenient keeps limit : ℕ) (choice : Choice) : Type 0 where
   pub chars_are : choice.chars.now ≡ chars
   pub glyphs_are : choice.glyphs.now ≡ glyphs
   pub none_unmapped : choice.unmapped.now ≡ []
   pub copied_are : choice.copied.now ≡ copied
   pub leaves_out : IsSet lenient choice.lenient
   pub retains : IsSet keeps choice.retain_gids
-  pub none_given : choice.given.now ≡ []
+  pub given_are : choice.given.now ≡ given
   pub within : choice.limit ≡ Some limit
 
--- the file with this choice of characters and glyphs, or why there is none
-pub record IsSubsetFile (chars glyphs copied : List ℕ) (lenient keeps limit : ℕ) (bytes : List ℕ) (face : ℕ)
-    (answer : Result (Vec ℕ Global) Error) : Type 0 where
-  pub choice : Choice
-  pub chosen : IsChoice chars glyphs copied lenient keeps limit choice
+-- the file with a choice of characters and glyphs, or why there is none
+pub record IsSubsetBy (choice : Choice) (bytes : List ℕ) (face : ℕ) (answer : Result (Vec ℕ Global) Error) : Type 0 where
   pub subset : IfOk answer (λ file. IsSubsetOf choice bytes face file.items)
   pub refused : IfErr answer (λ e. NoSubsetOf choice bytes face e)
+
+-- The file with these characters and glyphs, and with the `name` table that is asked for, or why there is none. Memory may run out for that
+-- table.
+pub data IsSubsetFile (chars glyphs copied : List ℕ) (lenient keeps names limit : ℕ) (bytes : List ℕ) (face : ℕ)
+    (answer : Result (Vec ℕ Global) Error) : Type 0 where
+  chosen : (given : List Given) → AreNames names bytes face given → (choice : Choice) →
+      IsChoice chars glyphs copied given lenient keeps limit choice → IsSubsetBy choice bytes face answer →
+      IsSubsetFile chars glyphs copied lenient keeps names limit bytes face answer
+  no_memory : NeedsNames names bytes face → answer ≡ Err Memory →
+      IsSubsetFile chars glyphs copied lenient keeps names limit bytes face answer

@@ -4,6 +4,7 @@ ghost use Rattle.postscript_c.specs.Layouts.{AreCharsOf, IsFeatures, IsLaidOutBy
 ghost use Rattle.postscript_c.specs.Texts.{lent};
 ghost use Rattle.postscript_subset.specs.TextChars.{NoTextChars};
 
+use crate::short_names::given_names;
 use crate::status::{CUT_TABLE, MEMORY, NO_GLYPH, TOO_LARGE, TOO_LONG};
 use crate::texts::hand_over;
 use crate::whole_files::{choice_of, whole_refusal_of, whole_status};
@@ -140,7 +141,7 @@ fn chars_of(alloc: Global, bytes: &[u8], face: usize, chars: &[u32], exact: u32)
     Ok(Vec::from_slice(alloc, chars)?)
 }
 
-/// The same for a choice of characters and glyphs.
+/// The same for characters and glyphs, and with the `name` table that is asked for.
 pub(crate) fn laid_out_of(
     alloc: Global,
     bytes: &[u8],
@@ -150,14 +151,16 @@ pub(crate) fn laid_out_of(
     copied: &[u32],
     lenient: u32,
     keeps: u32,
+    names: u32,
     exact: u32,
     tags: &[u32],
     all: u32,
     limit: u64,
 ) -> Result<Subset>
-    ensures { IsLaidOutFile chars.now glyphs.now copied.now lenient keeps exact tags.now all limit bytes.now face result }
+    ensures { IsLaidOutFile chars.now glyphs.now copied.now lenient keeps names exact tags.now all limit bytes.now face result }
 {
     let used = chars_of(alloc, bytes, face, chars, exact)?;
-    let choice = choice_of(&used, glyphs, copied, lenient, keeps, limit);
+    let given = given_names(alloc, bytes, face, names)?;
+    let choice = choice_of(&used, glyphs, copied, &given, lenient, keeps, limit);
     laid_out(alloc, bytes, face, &choice, tags, all, limit)
 }

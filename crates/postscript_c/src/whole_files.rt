@@ -1,16 +1,17 @@
 //! New font files.
 ghost use Rattle.std.specs.Prelude.{◌≡◌, ◌≢◌, IfOk, pos};
 ghost use Rattle.postscript_c.specs.Texts.{lent};
-ghost use Rattle.postscript_c.specs.WholeFiles.{IsBeyond, IsChoice, IsFlatFile, IsSubsetFile, RunsEnd, TellsFile, whole_code, whole_refusal};
+ghost use Rattle.postscript_c.specs.WholeFiles.{IsBeyond, IsChoice, IsFlatFile, IsSubsetBy, IsSubsetFile, RunsEnd, TellsFile, whole_code, whole_refusal};
 
 use crate::files::file_status;
 use crate::limit::tell_fits_at_once;
+use crate::short_names::given_names;
 use crate::status::{
     CUT_TABLE, MEMORY, NO_ADVANCES, NO_CHARACTER, NO_MAP, NO_TABLE, OVERLAP, SAME_TAG, TOO_LARGE,
 };
 use crate::texts::hand_over;
 use crate::written::{PsfRefusal, refusal_of, refusal_with, written_status};
-use postscript_files::{Choice, Error, Result, flat_file, subset_file};
+use postscript_files::{Choice, Error, Given, Result, flat_file, subset_file};
 use postscript_sfnt::FontFile;
 use std::alloc::Global;
 
@@ -86,16 +87,17 @@ pub(crate) fn flat_of(alloc: Global, bytes: &[u8], face: usize) -> Result<Vec<u8
     flat_file(alloc, bytes, face)
 }
 
-/// The choice of a caller.
+/// The choice of a caller, with the tables that are given.
 pub(crate) fn choice_of<'l>(
     chars: &'l [u32],
     glyphs: &'l [usize],
     copied: &'l [u32],
+    given: &'l [Given],
     lenient: u32,
     keeps: u32,
     limit: u64,
 ) -> Choice<'l>
-    ensures { IsChoice chars.now glyphs.now copied.now lenient keeps limit result }
+    ensures { IsChoice chars.now glyphs.now copied.now given.now lenient keeps limit result }
 {
     Choice {
         chars,
@@ -104,12 +106,19 @@ pub(crate) fn choice_of<'l>(
         lenient: lenient != 0,
         retain_gids: keeps != 0,
         copied,
-        given: &[],
+        given,
         limit: Some(limit),
     }
 }
 
-/// The file of a face with these characters and glyphs.
+/// The file of a choice.
+fn subset_by(alloc: Global, bytes: &[u8], face: usize, choice: &Choice<'_>) -> Result<Vec<u8>>
+    ensures { IsSubsetBy choice.now bytes.now face result }
+{
+    subset_file(alloc, bytes, face, choice)
+}
+
+/// The file of a face with these characters and glyphs, and with the `name` table that is asked for.
 pub(crate) fn subset_of(
     alloc: Global,
     bytes: &[u8],
@@ -119,10 +128,12 @@ pub(crate) fn subset_of(
     copied: &[u32],
     lenient: u32,
     keeps: u32,
+    names: u32,
     limit: u64,
 ) -> Result<Vec<u8>>
-    ensures { IsSubsetFile chars.now glyphs.now copied.now lenient keeps limit bytes.now face result }
+    ensures { IsSubsetFile chars.now glyphs.now copied.now lenient keeps names limit bytes.now face result }
 {
-    let choice = choice_of(chars, glyphs, copied, lenient, keeps, limit);
-    subset_file(alloc, bytes, face, &choice)
+    let given = given_names(alloc, bytes, face, names)?;
+    let choice = choice_of(chars, glyphs, copied, &given, lenient, keeps, limit);
+    subset_by(alloc, bytes, face, &choice)
 }
