@@ -188,13 +188,53 @@ class Small(Case):
 
     def test_files(self):
         font = Font.from_bytes(spelled("whole.hex"))
-        new = Font.from_bytes(font.subset_file("AA", tables=("name", "OS/2")))
+        new = Font.from_bytes(font.subset_file("AA", tables=("head", "OS/2")))
         self.assertEqual((len(new), dict(new.cmap), new[1].segments, new[1].advance), (2, {65: 1}, font[1].segments, font[1].advance))
         kept = Font.from_bytes(font.subset_file(glyphs=[1], keep_numbers=True))
         self.assertEqual((len(kept), kept[1].segments), (2, font[1].segments))
         self.assertEqual(dict(Font.from_bytes(font.subset_file(unicodes=[65, 66], ignore_missing=True)).cmap), {65: 1})
         flat = Font.from_bytes(font.flat_file())
         self.assertEqual((dict(flat.cmap), flat[1].segments), (dict(font.cmap), font[1].segments))
+
+    def test_names(self):
+        # the table has "Small" for Macintosh, and for Windows "(c)" (0), "Small" (1), "Regular" (2), "MIT" (13) and "Old" (256)
+        data = spelled("whole.hex")
+        font = Font.from_bytes(data)
+
+        def table(file):
+            tables = {file[place : place + 4]: file[place + 8 : place + 16] for place in range(12, 12 + 16 * file[5], 16)}
+            place = tables.get(b"name")
+            return place and file[int.from_bytes(place[:4], "big") :][: int.from_bytes(place[4:], "big")]
+
+        # as fontTools writes the table with only these names
+        short = (
+            "00000002001e0003000104090001000a00000003000104090002000e000a"
+            "0053006d0061006c006c0052006500670075006c00610072"
+        )  # fmt: skip
+        licence = (
+            "0000000400360003000104090000000600000003000104090001000a00060003000104090002000e0010000300010409000d0006001e"
+            "0028006300290053006d0061006c006c0052006500670075006c00610072004d00490054"
+        )
+        rows = [
+            ({}, bytes.fromhex(short)),
+            ({"names": "short"}, bytes.fromhex(short)),
+            ({"names": "licence"}, bytes.fromhex(licence)),
+            ({"names": "all"}, table(data)),
+            ({"names": None}, None),
+            ({"names": None, "tables": ("name",)}, table(data)),
+        ]
+        for options, wanted in rows:
+            for more in ({}, {"features": None}, {"keep_numbers": True}):
+                self.assertEqual(table(font.subset_file("A", **options, **more)), wanted, (options, more))
+        self.assertRaises(ValueError, font.subset_file, "A", names="none")
+
+    def test_glyphs_by_name(self):
+        font = Font.from_bytes(spelled("whole.hex"))
+        for glyphs in (["A"], [b"A"], [1], [1, "A"]):
+            self.assertEqual(font.subset_file(glyphs=glyphs), font.subset_file("A"), glyphs)
+        with self.assertRaises(Error) as caught:
+            font.subset_file(glyphs=["A", "tree"])
+        self.assertEqual((caught.exception.status, str(caught.exception)), (Status.NO_GLYPH, "glyph 'tree': no such glyph"))
 
     def test_layout(self):
         # smcp substitutes a.sc for a, kern moves two letters a, and b is also the space
@@ -231,7 +271,7 @@ class Small(Case):
         self.assertEqual(error(lambda: font.subset_file(features=None))[0], Status.NO_GLYPHS)
         self.assertEqual(error(lambda: font.subset_file())[0], Status.NO_GLYPHS)
         text = "table 'name': two tables have the same tag"
-        self.assertEqual(error(lambda: font.subset_file("A", tables=("name", "name"))), (Status.SAME_TAG, None, "name", text))
+        self.assertEqual(error(lambda: font.subset_file("A", tables=("name",))), (Status.SAME_TAG, None, "name", text))
         self.assertEqual(error(lambda: self.font.subset_file("A"))[::2], (Status.NO_TABLE, "hhea"))
         self.assertRaises(ValueError, Font(font.cff).flat_file)
 

@@ -8,11 +8,10 @@ Each WORD is a font file, a folder, or an installed Debian package; of the last 
 with a `CFF2` table, or a package, which is downloaded. COUNT locations and sets of characters are chosen at random from SEED. All four write:
 
 - of a font with a `CFF ` table: the file without subroutines, and a subset for each set of characters. In every second one, glyphs keep
-  their numbers.
+  their numbers. In two of four, the `name` table has the names about the licence.
 - of a font with a `CFF2` table: the static font at each location. In every second one, the points are rounded.
 
-Rust and Python must write the same bytes as C. So must psotf, except in subsets: it shortens the `name` table, and no option of it prevents
-that. So the subsets of psotf and C are compared table by table, without `name`, and without the checksum of the whole file in `head`.
+All four must write the same bytes.
 
 The script prints a line for each font and way: the number of files, and how many differ from those of C. If C returns an error and writes
 no file, the others must write none either; the line also has the number of such files. The exit status is 1 if a file differs, or if no font
@@ -41,7 +40,7 @@ from variable_fonts import files_in
 
 C = TOP / "bindings" / "c"
 #: the tables that psotf copies into a subset, and if glyphs keep their numbers
-SAME, NUMBERED = ["OS/2", "head", "name"], ["BASE", "VORG", "kern", "vhea", "vmtx"]
+SAME, NUMBERED = ["OS/2", "head"], ["BASE", "VORG", "kern", "vhea", "vmtx"]
 MOST = 200
 
 
@@ -87,25 +86,6 @@ def files_by(postscript, programs, path, folder, words, arguments, call):
     return {"C": c, "psotf": by_command(out, PSOTF, *arguments, "-o", out), "Rust": rust, "Python": by_python(postscript, call)}
 
 
-def tables_of(file):
-    """Returns the tables of a file, apart from the `name` table and from the checksum in `head`."""
-    tables = {}
-    for at in range(12, 12 + 16 * int.from_bytes(file[4:6], "big"), 16):
-        offset, length = (int.from_bytes(file[i : i + 4], "big") for i in (at + 8, at + 12))
-        tables[file[at : at + 4]] = file[offset : offset + length]
-    tables.pop(b"name", None)
-    if b"head" in tables:
-        tables[b"head"] = tables[b"head"][:8] + tables[b"head"][12:]
-    return tables
-
-
-def is_same(kind, way, file, wanted):
-    """Returns whether a way wrote the file that C wrote."""
-    if kind == "subset" and way == "psotf" and file and wanted:
-        return tables_of(file) == tables_of(wanted)
-    return file == wanted
-
-
 def characters_of(postscript, path):
     """Returns the characters of a font, apart from surrogates, which are no characters in Rust."""
     try:
@@ -119,13 +99,15 @@ def static_jobs(postscript, path, chance, count):
     yield ["flat"], ["flat", path], lambda: postscript.Font.open(path).flat_file()
     mapped = characters_of(postscript, path)
     for number in range(count if mapped else 0):
-        keeps = number % 2 == 1
+        keeps, licence = number % 2 == 1, number % 4 > 1
         some = sorted(chance.sample(mapped, chance.randint(1, min(len(mapped), MOST))))
         listed, tables = ",".join(f"{char:x}" for char in some), SAME + NUMBERED * keeps
         yield (
-            ["subset", f"{keeps:d}", ",".join(postscript.FEATURES), ",".join(tables), listed],
-            ["subset", path, "--quiet", "--unicodes", listed, *["--retain-gids"] * keeps],
-            lambda: postscript.Font.open(path).subset_file(unicodes=some, keep_numbers=keeps, tables=tables),
+            ["subset", f"{keeps:d}", f"{1 + licence}", ",".join(postscript.FEATURES), ",".join(tables), listed],
+            ["subset", path, "--quiet", "--unicodes", listed, *["--retain-gids"] * keeps, *["--keep-names"] * licence],
+            lambda: postscript.Font.open(path).subset_file(
+                unicodes=some, keep_numbers=keeps, tables=tables, names="licence" if licence else "short"
+            ),
         )
 
 
@@ -152,7 +134,7 @@ def compared(postscript, programs, path, folder, seed, count):
         made = files_by(postscript, programs, path, folder, words, arguments, call)
         files, none = files + 1, none + (made["C"] is None)
         for way in differ:
-            if not is_same(words[0], way, made[way], made["C"]):
+            if made[way] != made["C"]:
                 differ[way] += 1
                 print(f"{path}: {way}: {' '.join(map(str, arguments))}", file=sys.stderr)
     for way, number in differ.items():

@@ -1,6 +1,6 @@
 //! Writes one font file of another by the Rust crate, for tools/evidence/doors.py. The arguments are those of doors.c, apart from the
 //! features, which are the crate's own.
-use postscript::{Font, VariableFont};
+use postscript::{Font, Names, VariableFont};
 use std::error::Error;
 
 /// A tag of four bytes.
@@ -28,11 +28,12 @@ fn written(words: &[&str]) -> Result<Vec<u8>, Box<dyn Error>> {
             let place = VariableFont::from_file(&file, 0)?.at(&place(place_of)?)?;
             Ok(if *rounded == "1" { place.rounded_file()? } else { place.file()? })
         }
-        ["subset", _, _, keeps, _, tables, asked] => {
+        ["subset", _, _, keeps, names, _, tables, asked] => {
             let tables = tables.split(',').map(tag).collect::<Result<Vec<_>, _>>()?;
+            let names = if *names == "1" { Names::Short } else { Names::WithLicence };
             let font = Font::from_file(&file, 0)?;
             let subset = font.subset_file().characters(characters(asked)?).tables(&tables);
-            Ok(subset.keep_numbers(*keeps == "1").write()?)
+            Ok(subset.names(names).keep_numbers(*keeps == "1").write()?)
         }
         _ => Err("wrong arguments".into()),
     }

@@ -273,6 +273,9 @@ LIMIT = 20_000_000
 #: how many times the limit a whole font may cost when it is written
 _GLYPHS = 20
 
+#: the numbers of psf_file_subset for the names of a subset; with "all" the table is copied
+_NAMES = {"short": 1, "licence": 2, "all": 0, None: 0}
+
 
 class _Part(Structure):
     _fields_ = [("local_subroutines", c_uint64), ("default_width", c_int64), ("nominal_width", c_int64)]
@@ -446,11 +449,11 @@ for _name, _arguments in {
     "psf_font_subset": [_bytes, _size, _sizes, _size, c_uint32, c_uint64, _room, _size, _sizes, POINTER(_Refusal)],
     "psf_file_flat": [_bytes, _size, _size, c_uint64, _room, _size, _sizes, POINTER(_Refusal)],
     "psf_file_subset": [
-        _bytes, _size, _size, POINTER(c_uint32), _size, _sizes, _size, POINTER(c_uint32), _size, c_uint32, c_uint32, c_uint64, _room, _size,
-        _sizes, POINTER(_Refusal),
+        _bytes, _size, _size, POINTER(c_uint32), _size, _sizes, _size, POINTER(c_uint32), _size, c_uint32, c_uint32, c_uint32, c_uint64,
+        _room, _size, _sizes, POINTER(_Refusal),
     ],  # fmt: skip
     "psf_file_subset_layout": [
-        _bytes, _size, _size, POINTER(c_uint32), _size, _sizes, _size, POINTER(c_uint32), _size, c_uint32, c_uint32, c_uint32,
+        _bytes, _size, _size, POINTER(c_uint32), _size, _sizes, _size, POINTER(c_uint32), _size, c_uint32, c_uint32, c_uint32, c_uint32,
         POINTER(c_uint32), _size, c_uint32, c_uint64, _room, _size, _sizes, POINTER(_Layout), POINTER(_Refusal),
     ],  # fmt: skip
     "psf_glyph_name": [_bytes, _size, _size, _room, _size, _sizes],
@@ -758,31 +761,42 @@ class Font:
         self,
         text: str = "",
         unicodes: Iterable[int] = (),
-        glyphs: Iterable[int] = (),
+        glyphs: Iterable[Union[int, str, bytes]] = (),
         keep_numbers: bool = False,
         ignore_missing: bool = False,
-        tables: Iterable[str] = ("OS/2", "head", "name"),
+        tables: Iterable[str] = ("OS/2", "head"),
         features: Union[str, Iterable[str], None] = FEATURES,
         exact: bool = False,
+        names: Optional[str] = "short",
     ) -> bytes:
         """Returns a font file with only some characters and glyphs of this face: those of `text` and `unicodes`, and `glyphs` with all
-        their characters. It also has `.notdef` and the components of `seac` glyphs. Each glyph is drawn, named and measured as before.
+        their characters. A glyph is a number or a name; a name means the first glyph with it. The file also has `.notdef` and the
+        components of `seac` glyphs. Each glyph is drawn, named and measured as before.
         The file has the tables that every font needs, copies of `tables`, and layout tables: `GSUB` with the substitutions of
         `features`, a list of tags or "*" for all; `GPOS` with all positions; `GDEF`. With None for `features` there are none.
         The glyphs that these substitutions can make, and the glyphs of variation sequences, are kept too. Unless `exact` is set, so are
         the characters that a shaper may use for text of the given ones. docs/subsets.md says what is left out. A `LayoutWarning` names
         each lost table.
 
-        Glyphs get new numbers in ascending order, unless `keep_numbers` is set. Raises `WriteError`: `Status.NO_CHARACTER` for a
+        The `name` table has the names 1 to 6, 16, 17, 21, 22 and 25, without those that only repeat a better one. With "licence" for
+        `names` it also has 0, 7, 13 and 14: copyright, trademark, licence and licence URL. It is copied if it is truncated, has more
+        than 1,000 names, or has no space for these. With "all" it is copied, and with None there is none, unless "name" is among
+        `tables`.
+
+        Glyphs get new numbers in ascending order, unless `keep_numbers` is set. Raises `Error` with `Status.NO_GLYPH` for a name that
+        no glyph has. Raises `WriteError`: `Status.NO_CHARACTER` for a
         character without a glyph, unless `ignore_missing` is set; `NO_GLYPHS` if nothing is left; `NO_TABLE`,
         `NO_MAP`, `NO_ADVANCES`, `CUT_TABLE` and `SAME_TAG` for the tables; and the errors of `subset`. Raises `ValueError` if the font
-        was not opened from a file."""
+        was not opened from a file, or for other `names`."""
         file, limit = self._whole(), self._limit_of_all
-        asked, numbers = [*map(ord, text), *unicodes], list(glyphs)
-        characters, named, copied = (c_uint32 * len(asked))(*asked), (c_size_t * len(numbers))(*numbers), _tags_of(tables)
+        if names not in _NAMES:
+            raise ValueError(f"names: {names!r} is none of {', '.join(map(repr, _NAMES))}")
+        asked, numbers = [*map(ord, text), *unicodes], [self._number_of(glyph) for glyph in glyphs]
+        copied = _tags_of([*tables, *["name"] * (names == "all")])
+        characters, named = (c_uint32 * len(asked))(*asked), (c_size_t * len(numbers))(*numbers)
         choice = (
             *file.told, self._face, characters, len(asked), named, len(numbers), copied, len(copied), int(ignore_missing),
-            int(keep_numbers),
+            int(keep_numbers), _NAMES[names],
         )  # fmt: skip
         if features is None:
             return _font_of(len(file) + 1024, lambda *lent: _library.psf_file_subset(*choice, limit, *lent))
@@ -804,6 +818,15 @@ class Font:
         glyph = c_size_t()
         _checked(_library.psf_named_glyph(*self._view.told, text, len(text), byref(glyph)))
         return Glyph(self, glyph.value)
+
+    def _number_of(self, glyph: Union[int, str, bytes]) -> int:
+        """Returns the number of a glyph that is given by its number or its name."""
+        if not isinstance(glyph, (str, bytes)):
+            return glyph
+        try:
+            return self.glyph_named(glyph).number
+        except Error as e:
+            raise Error(e.status, f"glyph {glyph!r}: {e}") from None
 
 
 class Glyph:

@@ -44,7 +44,7 @@ pub use error::{Error, Result};
 pub use operation::Operation;
 pub use outline::{Bounds, Glyph, Outline, OutlineSink, Point, Segment};
 pub use variable::{Axis, Instance, Place, VariableFont};
-pub use write::{FEATURES, Layout, LayoutTable, SubsetFile, WriteError};
+pub use write::{FEATURES, Layout, LayoutTable, NameError, Names, SubsetFile, WriteError};
 
 /// Returns the version of the linked library: major, minor and patch number.
 ///
@@ -439,7 +439,7 @@ impl<'a> Font<'a> {
 
     /// Prepares a font file with only some characters and glyphs of this face: see [`SubsetFile`].
     pub fn subset_file(&self) -> SubsetFile<'a> {
-        SubsetFile::of(self.file, self.face, self.limit_of_all())
+        SubsetFile::of(self.file, self.face, self.cff, self.limit_of_all())
     }
 
     /// How many units a whole font may cost.

@@ -21,9 +21,37 @@ use core::fmt;
 pub struct SubsetFile<'f> {
     file: Option<&'f [u8]>,
     face: usize,
+    cff: &'f [u8],
     limit: u64,
     choice: c::Choice,
+    names: Names,
     has_layout: bool,
+}
+
+/// The `name` table of a subset.
+///
+/// ```
+/// # use postscript::Names;
+/// # let bytes = std::fs::read("examples/whole.otf")?;
+/// # let font = postscript::Font::from_file(&bytes, 0)?;
+/// let subset = font.subset_file().text("A");
+/// let [short, with_licence, whole, without] = [Names::Short, Names::WithLicence, Names::Whole, Names::Without]
+///     .map(|names| subset.clone().names(names).write().map(|file| file.len()));
+/// assert!(without? < short? && short? < with_licence? && with_licence? < whole?);
+/// # Ok::<(), Box<dyn std::error::Error>>(())
+/// ```
+#[derive(Clone, Copy, Debug, Default, PartialEq, Eq, Hash)]
+pub enum Names {
+    /// The names 1 to 6, 16, 17, 21, 22 and 25, which systems and browsers read. Those that only repeat a better one are left out.
+    /// The table is copied if it is truncated, has more than 1,000 names, or has no space for these.
+    #[default]
+    Short,
+    /// The same, and the names 0, 7, 13 and 14: copyright, trademark, licence and licence URL.
+    WithLicence,
+    /// A copy of the table.
+    Whole,
+    /// No table, unless [`SubsetFile::tables`] has its tag.
+    Without,
 }
 
 /// The layout features that a subset keeps by default: those that `hb-subset` 6.0.0 keeps.
@@ -102,12 +130,12 @@ fn tag(tag: &[u8; 4]) -> u32 {
 }
 
 impl<'f> SubsetFile<'f> {
-    /// A subset of a face without characters and glyphs, and with copies of `OS/2`, `head` and `name`.
-    pub(crate) fn of(file: Option<&'f [u8]>, face: usize, limit: u64) -> SubsetFile<'f> {
-        let copied = [b"OS/2", b"head", b"name"].map(tag).to_vec();
+    /// A subset of a face without characters and glyphs, with copies of `OS/2` and `head`, and with a short `name` table.
+    pub(crate) fn of(file: Option<&'f [u8]>, face: usize, cff: &'f [u8], limit: u64) -> SubsetFile<'f> {
+        let copied = [b"OS/2", b"head"].map(tag).to_vec();
         let features = FEATURES.iter().map(tag).collect();
         let choice = c::Choice { copied, features, ..Default::default() };
-        SubsetFile { file, face, limit, choice, has_layout: true }
+        SubsetFile { file, face, cff, limit, choice, names: Names::Short, has_layout: true }
     }
 
     /// Adds the characters of a text.
@@ -148,6 +176,34 @@ impl<'f> SubsetFile<'f> {
     pub fn glyphs(mut self, glyphs: impl IntoIterator<Item = usize>) -> Self {
         self.choice.glyphs.extend(glyphs);
         self
+    }
+
+    /// Adds the first glyph with each of these names, with all its characters. The glyphs of a CID-keyed font have no names.
+    ///
+    /// ```
+    /// # let bytes = std::fs::read("examples/whole.otf")?;
+    /// # let font = postscript::Font::from_file(&bytes, 0)?;
+    /// let file = font.subset_file().glyph_names(["A"])?.write()?;
+    /// assert_eq!(postscript::Font::from_file(&file, 0)?.glyph_index('A'), Some(1));
+    /// let error = font.subset_file().glyph_names(["A", "tree"]).unwrap_err();
+    /// assert_eq!(error.to_string(), "glyph \"tree\": no such glyph");
+    /// # Ok::<(), Box<dyn std::error::Error>>(())
+    /// ```
+    ///
+    /// # Errors
+    ///
+    /// [`NameError`] for the first name that no glyph has, or if the charset is malformed.
+    pub fn glyph_names<N: AsRef<[u8]>>(
+        mut self,
+        names: impl IntoIterator<Item = N>,
+    ) -> Result<Self, NameError> {
+        for name in names {
+            let name = name.as_ref();
+            let glyph = c::named_glyph(self.cff, name)
+                .map_err(|error| NameError { error, name: name.to_vec() })?;
+            self.choice.glyphs.push(glyph);
+        }
+        Ok(self)
     }
 
     /// Whether glyphs keep their numbers, with empty glyphs between them. Otherwise they get new numbers in ascending order.
@@ -192,7 +248,8 @@ impl<'f> SubsetFile<'f> {
         self
     }
 
-    /// Sets which tables are copied. The others are `CFF `, `cmap`, `hhea`, `hmtx`, `maxp` and `post`.
+    /// Sets which tables are copied. The default is `OS/2` and `head`. The others are `CFF `, `cmap`, `hhea`, `hmtx`, `maxp` and
+    /// `post`, and `name` as [`SubsetFile::names`] says.
     ///
     /// ```
     /// # let bytes = std::fs::read("examples/whole.otf")?;
@@ -203,6 +260,22 @@ impl<'f> SubsetFile<'f> {
     /// ```
     pub fn tables(mut self, tags: &[[u8; 4]]) -> Self {
         self.choice.copied = tags.iter().map(tag).collect();
+        self
+    }
+
+    /// Sets which `name` table the file has, if the face has one. The default is [`Names::Short`]. If a table is asked for, its tag
+    /// may not be among the copied tables.
+    ///
+    /// ```
+    /// # use postscript::Names;
+    /// # let bytes = std::fs::read("examples/whole.otf")?;
+    /// # let font = postscript::Font::from_file(&bytes, 0)?;
+    /// let short = font.subset_file().text("A").write()?;
+    /// assert!(font.subset_file().text("A").names(Names::Without).write()?.len() < short.len());
+    /// # Ok::<(), Box<dyn std::error::Error>>(())
+    /// ```
+    pub fn names(mut self, names: Names) -> Self {
+        self.names = names;
         self
     }
 
@@ -246,6 +319,18 @@ impl<'f> SubsetFile<'f> {
         self
     }
 
+    /// The choice as the library takes it.
+    fn told(&self) -> c::Choice {
+        let mut choice = self.choice.clone();
+        match self.names {
+            Names::Without => {}
+            Names::Short => choice.names = 1,
+            Names::WithLicence => choice.names = 2,
+            Names::Whole => choice.copied.push(tag(b"name")),
+        }
+        choice
+    }
+
     /// Writes the file. Each glyph is drawn, named and measured as before. A layout table may be lost:
     /// [`SubsetFile::write_with_layout`] also returns what is lost.
     ///
@@ -270,7 +355,7 @@ impl<'f> SubsetFile<'f> {
             return self.write_with_layout().map(|(file, _)| file);
         }
         let file = self.file.unwrap_or_default();
-        c::file_subset(file, self.face, &self.choice, self.limit).map_err(WriteError::of)
+        c::file_subset(file, self.face, &self.told(), self.limit).map_err(WriteError::of)
     }
 
     /// Writes the file with layout tables, and tells what became of them.
@@ -289,7 +374,7 @@ impl<'f> SubsetFile<'f> {
     /// Those of [`SubsetFile::write`].
     pub fn write_with_layout(&self) -> Result<(Vec<u8>, Layout), WriteError> {
         let file = self.file.unwrap_or_default();
-        let (bytes, told) = c::file_subset_layout(file, self.face, &self.choice, self.limit)
+        let (bytes, told) = c::file_subset_layout(file, self.face, &self.told(), self.limit)
             .map_err(WriteError::of)?;
         let [gsub, gpos, gdef, kern] = [told.gsub, told.gpos, told.gdef, told.kern].map(LayoutTable::of);
         Ok((bytes, Layout { gsub, gpos, gdef, kern }))
@@ -356,3 +441,29 @@ impl fmt::Display for WriteError {
 
 #[cfg(feature = "std")]
 impl std::error::Error for WriteError {}
+
+/// The error of a glyph name, from [`SubsetFile::glyph_names`].
+///
+/// ```
+/// # let bytes = std::fs::read("examples/small.otf")?;
+/// # let font = postscript::Font::from_file(&bytes, 0)?;
+/// let error = font.subset_file().glyph_names([b"tree"]).unwrap_err();
+/// assert_eq!((error.error, error.name.as_slice()), (postscript::Error::NoGlyph, b"tree".as_slice()));
+/// # Ok::<(), Box<dyn std::error::Error>>(())
+/// ```
+#[derive(Clone, Debug, PartialEq, Eq, Hash)]
+pub struct NameError {
+    /// The cause: [`Error::NoGlyph`], or the error of a malformed charset.
+    pub error: Error,
+    /// The name.
+    pub name: Vec<u8>,
+}
+
+impl fmt::Display for NameError {
+    fn fmt(&self, f: &mut fmt::Formatter<'_>) -> fmt::Result {
+        write!(f, "glyph {:?}: {}", String::from_utf8_lossy(&self.name), self.error)
+    }
+}
+
+#[cfg(feature = "std")]
+impl std::error::Error for NameError {}

@@ -1,6 +1,6 @@
 //! The font whose bytes `bindings/font.hex` spells: four glyphs, `.notdef`, `space`, `A` and `flower`. The expected values are
 //! the numbers of its char strings and of its dictionary, added up by hand. `bindings/accents.hex` spells one of accented glyphs.
-use postscript::{Bounds, Error, Font, Layout, LayoutTable, Operation, Outline, OutlineSink, Point, Segment, WriteError};
+use postscript::{Bounds, Error, Font, Layout, LayoutTable, NameError, Names, Operation, Outline, OutlineSink, Point, Segment, WriteError};
 
 fn bytes() -> Vec<u8> {
     hex(include_str!("../../font.hex"))
@@ -33,7 +33,7 @@ const _: () = {
     const fn are_shared<T: Send + Sync + 'static>() {}
     are_shared::<Font<'static>>();
     are_shared::<postscript::Outlines<'static>>();
-    are_shared::<(Outline, Segment, Point, Bounds, postscript::Glyph, Operation, Error, WriteError)>();
+    are_shared::<(Outline, Segment, Point, Bounds, postscript::Glyph, Operation, Error, WriteError, NameError, Names)>();
 };
 
 /// An error without details.
@@ -54,7 +54,7 @@ fn whole() -> Vec<u8> {
 fn files_are_written() {
     let bytes = whole();
     let font = Font::from_file(&bytes, 0).unwrap();
-    let file = font.subset_file().text("AA").tables(&[*b"name", *b"OS/2"]).write().unwrap();
+    let file = font.subset_file().text("AA").tables(&[*b"head", *b"OS/2"]).write().unwrap();
     let subset = Font::from_file(&file, 0).unwrap();
     assert_eq!((subset.glyph_count(), subset.glyph_index('A'), subset.glyph_index('B')), (2, Some(1), None));
     assert_eq!(subset.outline(1), font.outline(1));
@@ -64,6 +64,58 @@ fn files_are_written() {
     assert_eq!(Font::from_file(&file, 0).unwrap().glyph_index('A'), Some(1));
     let file = font.flat_file().unwrap();
     assert_eq!(Font::from_file(&file, 0).unwrap().outline(1), font.outline(1));
+}
+
+/// The bytes of the `name` table of a file.
+fn name_table(file: &[u8]) -> Option<&[u8]> {
+    let count = usize::from(file[5]);
+    let records = file[12..12 + 16 * count].chunks(16);
+    let number = |bytes: &[u8]| u32::from_be_bytes(bytes.try_into().unwrap()) as usize;
+    let record = records.into_iter().find(|record| record.starts_with(b"name"))?;
+    Some(&file[number(&record[8..12])..][..number(&record[12..])])
+}
+
+/// The table has "Small" for Macintosh, and for Windows "(c)" (0), "Small" (1), "Regular" (2), "MIT" (13) and "Old" (256). The short tables are as
+/// fontTools writes them with only these names.
+#[test]
+fn names_are_chosen() {
+    let bytes = whole();
+    let font = Font::from_file(&bytes, 0).unwrap();
+    let short = hex(
+        "00000002001e0003000104090001000a00000003000104090002000e000a\
+         0053006d0061006c006c0052006500670075006c00610072",
+    );
+    let licence = hex(
+        "0000000400360003000104090000000600000003000104090001000a00060003000104090002000e0010000300010409000d0006001e\
+         0028006300290053006d0061006c006c0052006500670075006c00610072004d00490054",
+    );
+    let all = name_table(&bytes);
+    let subset = font.subset_file().text("A");
+    assert_eq!(name_table(&subset.write().unwrap()), Some(&short[..]));
+    let rows = [
+        (Names::Short, Some(&short[..])),
+        (Names::WithLicence, Some(&licence[..])),
+        (Names::Whole, all),
+        (Names::Without, None),
+    ];
+    for (names, wanted) in rows {
+        let subset = subset.clone().names(names);
+        assert_eq!(name_table(&subset.write().unwrap()), wanted, "{names:?}");
+        assert_eq!(name_table(&subset.without_layout().write().unwrap()), wanted, "{names:?}");
+    }
+    let copied = subset.names(Names::Without).tables(&[*b"name"]);
+    assert_eq!(name_table(&copied.write().unwrap()), all);
+}
+
+#[test]
+fn glyphs_are_chosen_by_name() {
+    let bytes = whole();
+    let font = Font::from_file(&bytes, 0).unwrap();
+    let file = font.subset_file().glyph_names(["A"]).unwrap().write().unwrap();
+    assert_eq!(file, font.subset_file().glyphs([1]).write().unwrap());
+    let error = font.subset_file().glyph_names(["A", "tree"]).unwrap_err();
+    assert_eq!(error, NameError { error: Error::NoGlyph, name: b"tree".to_vec() });
+    assert_eq!(error.to_string(), "glyph \"tree\": no such glyph");
 }
 
 /// In the file that `bindings/layout.hex` spells, `smcp` substitutes glyph 2 for glyph 1, the letter a, `kern` moves two letters a, and glyph 3 is the letter b and the space.
@@ -100,7 +152,9 @@ fn files_that_are_not_written() {
     let none = WriteError { error: Error::NoGlyphs, ..NO_ERROR };
     assert_eq!(font.subset_file().write(), Err(none));
     let twice = WriteError { error: Error::SameTag, table: Some(*b"name"), ..NO_ERROR };
-    assert_eq!(font.subset_file().text("A").tables(&[*b"name", *b"name"]).write(), Err(twice));
+    assert_eq!(font.subset_file().text("A").tables(&[*b"name"]).write(), Err(twice));
+    let named = font.subset_file().text("A").names(Names::Whole).tables(&[*b"name"]);
+    assert_eq!(named.write(), Err(twice));
     let lacking = Font::from_file(&lacking, 0).unwrap();
     let table = WriteError { error: Error::NoTable, table: Some(*b"hhea"), ..NO_ERROR };
     assert_eq!(lacking.subset_file().text("A").write(), Err(table));
