@@ -220,15 +220,16 @@ typedef struct psf_instance {
     int32_t postscript_name; /* the name ID of its PostScript name, or -1 */
 } psf_instance;
 
-/* What became of the layout tables in psf_file_subset_layout. Each number is 0 if the face has no such table (for GDEF, also no glyph
- * classes), 1 if the new file has it, 2 if none of its features is chosen, and otherwise the reason why it is lost: PSF_TOO_LARGE,
- * PSF_TOO_LONG, or PSF_CUT_TABLE if its script and feature lists are truncated or too long. That for kern is also 0 without pairs of glyphs
- * of the new file, and 2 if keeps is not 0 or if GPOS kerns in each language. */
+/* What became of the layout tables in psf_file_subset_layout. The outcome of a table is 0 if the face has no such table (for GDEF,
+ * also no glyph classes), 1 if the new file has it, 2 if none of its features is chosen, and otherwise the reason why it is lost:
+ * PSF_TOO_LARGE, PSF_TOO_LONG, or PSF_CUT_TABLE if its script and feature lists are truncated or too long. That for kern is also 0
+ * without pairs of glyphs of the new file, and 2 if keeps is not 0 or if GPOS kerns in each language. */
 typedef struct psf_layout {
     int32_t gsub;
     int32_t gpos;
     int32_t gdef;
     int32_t kern;
+    uint64_t left_out; /* the number of chosen lookups that the new GSUB table does not keep */
 } psf_layout;
 
 /* Details of an error of psf_font_flat, psf_font_subset, psf_file_flat, psf_file_subset, psf_file_subset_layout and
@@ -357,8 +358,8 @@ int32_t psf_file_subset(const uint8_t *file, size_t length, size_t face, const u
 /* The same with layout tables: GSUB, GPOS, GDEF, kern, vhea, vmtx and VORG are written for the glyphs of the new file. The
  * substitutions of the features with the tags features[0..tags] are kept, or all substitutions if all is not 0, and also the
  * glyphs that they can make of the others. The variation sequences of the characters are kept, with their glyphs.
- * Positions are kept if kern, mark, mkmk or curs is among the features. If keeps is not 0, all features count,
- * and the tables are copied. If exact is 0, the characters that a shaper may use for text of the given ones are kept too, as far as the
+ * Positions are kept if kern, mark, mkmk or curs is among the features. If keeps is not 0, all features count, GSUB, GPOS and GDEF
+ * are copied, and the others only if their tags are among the tags. If exact is 0, the characters that a shaper may use for text of the given ones are kept too, as far as the
  * face has them, e.g. the parts of composed characters. What is left out: docs/subsets.md.
  * Sets *layout on PSF_OK and PSF_NO_ROOM: a table may be lost. The limit holds for the runs, and once more for the layout tables.
  * Other errors: those of psf_file_subset; PSF_TOO_LONG also if the search for glyphs exceeds the limit. */

@@ -656,16 +656,17 @@ static void check_subset_layout(const uint8_t *file, size_t length) {
     static const uint32_t letter[] = {'a'}, features[] = {PSF_TAG('s', 'm', 'c', 'p'), PSF_TAG('k', 'e', 'r', 'n')};
     static const uint32_t gpos = PSF_TAG('G', 'P', 'O', 'S'), gsub = PSF_TAG('G', 'S', 'U', 'B'), cff = PSF_TAG('C', 'F', 'F', ' ');
     static const size_t none[] = {0};
+    static uint8_t spoiled[1024];
     uint8_t written[1024];
     size_t count = 0, place = 0, size = 0;
     psf_refusal refusal = {77, 77};
-    psf_layout layout = {77, 77, 77, 77};
+    psf_layout layout = {77, 77, 77, 77, 77};
     psf_font font;
     holds(psf_file_subset_layout(file, length, 0, letter, 1, none, 0, letter, 0, 0, 0, 0, 1, features, 2, 0, LIMIT, written, 20, &count, &layout, &refusal)
           == PSF_NO_ROOM && layout.gsub == 1, "no room for a subset with layout");
     holds(psf_file_subset_layout(file, length, 0, letter, 1, none, 0, letter, 0, 0, 0, 0, 1, features, 2, 0, LIMIT, written, 1024, &count, &layout, &refusal)
           == PSF_OK && refusal.glyph == 77, "a subset with layout");
-    holds(layout.gsub == 1 && layout.gpos == 1 && layout.gdef == 0 && layout.kern == 0, "its layout tables");
+    holds(layout.gsub == 1 && layout.gpos == 1 && layout.gdef == 0 && layout.kern == 0 && layout.left_out == 0, "its layout tables");
     holds(psf_file_table(written, count, 0, gsub, &place, &size) == PSF_OK && psf_file_table(written, count, 0, gpos, &place, &size) == PSF_OK,
           "with GSUB and GPOS");
     holds(psf_file_table(written, count, 0, cff, &place, &size) == PSF_OK && psf_font_open(written + place, size, &font) == PSF_OK
@@ -686,6 +687,13 @@ static void check_subset_layout(const uint8_t *file, size_t length) {
           == PSF_NO_GLYPHS, "nothing chosen");
     holds(psf_file_subset_layout(file, length, 1, letter, 1, none, 0, letter, 0, 0, 0, 0, 1, features, 2, 0, LIMIT, written, 1024, &count, &layout, &refusal)
           == PSF_NO_FACE, "no layout of no face");
+    /* the only lookup of GSUB is a context of an unknown format */
+    memcpy(spoiled, file, length);
+    holds(psf_file_table(file, length, 0, gsub, &place, &size) == PSF_OK, "GSUB");
+    spoiled[place + 0x31] = 5;
+    spoiled[place + 0x39] = 9;
+    holds(psf_file_subset_layout(spoiled, length, 0, letter, 1, none, 0, letter, 0, 0, 0, 0, 1, features, 2, 0, LIMIT, written, 1024, &count, &layout, &refusal)
+          == PSF_OK && layout.gsub == 1 && layout.left_out == 1, "a lookup that is dropped");
 }
 
 /* One location of the variable font as a file: its glyphs draw as the variable font does there. */

@@ -257,6 +257,11 @@ class Small(Case):
         spoiled[place + 4 : place + 6] = b"\xff\xff"
         with self.assertWarnsRegex(LayoutWarning, "GSUB is lost: "):
             Font.from_bytes(bytes(spoiled)).subset_file("a")
+        # the only lookup of GSUB is a context of an unknown format
+        spoiled = bytearray(spelled("layout.hex"))
+        spoiled[place + 0x31], spoiled[place + 0x39] = 5, 9
+        with self.assertWarnsRegex(LayoutWarning, "lookups of GSUB that are dropped: 1"):
+            Font.from_bytes(bytes(spoiled)).subset_file("a", features=("smcp",))
 
     def test_files_that_are_not_written(self):
         def error(call):

@@ -230,7 +230,8 @@ class Error(Exception):
 
 
 class LayoutWarning(UserWarning):
-    """A layout table of a subset is lost, since it is too large, or costs more than the limit, or is malformed."""
+    """A layout table of a subset is lost, since it is too large, or costs more than the limit, or is malformed. Or some of its lookups are
+    dropped, since their formats are unknown, or because of their classes or sets of marks."""
 
 
 class WriteError(Error):
@@ -338,7 +339,7 @@ class _Instance(Structure):
 
 
 class _Layout(Structure):
-    _fields_ = [("gsub", c_int32), ("gpos", c_int32), ("gdef", c_int32), ("kern", c_int32)]
+    _fields_ = [("gsub", c_int32), ("gpos", c_int32), ("gdef", c_int32), ("kern", c_int32), ("left_out", c_uint64)]
 
 
 class _Refusal(Structure):
@@ -522,10 +523,12 @@ def _tags_of(tags: Iterable[str]) -> Any:
 
 
 def _tell_lost(layout: _Layout) -> None:
-    """Warns of layout tables that are lost."""
+    """Warns of layout tables and lookups that are lost."""
     for tag, status in (("GSUB", layout.gsub), ("GPOS", layout.gpos), ("GDEF", layout.gdef), ("kern", layout.kern)):
         if status > 2:
             warnings.warn(f"{tag} is lost: {_text_of(status)}", LayoutWarning, stacklevel=3)
+    if layout.left_out:
+        warnings.warn(f"lookups of GSUB that are dropped: {layout.left_out}", LayoutWarning, stacklevel=3)
 
 
 def _rows_of(cmap: _View) -> List[_Character]:
@@ -773,10 +776,11 @@ class Font:
         their characters. A glyph is a number or a name; a name means the first glyph with it. The file also has `.notdef` and the
         components of `seac` glyphs. Each glyph is drawn, named and measured as before.
         The file has the tables that every font needs, copies of `tables`, and layout tables: `GSUB` with the substitutions of
-        `features`, a list of tags or "*" for all; `GPOS` with all positions; `GDEF`. With None for `features` there are none.
+        `features`, a list of tags or "*" for all; `GPOS` with the positions of these; `GDEF`; `kern`; and the tables for vertical text. With
+        None for `features` there are none. With old numbers, `GSUB`, `GPOS` and `GDEF` are copied, and the others if `tables` names them.
         The glyphs that these substitutions can make, and the glyphs of variation sequences, are kept too. Unless `exact` is set, so are
         the characters that a shaper may use for text of the given ones. docs/subsets.md says what is left out. A `LayoutWarning` names
-        each lost table.
+        each lost table, and the number of dropped lookups.
 
         The `name` table has the names 1 to 6, 16, 17, 21, 22 and 25, without those that only repeat a better one. With "licence" for
         `names` it also has 0, 7, 13 and 14: copyright, trademark, licence and licence URL. It is copied if it is truncated, has more

@@ -81,6 +81,7 @@ pub struct Layout {
     pub gpos: i32,
     pub gdef: i32,
     pub kern: i32,
+    pub left_out: u64,
 }
 
 /// `psf_operation`.

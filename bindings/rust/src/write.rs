@@ -122,6 +122,8 @@ pub struct Layout {
     pub gdef: LayoutTable,
     /// The pairs of a `kern` table. They are not chosen if `GPOS` kerns in each language.
     pub kern: LayoutTable,
+    /// The number of chosen lookups that the new `GSUB` table does not keep.
+    pub left_out: u64,
 }
 
 /// The tag of a table as a number.
@@ -377,7 +379,7 @@ impl<'f> SubsetFile<'f> {
         let (bytes, told) = c::file_subset_layout(file, self.face, &self.told(), self.limit)
             .map_err(WriteError::of)?;
         let [gsub, gpos, gdef, kern] = [told.gsub, told.gpos, told.gdef, told.kern].map(LayoutTable::of);
-        Ok((bytes, Layout { gsub, gpos, gdef, kern }))
+        Ok((bytes, Layout { gsub, gpos, gdef, kern, left_out: told.left_out }))
     }
 }
 

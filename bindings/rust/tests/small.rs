@@ -123,7 +123,7 @@ fn glyphs_are_chosen_by_name() {
 fn files_are_written_with_layout() {
     let bytes = hex(include_str!("../../layout.hex"));
     let font = Font::from_file(&bytes, 0).unwrap();
-    let kept = |gpos| Layout { gsub: LayoutTable::Kept, gpos, gdef: LayoutTable::Absent, kern: LayoutTable::Absent };
+    let kept = |gpos| Layout { gsub: LayoutTable::Kept, gpos, gdef: LayoutTable::Absent, kern: LayoutTable::Absent, left_out: 0 };
     let (file, layout) = font.subset_file().text("a").exact(true).write_with_layout().unwrap();
     assert_eq!((Font::from_file(&file, 0).unwrap().glyph_count(), layout), (2, kept(LayoutTable::Kept)));
     let file = font.subset_file().text("a").write().unwrap();
@@ -140,6 +140,12 @@ fn files_are_written_with_layout() {
     spoiled[place + 4..place + 6].fill(255);
     let (_, layout) = Font::from_file(&spoiled, 0).unwrap().subset_file().text("a").write_with_layout().unwrap();
     assert_eq!(layout.gsub, LayoutTable::Lost(Error::CutTable));
+    // The only lookup of GSUB is a context of an unknown format.
+    let mut spoiled = bytes.clone();
+    (spoiled[place + 0x31], spoiled[place + 0x39]) = (5, 9);
+    let font = Font::from_file(&spoiled, 0).unwrap();
+    let (_, layout) = font.subset_file().text("a").features(&[*b"smcp"]).write_with_layout().unwrap();
+    assert_eq!((layout.gsub, layout.left_out), (LayoutTable::Kept, 1));
 }
 
 #[test]

@@ -1,5 +1,5 @@
 -- The result of a call that writes a font file with layout tables.
-use Rattle.std.specs.Prelude.{◌≡◌, ◌≢◌, ◌⊎◌, ◌≤◌, ℕ, ℤ, pos, List, true, false, Result, Ok, Err, IfOk, IfErr}
+use Rattle.std.specs.Prelude.{◌≡◌, ◌≢◌, ◌⊎◌, ◌≤◌, ℕ, ℤ, pos, List, length, true, false, Result, Ok, Err, IfOk, IfErr}
 use Rattle.postscript_c.specs.ShortNames.{AreNames, NeedsNames}
 use Rattle.postscript_c.specs.Texts.{HandsOver, Lent}
 use Rattle.postscript_c.specs.WholeFiles.{IsChoice, whole_code, whole_refusal}
@@ -30,12 +30,14 @@ outcome_code (Lost faults.TooLong) = 46
 outcome_code (Lost faults.TooLarge) = 45
 outcome_code (Lost faults.ListsTooLong) = 73
 
+-- the outcomes, and how many chosen lookups of `GSUB` are not kept
 abbrev pub outcomes_of : Subset → PsfLayout
 outcomes_of subset = record {
   gsub = pos (outcome_code subset.gsub);
   gpos = pos (outcome_code subset.gpos);
   gdef = pos (outcome_code subset.gdef);
   kern = pos (outcome_code subset.kern);
+  left_out = length subset.left_out.items;
 }
 
 -- the status of an error

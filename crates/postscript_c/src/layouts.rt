@@ -14,8 +14,9 @@ use postscript_layout_write::Error as Fault;
 use postscript_subset::{Error, Features, Outcome, Result, Subset, subset_with_layout, text_chars};
 use std::alloc::Global;
 
-/// What became of the layout tables. Each number is 0 if the face has no such table, 1 if the new file has it, and 2 if none
-/// of its features is chosen, or `kern` is not needed. Otherwise the table is lost, and the number is the status of the reason: 45, 46 or 73.
+/// What became of the layout tables. The outcome of a table is 0 if the face has no such table, 1 if the new file has it, and
+/// 2 if none of its features is chosen, or `kern` is not needed. Otherwise the table is lost, and the outcome is the status of
+/// the reason: 45, 46 or 73.
 #[repr(C)]
 #[derive(Clone, Copy)]
 pub struct PsfLayout {
@@ -23,6 +24,8 @@ pub struct PsfLayout {
     pub gpos: i32,
     pub gdef: i32,
     pub kern: i32,
+    /// The number of chosen lookups that the new `GSUB` table does not keep.
+    pub left_out: u64,
 }
 
 /// The number of an outcome.
@@ -49,6 +52,7 @@ fn layout_of(subset: &Subset) -> PsfLayout
         gpos: outcome_status(subset.gpos),
         gdef: outcome_status(subset.gdef),
         kern: outcome_status(subset.kern),
+        left_out: subset.left_out.len() as u64,
     }
 }
 
