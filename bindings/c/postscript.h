@@ -221,9 +221,9 @@ typedef struct psf_instance {
 } psf_instance;
 
 /* What became of the layout tables in psf_file_subset_layout. The outcome of a table is 0 if the face has no such table (for GDEF,
- * also no glyph classes), 1 if the new file has it, 2 if none of its features is chosen, and otherwise the reason why it is lost:
- * PSF_TOO_LARGE, PSF_TOO_LONG, or PSF_CUT_TABLE if its script and feature lists are truncated or too long. That for kern is also 0
- * without pairs of glyphs of the new file, and 2 if keeps is not 0 or if GPOS kerns in each language. */
+ * also no glyph classes), 1 if the new file has it, and 2 if none of its features is chosen. Otherwise the table is lost, and the
+ * outcome is the reason: PSF_TOO_LARGE, PSF_TOO_LONG, or PSF_CUT_TABLE if its script and feature lists are truncated or too long.
+ * That of kern is also 0 without pairs of glyphs of the new file, and 2 if keeps is not 0 or if GPOS kerns in each language. */
 typedef struct psf_layout {
     int32_t gsub;
     int32_t gpos;

@@ -98,7 +98,7 @@ def bases_of(postscript, words, draw):
         yield Base(path, data, characters, tables_in(data))
         some = sorted(draw.sample(characters, min(IN_SUBSET, len(characters))))
         try:
-            subset = postscript.Font(data).subset_file(unicodes=some, features="*", exact=True, ignore_missing=True)
+            subset = postscript.Font.from_bytes(data).subset_file(unicodes=some, features="*", exact=True, ignore_missing=True)
         except postscript.Error:
             continue
         if tables_in(subset):
