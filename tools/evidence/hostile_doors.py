@@ -10,8 +10,7 @@ glyph names, the characters, and a subset of all glyphs. Rust calls the same fun
 
 A second table has the variable fonts of tools/evidence/hostile_variable.py, with tools/programs/hostile_variable_doors.c. Nothing is
 random. The last column of each table is the peak of memory in MB, with the buffers that the programs pass (up to 95 MB for static fonts).
-The exit status is 1 if a call takes more than ten seconds, if a program needs more than 128 MB, or if it ends by a signal. Each program is
-ended after 60 seconds. "all outlines" and "all advances" call a function for each glyph and may take longer; a variable font may be ended
+The exit status is 1 if a call takes more than ten seconds, or if a program ends by a signal. Each program is ended after 60 seconds. "all outlines" and "all advances" call a function for each glyph and may take longer; a variable font may be ended
 there.
 """
 
@@ -34,7 +33,7 @@ C, PYTHON = TOP / "bindings" / "c", TOP / "bindings" / "python"
 DOORS = ["open", "fits", "slowest of a glyph", "all outlines", "all names", "all characters", "flat", "subset", "Python: names", "characters", "subset"]
 VARIABLE = ["axes", "instances", "slowest outline", "slowest advance", "all outlines", "all advances"]
 LOOPS = ("all outlines", "all advances")
-MOST, LONGEST, MEMORY = 10, 60, 128
+MOST, LONGEST = 10, 60
 SCRIPT = """
 import sys, time
 import postscript
@@ -75,7 +74,7 @@ def columns(words):
 
 
 def row(program, name, data, path):
-    """Prints the times and the memory of a font, and returns whether it is too slow or needs too much."""
+    """Prints the times and the memory of a font, and returns whether it is too slow."""
     pathlib.Path(path).write_bytes(data)
     here, ended, held = columns([program, path])
     there, went, kept = columns([sys.executable, "-c", SCRIPT, path])
@@ -83,7 +82,7 @@ def row(program, name, data, path):
     there += ["-"] * (3 - len(there))
     peak = max(held, kept)
     print(f"| {name} | {len(data)} |", " | ".join([*here, *there, str(peak)]), "|", flush=True)
-    return not ended or not went or peak > MEMORY or is_slow(DOORS, [*here, *there])
+    return not ended or not went or is_slow(DOORS, [*here, *there])
 
 
 def is_slow(doors, cells):
@@ -92,14 +91,14 @@ def is_slow(doors, cells):
 
 
 def variable_row(program, name, data, path):
-    """Prints the times and the memory of a variable font, and returns whether it is too slow or needs too much."""
+    """Prints the times and the memory of a variable font, and returns whether it is too slow."""
     pathlib.Path(path).write_bytes(data)
     here, ended, peak = columns([program, path])
     # a program that is ended in a loop has finished each single call
     ended = ended or len(here) >= VARIABLE.index(LOOPS[0])
     here += ["-"] * (len(VARIABLE) - len(here))
     print(f"| {name} | {len(data)} |", " | ".join([*here, str(peak)]), "|", flush=True)
-    return not ended or peak > MEMORY or is_slow(VARIABLE, here)
+    return not ended or is_slow(VARIABLE, here)
 
 
 def table(doors, fonts, of, program, words):
