@@ -6,7 +6,8 @@
 
 PSOTF and PSFONT are the built programs, and LIBRARY_FOLDER contains libpostscript.a and libpostscript.so (bindings/c/build). The default pages are those
 of PAGES. The script works in a new folder with Font.otf, upload.otf and Table.cff (EB Garamond), Variable.otf (Cantarell-VF, from Debian's package
-pango1.0-tests, fetched by apt-get download) and fonts/. It skips and counts commands that install something, or that need `rt` or dist/.
+pango1.0-tests, fetched by apt-get download) and fonts/. It skips and counts commands that install something, or that need `rt`, dist/ or a
+cluster.
 
 The second command is for a system without the repository's libraries and without `rt`, such as the root of tools/dist/dist_test.sh. It also runs
 docs/install.md, and the commands that install something from DIST, a folder that `make dist` wrote. It runs a block of commands as one script, without
@@ -29,7 +30,7 @@ PAGES = ["README.md", "docs/recipes.md", "docs/psotf.md", "docs/psfont.md", "doc
 #: commands that need the repository and `rt`, or that are no commands but messages of a program
 NEEDS_RT = re.compile(r"\brt\b|\bmake |tools/")
 MESSAGE = re.compile(r"^too long|^psotf: ")
-INSTALLS = re.compile(r"dist/|apt-get|pip |cargo |venv")
+INSTALLS = re.compile(r"dist/|apt-get|pip |cargo |venv|tcp://HOST")
 #: the program that the example in Rattle is
 RATTLE = "crates/first_glyph/src/main.rt"
 FONT = "/usr/share/fonts/opentype/ebgaramond/EBGaramond12-Regular.otf"
@@ -95,6 +96,7 @@ class Runner:
 
     def fonts(self, work):
         self.work = work
+        (work / "bindings").symlink_to(TOP / "bindings")
         for name, source in (("Font.otf", FONT), ("upload.otf", FONT)):
             shutil.copy(source, work / name)
         (work / "Table.cff").write_bytes(cff_table(pathlib.Path(FONT).read_bytes()))
