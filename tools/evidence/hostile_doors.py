@@ -10,8 +10,8 @@ glyph names, the characters, and a subset of all glyphs. Rust calls the same fun
 
 A second table has the variable fonts of tools/evidence/hostile_variable.py, with tools/programs/hostile_variable_doors.c. Nothing is
 random. The last column of each table is the peak of memory in MB, with the buffers that the programs pass (up to 95 MB for static fonts).
-The exit status is 1 if a call takes more than ten seconds, or if a program ends by a signal. Each program is ended after 60 seconds. "all outlines" and "all advances" call a function for each glyph and may take longer; a variable font may be ended
-there.
+The exit status is 1 if a call takes more than ten seconds, or if a program ends by a signal. Each program is ended after 60 seconds.
+"all outlines" and "all advances" call a function for each glyph and may take longer; a variable font may be ended there.
 """
 
 import itertools
